@@ -1,0 +1,61 @@
+-- Laws of both framings under one name.
+-- Assumes nothing.
+use Prim.Native.Nat.{ℕ, _+_, _-_, _*_, _/_, _≤_, min}
+use native.Mathlib.Omega.{arith}
+use mathlib.Core.Path.{_≡_, ap, _∙_, subst}
+use mathlib.Core.List.{List}
+use lib.ListN.{length, take, drop, length-take, length-drop}
+use Rattle.frame.specs.Checks.{frame}
+use Rattle.frame.specs.Framing.{checks, read, layout, limit}
+use Rattle.frame.specs.Judged.{payloadAt, payloadEnd, frameLength, decoded}
+use Rattle.frame.specs.declared.framing.Framing.{Framing}
+use Rattle.frame.specs.declared.framing.Framing.the-variants.{Binary, Ascii}
+use Rattle.frame.proofs.Trees.{Within, bounded, Bounded}
+use Rattle.frame.proofs.BinaryLaws.{binary-within, took-binary, length-binary}
+use Rattle.frame.proofs.AsciiLaws.{ascii-within, ascii-one-spelling}
+use Rattle.frame.proofs.AsciiLeaves.{length-decoded, length-ascii-layout}
+
+-- The length of a layout.
+pub length-layout : (f : Framing) (p : List ℕ) → length (layout f p) ≡ frameLength f (length p)
+length-layout Binary p = length-binary p
+length-layout Ascii p = length-ascii-layout p
+
+-- No way through the checks takes more bytes than the limit.
+pub within-limit : (f : Framing) → Within (limit f) (checks f)
+within-limit Binary = binary-within
+within-limit Ascii = ascii-within
+
+-- A frame's length goes by its payload's.
+pub used-is : (f : Framing) (s p : List ℕ) (used : ℕ) → read f s ≡ frame used p → used ≡ frameLength f (length p)
+used-is Binary s p used e = took-binary s p used e .count
+used-is Ascii s p used e = ascii-one-spelling s p used e .count ∙ length-ascii-layout p
+
+-- A frame has no more bytes than there are.
+pub used-there : (f : Framing) (s p : List ℕ) (used : ℕ) → read f s ≡ frame used p → used ≤ length s
+used-there f s p used e = subst (Bounded (limit f) (length s)) e (bounded (limit f) (checks f) s (within-limit f)) .1
+
+-- Nor more than the limit.
+pub used-most : (f : Framing) (s p : List ℕ) (used : ℕ) → read f s ≡ frame used p → used ≤ limit f
+used-most f s p used e = subst (Bounded (limit f) (length s)) e (bounded (limit f) (checks f) s (within-limit f)) .0
+
+-- It uses at least one.
+pub some-used : (f : Framing) (s p : List ℕ) (used : ℕ) → read f s ≡ frame used p → 1 ≤ used
+some-used Binary s p used e = omega (arith, used-is Binary s p used e)
+some-used Ascii s p used e = omega (arith, used-is Ascii s p used e)
+
+-- Where the payload of a frame is named by its place and length, it is there, and that long.
+pub payload-there : (f : Framing) (s : List ℕ) (used len : ℕ) → read f s ≡ frame used (payloadAt f s len) →
+    (payloadEnd f len ≤ length s) × (length (payloadAt f s len) ≡ len)
+payload-there Binary s used len e =
+    let u = used-is Binary s (take len (drop 4 s)) used e in
+    let t = used-there Binary s (take len (drop 4 s)) used e in
+    let l : length (take len (drop 4 s)) ≡ min len (length s - 4) = length-take len (drop 4 s) ∙ ap (min len) (length-drop 4 s) in
+    omega arith
+payload-there Ascii s used len e =
+    let u = used-is Ascii s (decoded (take (2 * len) (drop 1 s))) used e in
+    let t = used-there Ascii s (decoded (take (2 * len) (drop 1 s))) used e in
+    let l : length (decoded (take (2 * len) (drop 1 s))) ≡ min (2 * len) (length s - 1) / 2 =
+    length-decoded (take (2 * len) (drop 1 s))
+    ∙ ap (λ (k : ℕ). k / 2) (length-take (2 * len) (drop 1 s) ∙ ap (min (2 * len)) (length-drop 1 s))
+    in
+    omega arith

@@ -1,0 +1,71 @@
+-- Laws on lists that no library has.
+-- Assumes nothing.
+use Prim.Native.Nat.{ℕ, suc, _+_, _-_, _≤_, _<_}
+use mathlib.Core.Path.{_≡_, refl, sym, ap, _∙_}
+use mathlib.Core.List.{List, [], _∷_, _++_, dropLast}
+use native.Mathlib.Nat.{le-of-lt, zero-add}
+use native.Mathlib.Numerals.{add-one, add-two}
+use native.Mathlib.Omega.{arith}
+use lib.ListN.{length, getD, take, drop, set, length-append, length-drop}
+use lib.Seq.{paste, drop-cons, set-at, append-snoc, take-at, take-all, take-length, drop-append-add, drop-drop, take-suc, length-take-le}
+use Rattle.frame.specs.Checks.{Bytes}
+
+-- A store just behind what is written makes it one longer.
+pub wrote-one : (w d : List ℕ) (a k : ℕ) → length w ≡ k → k < length d → set (w ++ drop k d) k a ≡ (w ++ (a ∷ [])) ++ drop (suc k) d
+wrote-one w d a k e h = rw (drop-cons d k 0, append-snoc, set-at w _ _ a k e)
+
+-- Two stores just behind what is written make it two longer.
+pub wrote-two : (w d : List ℕ) (a b k : ℕ) → length w ≡ k → k + 1 < length d → set (set (w ++ drop k d) k a) (k + 1) b ≡ (w ++ (a ∷ b ∷ [])) ++ drop (k + 2) d
+wrote-two w d a b k e h =
+    rw (wrote-one w d a k e (omega arith), add-one, add-two)
+    (rw (wrote-one (w ++ (a ∷ [])) d b (suc k) (simp length-append (omega arith)) (omega arith), append-snoc w a (b ∷ [])))
+
+-- A copy just behind what is written makes it longer by what is copied.
+pub wrote-many : (w s d : List ℕ) (k : ℕ) → length w ≡ k → k + length s ≤ length d → paste (w ++ drop k d) k s (length s) ≡ (w ++ s) ++ drop (k + length s) d
+wrote-many w s d k e h = rw (take-at w _ k e, take-length, ← e, drop-append-add, drop-drop)
+
+-- What is left of a list begins with the element there.
+pub drop-next : (s : List ℕ) (i : ℕ) → i < length s → drop i s ≡ getD s i 0 ∷ drop (i + 1) s
+drop-next s i h = rw add-one (drop-cons s i 0 h)
+
+-- A store of the next element of s, where d begins with the elements before it.
+pub wrote-next : (s d : List ℕ) (k : ℕ) → k < length s → k < length d → set (take k s ++ drop k d) k (getD s k 0) ≡ take (k + 1) s ++ drop (k + 1) d
+wrote-next s d k h l = rw (add-one, take-suc s k 0 h) (wrote-one (take k s) d (getD s k 0) k (length-take-le k s (le-of-lt h)) l)
+
+-- The parts of a list of bytes are bytes.
+pub bytes-left : (s t : List ℕ) → Bytes (s ++ t) → Bytes s
+bytes-left [] t h = tt
+bytes-left (b ∷ s) t h = (h .0, bytes-left s t (h .1))
+
+pub bytes-right : (s t : List ℕ) → Bytes (s ++ t) → Bytes t
+bytes-right [] t h = h
+bytes-right (b ∷ s) t h = bytes-right s t (h .1)
+
+-- All elements but the last.
+pub drop-last-take : (s : List ℕ) → dropLast s ≡ take (length s - 1) s
+drop-last-take [] = refl
+drop-last-take (a ∷ []) = refl
+drop-last-take (a ∷ b ∷ s) = let one : length (a ∷ b ∷ s) - 1 ≡ suc (length (b ∷ s) - 1) = omega arith in rw (one, drop-last-take (b ∷ s))
+
+-- A list that is not empty is all elements but the last, and the last.
+pub drop-last-snoc : (s : List ℕ) → 1 ≤ length s → s ≡ dropLast s ++ (getD s (length s - 1) 0 ∷ [])
+drop-last-snoc s h =
+    let all : length s ≡ suc (length s - 1) = omega arith in
+    sym (take-length s) ∙ ap (λ (n : ℕ). take n s) all ∙ take-suc s (length s - 1) 0 (omega arith) ∙ rw drop-last-take
+
+-- All elements but a last one that was added.
+pub drop-last-of : (s : List ℕ) (a : ℕ) → dropLast (s ++ (a ∷ [])) ≡ s
+drop-last-of s a = rw drop-last-take (take-at s (a ∷ []) (length (s ++ (a ∷ [])) - 1) (simp length-append (omega arith)))
+
+-- Two lists of bytes in a row are bytes.
+pub bytes-append : (s t : List ℕ) → Bytes s → Bytes t → Bytes (s ++ t)
+bytes-append [] t h k = k
+bytes-append (b ∷ s) t h k = (h .0, bytes-append s t (h .1) k)
+
+-- A part of a list from a place to the end is what is left there.
+pub take-rest : (s : List ℕ) (i : ℕ) → take (length s - i) (drop i s) ≡ drop i s
+take-rest s i = take-all (length s - i) (drop i s) (simp length-drop (omega arith))
+
+-- A copy of a whole list to the front.
+pub paste-front : (d s : List ℕ) → paste d 0 s (length s) ≡ s ++ drop (length s) d
+paste-front d s = rw (take-length, zero-add)

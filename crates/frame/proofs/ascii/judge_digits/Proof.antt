@@ -1,0 +1,114 @@
+-- `frame::ascii::judge_digits` meets its contract: each way out is one of the laws on what stands behind the colon.
+-- Assumes nothing.
+use native.Mathlib.Omega.{arith}
+use mathlib.Core.Logic.{inl, inr}
+use borrow.Author.Needs.{needs}
+use lib.ListN.{drop}
+use Rattle.frame.proofs.AsciiLeaves.{counted}
+use Rattle.frame.proofs.AsciiJudge.{line-many, line-short, Stopped, line-character, line-count, Summed, line-checksum, line-cut}
+use Rattle.frame.proofs.AsciiJudge.{line-footer, line-frame}
+use Rattle.frame.proofs.ascii.judge_digits.Statement.{statement}
+use Rattle.frame.proofs.ascii.judge_digits.Tie as tie
+
+-- A character stands behind the digits.
+stopped : (c : tie.Else2) → let a = c .before .before .before .args in Stopped (a .s .now) (a .count)
+stopped c = search needs
+
+-- The sum of their bytes is made.
+summed : (c : tie.After-pair-sum) →
+    let a = c .before .before .before .before .before .before .before .before .before .args in
+    Summed (a .s .now) (a .count) (c .pair-sum .result)
+summed c = search needs
+
+add-end : tie.Need-add-end
+add-end c = omega (arith, counted 515 (drop 1 (c .before .args .s .now)) .room)
+
+returns : tie.Need-returns
+returns c =
+    let a = c .before .before .args in
+    line-many (a .s .now) (a .count) (c .before .before .pre .1) (c .if1 .taken)
+
+returns-2 : tie.Need-returns-2
+returns-2 c =
+    let a = c .before .before .before .args in
+    line-short (a .s .now) (a .count) (c .before .before .before .pre .1) (omega arith) (c .if2 .taken)
+
+shared-slice-read-if3 : tie.Need-shared-slice-read-if3
+shared-slice-read-if3 c = search needs
+
+returns-3 : tie.Need-returns-3
+returns-3 c = line-character (stopped (c .before .before)) (c .if3 .taken)
+
+returns-4 : tie.Need-returns-4
+returns-4 c = line-count (stopped (c .before .before .before)) (c .before .if3 .left) (inl (c .if4 .taken))
+
+returns-5 : tie.Need-returns-5
+returns-5 c = line-count (stopped (c .before .before .before .before)) (c .before .before .if3 .left) (inr (c .if5 .taken))
+
+sub-pair-sum : tie.Need-sub-pair-sum
+sub-pair-sum c = search needs
+
+part-pair-sum-start : tie.Need-part-pair-sum-start
+part-pair-sum-start c = search needs
+
+part-pair-sum-end : tie.Need-part-pair-sum-end
+part-pair-sum-end c = search needs
+
+pair-sum-requires : tie.Need-pair-sum-requires
+pair-sum-requires c κs = search needs
+
+returns-6 : tie.Need-returns-6
+returns-6 c = line-checksum (summed (c .before)) (c .if6 .taken)
+
+add-if7 : tie.Need-add-if7
+add-if7 c = search needs
+
+returns-7 : tie.Need-returns-7
+returns-7 c = line-cut (summed (c .before .before)) (c .before .if6 .left) (c .if7 .taken)
+
+add-if8 : tie.Need-add-if8
+add-if8 c = search needs
+
+shared-slice-read-if8 : tie.Need-shared-slice-read-if8
+shared-slice-read-if8 c = search needs
+
+returns-8 : tie.Need-returns-8
+returns-8 c =
+    line-footer (summed (c .before .before .before .before)) (c .before .before .before .if6 .left) (c .before .before .if7 .left)
+    (c .if8 .taken)
+
+add-t11 : tie.Need-add-t11
+add-t11 c = search needs
+
+sub-t22 : tie.Need-sub-t22
+sub-t22 c = search needs
+
+returns-9 : tie.Need-returns-9
+returns-9 c =
+    line-frame (summed (c .before .before .before .before)) (c .before .before .before .if6 .left) (c .before .before .if7 .left)
+    (c .if8 .left)
+
+pub judge-digits-spec : {M : Type 1} → statement M
+judge-digits-spec =
+    tie.close
+    (tie.spec
+    add-end
+    returns
+    returns-2
+    shared-slice-read-if3
+    returns-3
+    returns-4
+    returns-5
+    sub-pair-sum
+    part-pair-sum-start
+    part-pair-sum-end
+    pair-sum-requires
+    returns-6
+    add-if7
+    returns-7
+    add-if8
+    shared-slice-read-if8
+    returns-8
+    add-t11
+    sub-t22
+    returns-9)

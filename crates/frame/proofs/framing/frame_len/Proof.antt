@@ -1,0 +1,37 @@
+use borrow.Author.Needs.{needs}
+use Rattle.frame.proofs.framing.frame_len.Statement.{statement}
+use Rattle.frame.proofs.framing.frame_len.Tie as tie
+use Rattle.frame.proofs.framing.frame_len.Reads as reads
+use Rattle.frame.proofs.framing.frame_len.Lts as lts
+
+-- src/framing.rt:56:28
+enum-told : tie.Need-enum-told
+enum-told c = search needs
+
+-- src/framing.rt:56:28
+add-result : tie.Need-add-result
+add-result c = search needs
+
+-- src/framing.rt:57:27
+enum-told-2 : tie.Need-enum-told-2
+enum-told-2 c = search needs
+
+-- src/framing.rt:57:27
+mul-result : tie.Need-mul-result
+mul-result c = search needs
+
+-- src/framing.rt:57:27
+add-result-2 : tie.Need-add-result-2
+add-result-2 c = search needs
+
+-- src/framing.rt:51:1
+returns : tie.Need-returns
+returns c = cc
+
+-- src/framing.rt:51:1
+returns-2 : tie.Need-returns-2
+returns-2 c = cc
+
+pub frame-len-spec : {M : Type 1} → statement M
+frame-len-spec =
+    tie.close (tie.spec enum-told add-result enum-told-2 mul-result add-result-2 returns returns-2)

@@ -1,0 +1,42 @@
+-- Binary framing. Document 01, "Two framings": A5 5A; a 16-bit number, 0x8000 plus the payload length; the payload; the XOR of
+-- its bytes; 04. Numbers are big-endian.
+use Prim.Native.Nat.{ℕ, _+_, _-_, _/_, _%_}
+use mathlib.Core.List.{List, [], _∷_, _++_}
+use mathlib.Core.Bool.{Bool, _&&_}
+use lib.Bits.{bitXor}
+use lib.Dec.{leb}
+use lib.ListN.{length}
+use Rattle.frame.specs.Checks.{Checks, whole, byte, test, word, bytes}
+
+-- The XOR of a and the bytes.
+abbrev pub xorFrom : ℕ → List ℕ → ℕ
+xorFrom a [] = a
+xorFrom a (b ∷ s) = xorFrom (bitXor a b) s
+
+-- The checksum: the XOR of the payload's bytes.
+abbrev pub xorOf : List ℕ → ℕ
+xorOf p = xorFrom 0 p
+
+-- A 16-bit number as two bytes.
+abbrev pub bigEndian : ℕ → List ℕ
+bigEndian n = n / 256 ∷ n % 256 ∷ []
+
+-- The published layout, from payload to frame.
+unfoldable pub binaryLayout : List ℕ → List ℕ
+binaryLayout p = 0xA5 ∷ 0x5A ∷ (bigEndian (0x8000 + length p) ++ (p ++ (xorOf p ∷ 0x04 ∷ [])))
+
+-- The ending of a frame with the payload p: the footer 04 (5).
+unfoldable pub footer : List ℕ → Checks
+footer p = byte 0x04 5 (whole p)
+
+-- The number before the payload is 0x8000 plus a length from 1 to 256.
+abbrev pub lengthWord : ℕ → Bool
+lengthWord w = leb 0x8001 w && leb w 0x8100
+
+-- Behind the length n: the payload, its checksum (4), the ending.
+unfoldable pub body : ℕ → Checks
+body n = bytes n (λ p. byte (xorOf p) 4 (footer p))
+
+-- The checks: each start byte (1); the length once both its bytes are there (3); what stands behind it.
+unfoldable pub binary : Checks
+binary = byte 0xA5 1 (byte 0x5A 1 (word (λ w. test (lengthWord w) 3 (body (w - 0x8000)))))

@@ -1,0 +1,32 @@
+-- The two framings under one name: what document 01 says of both is said once, over the framing.
+use Prim.Native.Nat.{ℕ}
+use mathlib.Core.List.{List, _++_}
+use lib.ListN.{length, drop}
+use Rattle.frame.specs.Checks.{Checks, Verdict, run}
+use Rattle.frame.specs.Binary.{binary, binaryLayout}
+use Rattle.frame.specs.Ascii.{ascii, asciiLayout}
+use Rattle.frame.specs.declared.framing.Framing.{Framing}
+use Rattle.frame.specs.declared.framing.Framing.the-variants.{Binary, Ascii}
+
+-- The checks of a framing.
+abbrev pub checks : Framing → Checks
+checks Binary = binary
+checks Ascii = ascii
+
+-- The layout of a payload in a framing.
+abbrev pub layout : Framing → List ℕ → List ℕ
+layout Binary p = binaryLayout p
+layout Ascii p = asciiLayout p
+
+-- The longest frame.
+abbrev pub limit : Framing → ℕ
+limit Binary = 262
+limit Ascii = 517
+
+-- What stands at the front of s.
+abbrev pub read : Framing → List ℕ → Verdict
+read f s = run (checks f) s
+
+-- The bytes of p in the front of a buffer, the rest of which stays.
+abbrev pub inFront : List ℕ → List ℕ → List ℕ
+inFront p buf = p ++ drop (length p) buf

@@ -1,0 +1,43 @@
+-- What the functions behind the public calls answer. Only their contracts cite these definitions.
+use Prim.Native.Nat.{ℕ, zero, suc, _+_, _*_}
+use mathlib.Core.List.{List, [], _∷_, map}
+use mathlib.Core.Bool.{cond}
+use lib.ListN.{take, drop}
+use Rattle.frame.specs.Checks.{Verdict, cut, refused, frame}
+use Rattle.frame.specs.Ascii.{isDigit, digitValue, pairs}
+use Rattle.frame.specs.Refusal.{numberOf}
+use Rattle.frame.specs.declared.framing.Framing.{Framing}
+use Rattle.frame.specs.declared.framing.Framing.the-variants.{Binary, Ascii}
+use Rattle.frame.specs.declared.framing.Judged.{Judged}
+use Rattle.frame.specs.declared.framing.Judged.the-variants.{Undecided, Failed, Frame}
+
+-- The bytes that the characters of s stand for, two to a byte.
+abbrev pub decoded : List ℕ → List ℕ
+decoded s = pairs (map digitValue s)
+
+-- The payload of n bytes of the frame at the front of s.
+abbrev pub payloadAt : Framing → List ℕ → ℕ → List ℕ
+payloadAt Binary s n = take n (drop 4 s)
+payloadAt Ascii s n = decoded (take (2 * n) (drop 1 s))
+
+-- The place behind that payload.
+abbrev pub payloadEnd : Framing → ℕ → ℕ
+payloadEnd Binary n = 4 + n
+payloadEnd Ascii n = 1 + 2 * n
+
+-- The length of a frame with a payload of n bytes.
+abbrev pub frameLength : Framing → ℕ → ℕ
+frameLength Binary n = n + 6
+frameLength Ascii n = 2 * n + 5
+
+-- The verdict that an answer stands for, where s was judged.
+abbrev pub verdictOf : Framing → List ℕ → Judged → Verdict
+verdictOf f s Undecided = cut
+verdictOf f s (Failed r) = refused (numberOf r)
+verdictOf f s (Frame used len) = frame used (payloadAt f s len)
+
+-- The count of digits at the front of s, up to `most`.
+abbrev pub digitRun : ℕ → List ℕ → ℕ
+digitRun zero s = 0
+digitRun (suc most) [] = 0
+digitRun (suc most) (c ∷ s) = cond (isDigit c) (suc (digitRun most s)) 0

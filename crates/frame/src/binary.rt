@@ -1,0 +1,103 @@
+// Binary framing.
+use crate::copy;
+use crate::framing::Judged;
+use crate::refusal::Refusal;
+ghost use mathlib.Core.Path.{_≡_};
+ghost use Prim.Native.Nat.{_≤_, _<_, _+_};
+ghost use lib.ListN.{length, drop};
+ghost use Rattle.frame.specs.declared.framing.Framing.the-variants.{Binary};
+ghost use Rattle.frame.specs.Binary.{xorOf, body, binaryLayout};
+ghost use Rattle.frame.specs.Checks.{run, behind};
+ghost use Rattle.frame.specs.Framing.{read, inFront};
+ghost use Rattle.frame.specs.Judged.{verdictOf};
+
+// The XOR of all bytes.
+pub(crate) fn xor_of(s: &[u8]) -> u8
+    ensures { λ r. ⌜ r ≡ xorOf (now (s .entry)) ⌝ }
+{
+    let mut sum: u8 = 0;
+    let mut i = 0;
+    while i < s.len() {
+        sum = sum ^ s[i];
+        i += 1;
+    }
+    sum
+}
+
+// A byte as an index.
+fn wide(b: u8) -> usize
+    ensures { λ r. ⌜ (r ≡ b) × (r < 256) ⌝ }
+{
+    b as usize
+}
+
+// Judges what stands behind the length `len`: the payload, its checksum and the footer.
+fn judge_body(s: &[u8], len: usize) -> Judged
+    requires { ⌜ (4 ≤ length (now s)) × (len ≤ 256) ⌝ }
+    ensures { λ r. ⌜ behind 4 (run (body len) (drop 4 (now (s .entry)))) ≡ verdictOf Binary (now (s .entry)) r ⌝ }
+{
+    let n = s.len();
+    let end = 4 + len;
+    if n <= end {
+        return Judged::Undecided;
+    }
+    if xor_of(&s[4..end]) != s[end] {
+        return Judged::Failed(Refusal::Checksum);
+    }
+    if n <= end + 1 {
+        return Judged::Undecided;
+    }
+    if s[end + 1] != 0x04 {
+        return Judged::Failed(Refusal::Footer);
+    }
+    Judged::Frame {
+        used: end + 2,
+        len: len,
+    }
+}
+
+// Judges the front of s: the start bytes, the length, and what stands behind them.
+pub(crate) fn judge(s: &[u8]) -> Judged
+    ensures { λ r. ⌜ read Binary (now (s .entry)) ≡ verdictOf Binary (now (s .entry)) r ⌝ }
+{
+    let n = s.len();
+    if n == 0 {
+        return Judged::Undecided;
+    }
+    if s[0] != 0xA5 {
+        return Judged::Failed(Refusal::Start);
+    }
+    if n == 1 {
+        return Judged::Undecided;
+    }
+    if s[1] != 0x5A {
+        return Judged::Failed(Refusal::Start);
+    }
+    if n < 4 {
+        return Judged::Undecided;
+    }
+    let word = wide(s[2]) * 256 + wide(s[3]);
+    if word < 0x8001 {
+        return Judged::Failed(Refusal::Length);
+    }
+    if 0x8100 < word {
+        return Judged::Failed(Refusal::Length);
+    }
+    judge_body(s, word - 0x8000)
+}
+
+// Writes the frame with the payload p into the front of buf.
+pub(crate) fn pack(p: &[u8], buf: &mut [u8])
+    requires { ⌜ (length (now p) ≤ 256) × (length (now p) + 6 ≤ length (now buf)) ⌝ }
+    ensures { λ _. ⌜ now (buf .exit) ≡ inFront (binaryLayout (now (p .entry))) (now (buf .entry)) ⌝ }
+{
+    let len = p.len();
+    let end = 4 + len;
+    buf[0] = 0xA5;
+    buf[1] = 0x5A;
+    buf[2] = ((0x8000 + len) / 256 % 256) as u8;
+    buf[3] = ((0x8000 + len) % 256) as u8;
+    copy::put(buf, 4, p);
+    buf[end] = xor_of(p);
+    buf[end + 1] = 0x04;
+}

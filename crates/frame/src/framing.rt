@@ -1,0 +1,70 @@
+// The two framings under one name: judging the front of a slice, taking the payload out and writing a frame.
+use crate::ascii;
+use crate::binary;
+use crate::copy;
+use crate::refusal::Refusal;
+ghost use mathlib.Core.Path.{_≡_};
+ghost use Prim.Native.Nat.{_≤_};
+ghost use lib.ListN.{length};
+ghost use Rattle.frame.specs.Checks.{Payload};
+ghost use Rattle.frame.specs.Framing.{read, layout, inFront};
+ghost use Rattle.frame.specs.Judged.{verdictOf, payloadAt, payloadEnd, frameLength};
+
+// How frames are laid out on the line.
+pub enum Framing {
+    // A5 5A, a length, the payload, its XOR and 04.
+    Binary,
+    // A colon, the payload and its checksum in hex digits, CR LF.
+    Ascii,
+}
+
+// What stands at the front of a slice.
+pub(crate) enum Judged {
+    // The bytes end before a decision.
+    Undecided,
+    Failed(Refusal),
+    // A frame of `used` bytes with a payload of `len` bytes.
+    Frame { used: usize, len: usize },
+}
+
+pub(crate) fn judge(framing: Framing, s: &[u8]) -> Judged
+    ensures { λ r. ⌜ read framing (now (s .entry)) ≡ verdictOf framing (now (s .entry)) r ⌝ }
+{
+    match framing {
+        Framing::Binary => binary::judge(s),
+        Framing::Ascii => ascii::judge(s),
+    }
+}
+
+// Puts the payload of `len` bytes of the frame at the front of s into the front of buf.
+pub(crate) fn unpack(framing: Framing, s: &[u8], len: usize, buf: &mut [u8])
+    requires { ⌜ (payloadEnd framing len ≤ length (now s)) × (len ≤ length (now buf)) ⌝ }
+    ensures { λ _. ⌜ now (buf .exit) ≡ inFront (payloadAt framing (now (s .entry)) len) (now (buf .entry)) ⌝ }
+{
+    match framing {
+        Framing::Binary => copy::put(buf, 0, &s[4..4 + len]),
+        Framing::Ascii => ascii::decode(&s[1..1 + 2 * len], buf),
+    }
+}
+
+// The length of a frame with a payload of `len` bytes.
+pub(crate) fn frame_len(framing: Framing, len: usize) -> usize
+    requires { ⌜ len ≤ 256 ⌝ }
+    ensures { λ r. ⌜ r ≡ frameLength framing len ⌝ }
+{
+    match framing {
+        Framing::Binary => len + 6,
+        Framing::Ascii => 2 * len + 5,
+    }
+}
+
+// Writes the frame with this payload into the front of buf.
+pub(crate) fn pack(framing: Framing, payload: &[u8], buf: &mut [u8])
+    requires { ⌜ (length (now payload) ≤ 256) × (frameLength framing (length (now payload)) ≤ length (now buf)) ⌝ }
+    ensures { λ _. ⌜ now (buf .exit) ≡ inFront (layout framing (now (payload .entry))) (now (buf .entry)) ⌝ }
+{
+    match framing {
+        Framing::Binary => binary::pack(payload, buf),
+        Framing::Ascii => ascii::pack(payload, buf),
+    }
+}

@@ -1,0 +1,14 @@
+// Serial frames of App_Uart: payloads of 1 to 256 bytes in binary or ASCII framing.
+mod ascii;
+mod binary;
+mod copy;
+mod framing;
+mod refusal;
+mod single;
+
+pub use framing::Framing;
+pub use refusal::Refusal;
+pub use single::ReadAnswer;
+pub use single::WriteAnswer;
+pub use single::read_frame;
+pub use single::write_frame;

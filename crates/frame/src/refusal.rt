@@ -1,0 +1,40 @@
+// Why a call gives no result.
+ghost use mathlib.Core.Path.{_≡_};
+ghost use Rattle.frame.specs.Refusal.{numberOf};
+
+pub enum Refusal {
+    // 1: no frame starts here.
+    Start,
+    // 2: the bytes end before the frame does.
+    Cut,
+    // 3: a length that no frame has.
+    Length,
+    // 4: the checksum is another one.
+    Checksum,
+    // 5: the frame's end is another one.
+    Footer,
+    // 6: a character that is no digit.
+    Character,
+    // 13: the buffer is too short.
+    Buffer,
+    // 14: the payload to write is empty or longer than 256 bytes.
+    Payload,
+}
+
+impl Refusal {
+    // The refusal's number in document 01.
+    pub fn number(self) -> u8
+        ensures { λ r. ⌜ r ≡ numberOf self ⌝ }
+    {
+        match self {
+            Refusal::Start => 1,
+            Refusal::Cut => 2,
+            Refusal::Length => 3,
+            Refusal::Checksum => 4,
+            Refusal::Footer => 5,
+            Refusal::Character => 6,
+            Refusal::Buffer => 13,
+            Refusal::Payload => 14,
+        }
+    }
+}
