@@ -27,7 +27,7 @@ module _ (room : ℕ) (t : List ℕ → ℕ → Checks) (s : List ℕ) (r : ℕ)
   front = length-take-le r s (h .there)
 
   -- More digits than there is room for.
-  pub counted-many : room < r → run (digits room t) s ≡ refused 3
+  pub counted-many : room < r → run (digits room t) s ≡ refused (suc room) 3
   counted-many l =
       ap (run (digits room t)) (sym (take-append-drop r s))
       ∙ digits-many room t (take r s) (drop r s) (h .digits) (omega (arith, front))
@@ -68,7 +68,7 @@ module _ (s : List ℕ) (count : ℕ) (e : count ≡ digitRun 515 (drop 1 s)) wh
   line-counted = rw e (counted 515 (drop 1 s))
 
   -- More than 514 digits.
-  pub line-many : 514 < count → line s ≡ refused 3
+  pub line-many : 514 < count → line s ≡ refused 516 3
   line-many h = ap (behind 1) (counted-many 514 afterDigits (drop 1 s) count line-counted h)
 
   -- Nothing stands behind the digits.
@@ -103,14 +103,19 @@ module _ {s : List ℕ} {count : ℕ} (h : Stopped s count) where
       ∙ ap₂ (λ (u : Checks) (r : List ℕ). behind (1 + suc count) (run u r)) (ap (afterDigits ds) (getD-drop 1 s count 0) ∙ is)
       (drop-drop (suc count) 1 s ∙ ap (λ (k : ℕ). drop k s) next)
 
+  -- The character behind the digits fails.
+  line-fails : (n : ℕ) → afterDigits (map digitValue (take count (drop 1 s))) (getD s (1 + count) 0) ≡ fails n
+      → line s ≡ refused (1 + count + 1) n
+  line-fails n is = let size : 1 + suc count + 0 ≡ 1 + count + 1 = omega arith in line-passed (fails n) is ∙ ap (λ (k : ℕ). refused k n) size
+
   -- Another character than CR.
-  pub line-character : (getD s (1 + count) 0 ≡ carriageReturn → ⊥) → line s ≡ refused 6
-  line-character f = line-passed (fails 6) (after-character (map digitValue (take count (drop 1 s))) (getD s (1 + count) 0) f)
+  pub line-character : (getD s (1 + count) 0 ≡ carriageReturn → ⊥) → line s ≡ refused (1 + count + 1) 6
+  line-character f = line-fails 6 (after-character (map digitValue (take count (drop 1 s))) (getD s (1 + count) 0) f)
 
   -- Too few digits, or an odd count.
-  pub line-count : getD s (1 + count) 0 ≡ carriageReturn → (count < 4) ⊎ (count % 2 ≡ 0 → ⊥) → line s ≡ refused 3
+  pub line-count : getD s (1 + count) 0 ≡ carriageReturn → (count < 4) ⊎ (count % 2 ≡ 0 → ⊥) → line s ≡ refused (1 + count + 1) 3
   line-count r f =
-      line-passed (fails 3)
+      line-fails 3
       (after-count (map digitValue (take count (drop 1 s))) (getD s (1 + count) 0) r (ap digitCount line-values ∙ no-digit-count count f))
 
 -- CR stands behind an even count of digits, at least four; n is the sum of the bytes that they stand for.
@@ -131,9 +136,9 @@ module _ {s : List ℕ} {count n : ℕ} (h : Summed s count n) where
   line-enough = ap digitCount (line-values (h .stopped)) ∙ is-digit-count count (h .enough) (h .even)
 
   -- A sum that is not 0 modulo 256.
-  pub line-checksum : (n % 256 ≡ 0 → ⊥) → line s ≡ refused 4
+  pub line-checksum : (n % 256 ≡ 0 → ⊥) → line s ≡ refused (1 + count + 1) 4
   line-checksum f =
-      line-passed (h .stopped) (fails 4)
+      line-fails (h .stopped) 4
       (after-sum (map digitValue (take count (drop 1 s))) (getD s (1 + count) 0) (h .return) line-enough (λ z. f (line-sum ∙ z)))
 
   module _ (z : n % 256 ≡ 0) where
@@ -149,9 +154,11 @@ module _ {s : List ℕ} {count n : ℕ} (h : Summed s count n) where
     line-cut l = line-ends ∙ ap (behind (1 + suc count)) (cut-byte lineFeed 5 _ s (1 + count + 1) l)
 
     -- Another character than LF.
-    pub line-footer : 1 + count + 1 < length s → (getD s (1 + count + 1) 0 ≡ lineFeed → ⊥) → line s ≡ refused 5
+    pub line-footer : 1 + count + 1 < length s → (getD s (1 + count + 1) 0 ≡ lineFeed → ⊥) → line s ≡ refused (1 + count + 2) 5
     unfolding lineEnd
-    line-footer l f = line-ends ∙ ap (behind (1 + suc count)) (fail-byte lineFeed 5 _ s (1 + count + 1) l f)
+    line-footer l f =
+        let size : 1 + suc count + 1 ≡ 1 + count + 2 = omega arith in
+        line-ends ∙ ap (behind (1 + suc count)) (fail-byte lineFeed 5 _ s (1 + count + 1) l f) ∙ ap (λ (k : ℕ). refused k 5) size
 
     -- A whole frame.
     pub line-frame : 1 + count + 1 < length s → getD s (1 + count + 1) 0 ≡ lineFeed
@@ -169,7 +176,7 @@ module _ (s : List ℕ) where
   judge-empty h = cut-byte colon 1 (digits 514 afterDigits) s 0 (omega arith)
 
   -- Another character than a colon.
-  pub judge-start : 0 < length s → (getD s 0 0 ≡ colon → ⊥) → run ascii s ≡ refused 1
+  pub judge-start : 0 < length s → (getD s 0 0 ≡ colon → ⊥) → run ascii s ≡ refused 1 1
   unfolding ascii
   judge-start h e = fail-byte colon 1 (digits 514 afterDigits) s 0 h e
 

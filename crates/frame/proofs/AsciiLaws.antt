@@ -79,12 +79,13 @@ digits-cut (suc room) t (a ∷ ds) d h =
 
 -- One digit more than there is room for is refusal 3.
 pub digits-many : (room : ℕ) (t : List ℕ → ℕ → Checks) (ds s : List ℕ) → Digits ds → room < length ds
-    → run (digits room t) (ds ++ s) ≡ refused 3
+    → run (digits room t) (ds ++ s) ≡ refused (suc room) 3
 unfolding digits
 digits-many room t [] s d h = absurd (not-suc-le-zero h)
 digits-many zero t (a ∷ ds) s d h = rw (d .0)
 digits-many (suc room) t (a ∷ ds) s d h =
-    rw (d .0) (ap (behind 1) (digits-many room (λ es x. t (digitValue a ∷ es) x) ds s (d .1) (le-of-suc-le-suc h)))
+    rw (d .0) (ap (behind 1) (digits-many room (λ es x. t (digitValue a ∷ es) x) ds s (d .1) (le-of-suc-le-suc h))
+    ∙ ap (λ (k : ℕ). refused k 3) (one-add (suc room)))
 
 -- What is left of the checks behind digits of the values ds, at the character c.
 module _ (ds : List ℕ) (c : ℕ) where
@@ -156,7 +157,7 @@ took-digits zero t s p used e =
     last (isDigit (h .0)) (h .0) (h .1)
   where
     last : (q : Bool) (c : ℕ) → Behind (cond q (fails 3) (t [] c)) (c ∷ []) s used p → TookDigits 0 t s used p
-    last true c k = absurd (refused≢frame 3 (k .left) p (k .goes))
+    last true c k = absurd (refused≢frame 0 3 (k .left) p (k .goes))
     last false c k = ([], c, tt, zero-le, k)
 took-digits (suc room) t s p used e =
     let h = took-next (λ c. cond (isDigit c) (digits room (λ ds x. t (digitValue c ∷ ds) x)) (t [] c)) s p used e in

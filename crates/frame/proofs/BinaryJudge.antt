@@ -1,6 +1,7 @@
 -- The checks of binary framing at each way out of `binary::judge` and `binary::judge_body`.
 -- Assumes nothing.
 use Prim.Native.Nat.{ℕ, suc, _+_, _-_, _*_, _≤_, _<_}
+use native.Mathlib.Nat.{add-assoc}
 use native.Mathlib.Numerals.{add-one}
 use native.Mathlib.Omega.{arith}
 use mathlib.Core.Logic.{_⊎_, inl, inr, ⊎-elim}
@@ -26,45 +27,57 @@ module _ (s : List ℕ) (n : ℕ) where
       pass-bytes n (λ p. byte (xorOf p) 4 (footer p)) (drop 4 s) (simp length-drop (omega arith))
       ∙ ap (λ (r : List ℕ). behind n (run (byte (xorOf (take n (drop 4 s))) 4 (footer (take n (drop 4 s)))) r)) (drop-drop n 4 s)
 
-  pub body-short : 4 ≤ length s → length s ≤ 4 + n → run (body n) (drop 4 s) ≡ cut
+  -- What stands behind the header and the length.
+  abbrev behindLength : Verdict
+  behindLength = behind 4 (run (body n) (drop 4 s))
+
+  pub body-short : 4 ≤ length s → length s ≤ 4 + n → behindLength ≡ cut
   unfolding body
   body-short m h =
       ⊎-elim
-      (λ (l : 4 + n ≤ length s). body-run l ∙ ap (behind n) (cut-byte (xorOf (take n (drop 4 s))) 4 (footer (take n (drop 4 s))) s (4 + n) h))
-      (λ (l : length s < 4 + n). cut-bytes n (λ p. byte (xorOf p) 4 (footer p)) (drop 4 s) (simp length-drop (omega arith)))
+      (λ (l : 4 + n ≤ length s).
+      ap (behind 4)
+      (body-run l ∙ ap (behind n) (cut-byte (xorOf (take n (drop 4 s))) 4 (footer (take n (drop 4 s))) s (4 + n) h)))
+      (λ (l : length s < 4 + n). ap (behind 4) (cut-bytes n (λ p. byte (xorOf p) 4 (footer p)) (drop 4 s) (simp length-drop (omega arith))))
       (le-or-lt (4 + n) (length s))
 
-  pub body-checksum : 4 + n < length s → (getD s (4 + n) 0 ≡ xorOf (take n (drop 4 s)) → ⊥) → run (body n) (drop 4 s) ≡ refused 4
+  pub body-checksum : 4 + n < length s → (getD s (4 + n) 0 ≡ xorOf (take n (drop 4 s)) → ⊥) → behindLength ≡ refused (4 + n + 1) 4
   body-checksum h e =
-      body-run (omega arith) ∙ ap (behind n) (fail-byte (xorOf (take n (drop 4 s))) 4 (footer (take n (drop 4 s))) s (4 + n) h e)
+      ap (behind 4)
+      (body-run (omega arith) ∙ ap (behind n) (fail-byte (xorOf (take n (drop 4 s))) 4 (footer (take n (drop 4 s))) s (4 + n) h e))
+      ∙ ap (λ (k : ℕ). refused k 4) (sym (add-assoc 4 n 1))
 
   module _ (h : 4 + n < length s) (e : getD s (4 + n) 0 ≡ xorOf (take n (drop 4 s))) where
-    body-passed : run (body n) (drop 4 s) ≡ behind n (behind 1 (run (footer (take n (drop 4 s))) (drop (suc (4 + n)) s)))
+    body-passed : behindLength ≡ behind 4 (behind n (behind 1 (run (footer (take n (drop 4 s))) (drop (suc (4 + n)) s))))
     body-passed =
-        body-run (omega arith) ∙ ap (behind n) (pass-byte (xorOf (take n (drop 4 s))) 4 (footer (take n (drop 4 s))) s (4 + n) h e)
+        ap (behind 4)
+        (body-run (omega arith) ∙ ap (behind n) (pass-byte (xorOf (take n (drop 4 s))) 4 (footer (take n (drop 4 s))) s (4 + n) h e))
 
     next-byte : getD s (4 + n + 1) 0 ≡ getD s (suc (4 + n)) 0
     next-byte = ap (λ (k : ℕ). getD s k 0) (add-one (4 + n))
 
-    pub body-no-footer : length s ≤ 4 + n + 1 → run (body n) (drop 4 s) ≡ cut
+    pub body-no-footer : length s ≤ 4 + n + 1 → behindLength ≡ cut
     unfolding footer
     body-no-footer l =
         body-passed
-        ∙ ap (λ (v : Verdict). behind n (behind 1 v)) (cut-byte 0x04 5 (whole (take n (drop 4 s))) s (suc (4 + n)) (omega arith))
+        ∙ ap (λ (v : Verdict). behind 4 (behind n (behind 1 v)))
+        (cut-byte 0x04 5 (whole (take n (drop 4 s))) s (suc (4 + n)) (omega arith))
 
-    pub body-footer : 4 + n + 1 < length s → (getD s (4 + n + 1) 0 ≡ 0x04 → ⊥) → run (body n) (drop 4 s) ≡ refused 5
+    pub body-footer : 4 + n + 1 < length s → (getD s (4 + n + 1) 0 ≡ 0x04 → ⊥) → behindLength ≡ refused (4 + n + 2) 5
     unfolding footer
     body-footer l f =
         body-passed
-        ∙ ap (λ (v : Verdict). behind n (behind 1 v))
+        ∙ ap (λ (v : Verdict). behind 4 (behind n (behind 1 v)))
         (fail-byte 0x04 5 (whole (take n (drop 4 s))) s (suc (4 + n)) (omega arith) (λ g. f (next-byte ∙ g)))
+        ∙ ap (λ (k : ℕ). refused k 5) (sym (add-assoc 4 n 2))
 
-    pub body-frame : 4 + n + 1 < length s → getD s (4 + n + 1) 0 ≡ 0x04 → run (body n) (drop 4 s) ≡ frame (n + 2) (take n (drop 4 s))
+    pub body-frame : 4 + n + 1 < length s → getD s (4 + n + 1) 0 ≡ 0x04 → behindLength ≡ frame (4 + n + 2) (take n (drop 4 s))
     unfolding footer
     body-frame l f =
         body-passed
-        ∙ ap (λ (v : Verdict). behind n (behind 1 v))
+        ∙ ap (λ (v : Verdict). behind 4 (behind n (behind 1 v)))
         (pass-byte 0x04 5 (whole (take n (drop 4 s))) s (suc (4 + n)) (omega arith) (sym next-byte ∙ f))
+        ∙ ap (λ (k : ℕ). frame k (take n (drop 4 s))) (sym (add-assoc 4 n 2))
 
 -- A word outside 0x8001 to 0x8100 is no length.
 no-length-word : (w : ℕ) → (w < 0x8001) ⊎ (0x8100 < w) → lengthWord w ≡ false
@@ -81,7 +94,7 @@ module _ (s : List ℕ) where
   unfolding binary
   judge-empty h = cut-byte 0xA5 1 afterFirst s 0 (omega arith)
 
-  pub judge-first : 0 < length s → (getD s 0 0 ≡ 0xA5 → ⊥) → run binary s ≡ refused 1
+  pub judge-first : 0 < length s → (getD s 0 0 ≡ 0xA5 → ⊥) → run binary s ≡ refused 1 1
   unfolding binary
   judge-first h e = fail-byte 0xA5 1 afterFirst s 0 h e
 
@@ -93,7 +106,7 @@ module _ (s : List ℕ) where
     pub judge-one : length s ≡ 1 → run binary s ≡ cut
     judge-one h = first-passed (omega arith) ∙ ap (behind 1) (cut-byte 0x5A 1 afterSecond s 1 (omega arith))
 
-    pub judge-second : 1 < length s → (getD s 1 0 ≡ 0x5A → ⊥) → run binary s ≡ refused 1
+    pub judge-second : 1 < length s → (getD s 1 0 ≡ 0x5A → ⊥) → run binary s ≡ refused 2 1
     judge-second h e = first-passed (omega arith) ∙ ap (behind 1) (fail-byte 0x5A 1 afterSecond s 1 h e)
 
     module _ (b : getD s 1 0 ≡ 0x5A) where
@@ -111,7 +124,7 @@ module _ (s : List ℕ) where
           ∙ behind-behind 2 2 (run (afterWord (getD s 2 0 * 256 + getD s 3 0)) (drop 4 s))
 
       module _ (w : ℕ) (is : w ≡ getD s 2 0 * 256 + getD s 3 0) (h : 4 ≤ length s) where
-        pub judge-length : (w < 0x8001) ⊎ (0x8100 < w) → run binary s ≡ refused 3
+        pub judge-length : (w < 0x8001) ⊎ (0x8100 < w) → run binary s ≡ refused 4 3
         judge-length l =
             word-passed h
             ∙ ap (λ (k : ℕ). behind 4 (run (afterWord k) (drop 4 s))) (sym is)

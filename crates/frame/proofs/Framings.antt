@@ -4,9 +4,11 @@ use Prim.Native.Nat.{ℕ, _+_, _-_, _*_, _/_, _≤_, min}
 use native.Mathlib.Omega.{arith}
 use mathlib.Core.Path.{_≡_, ap, _∙_, subst}
 use mathlib.Core.List.{List}
+use lib.Dec.{lit≤}
 use lib.ListN.{length, take, drop, length-take, length-drop}
 use Rattle.frame.specs.Checks.{frame}
 use Rattle.frame.specs.Framing.{checks, read, layout, limit}
+use Rattle.frame.specs.Claims.{UndecidedIsShort, FrameIsSized}
 use Rattle.frame.specs.Judged.{payloadAt, payloadEnd, frameLength, decoded}
 use Rattle.frame.specs.declared.framing.Framing.{Framing}
 use Rattle.frame.specs.declared.framing.Framing.the-variants.{Binary, Ascii}
@@ -43,6 +45,22 @@ pub some-used : (f : Framing) (s p : List ℕ) (used : ℕ) → read f s ≡ fra
 some-used Binary s p used e = omega (arith, used-is Binary s p used e)
 some-used Ascii s p used e = omega (arith, used-is Ascii s p used e)
 
+-- Undecided bytes are fewer than the limit.
+pub undecided-short : (f : Framing) → UndecidedIsShort f
+undecided-short f s e = subst (Bounded (limit f) (length s)) e (bounded (limit f) (checks f) s (within-limit f))
+
+-- A frame uses at least one byte, at most the limit, and no more than there are.
+pub frame-sized : (f : Framing) → FrameIsSized f
+frame-sized f s p used e = record { some = some-used f s p used e; most = used-most f s p used e; there = used-there f s p used e }
+
+-- A payload has 1 to 256 bytes.
+abbrev pub PayloadSize : List ℕ → Type 0
+PayloadSize p = (1 ≤ length p) × (length p ≤ 256)
+
+pub payload-size : (f : Framing) (s p : List ℕ) (used : ℕ) → read f s ≡ frame used p → PayloadSize p
+payload-size Binary s p used e = let h = took-binary s p used e in (h .some, h .most)
+payload-size Ascii s p used e = let h = ascii-one-spelling s p used e .payload in (h .some, h .most)
+
 -- Where the payload of a frame is named by its place and length, it is there, and that long.
 pub payload-there : (f : Framing) (s : List ℕ) (used len : ℕ) → read f s ≡ frame used (payloadAt f s len) →
     (payloadEnd f len ≤ length s) × (length (payloadAt f s len) ≡ len)
@@ -59,3 +77,8 @@ payload-there Ascii s used len e =
     ∙ ap (λ (k : ℕ). k / 2) (length-take (2 * len) (drop 1 s) ∙ ap (min (2 * len)) (length-drop 1 s))
     in
     omega arith
+
+-- A state's array has room for the longest frame.
+pub limit-most : (f : Framing) → limit f ≤ 517
+limit-most Binary = lit≤ tt
+limit-most Ascii = lit≤ tt

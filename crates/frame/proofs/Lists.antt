@@ -1,13 +1,13 @@
 -- Laws on lists that no library has.
 -- Assumes nothing.
-use Prim.Native.Nat.{ℕ, suc, _+_, _-_, _≤_, _<_}
+use Prim.Native.Nat.{ℕ, zero, suc, _+_, _-_, _≤_, _<_, min}
 use mathlib.Core.Path.{_≡_, refl, sym, ap, _∙_}
 use mathlib.Core.List.{List, [], _∷_, _++_, dropLast}
-use native.Mathlib.Nat.{le-of-lt, zero-add}
+use native.Mathlib.Nat.{le-of-lt, zero-add, min-zero, suc-min-suc}
 use native.Mathlib.Numerals.{add-one, add-two}
 use native.Mathlib.Omega.{arith}
 use lib.ListN.{length, getD, take, drop, set, length-append, length-drop}
-use lib.Seq.{paste, drop-cons, set-at, append-snoc, take-at, take-all, take-length, drop-append-add, drop-drop, take-suc, length-take-le}
+use lib.Seq.{paste, take-nil, drop-cons, set-at, append-snoc, take-at, take-all, take-length, drop-append-add, drop-drop, take-suc, length-take-le}
 use Rattle.frame.specs.Checks.{Bytes}
 
 -- A store just behind what is written makes it one longer.
@@ -69,3 +69,14 @@ take-rest s i = take-all (length s - i) (drop i s) (simp length-drop (omega arit
 -- A copy of a whole list to the front.
 pub paste-front : (d s : List ℕ) → paste d 0 s (length s) ≡ s ++ drop (length s) d
 paste-front d s = rw (take-length, zero-add)
+
+-- What was copied to the front stands there.
+pub front-of-paste : (d s : List ℕ) → take (length s) (paste d 0 s (length s)) ≡ s
+front-of-paste d s = ap (take (length s)) (paste-front d s) ∙ take-at s (drop (length s) d) (length s) refl
+
+-- The front of at most k elements, counted first.
+pub take-least : (s : List ℕ) (k : ℕ) → take (min (length s) k) s ≡ take k s
+take-least [] zero = refl
+take-least [] (suc k) = take-nil (min 0 (suc k))
+take-least (a ∷ s) zero = rw (min-zero (suc (length s)))
+take-least (a ∷ s) (suc k) = rw (suc-min-suc (length s) k) (ap (λ (l : List ℕ). a ∷ l) (take-least s k))

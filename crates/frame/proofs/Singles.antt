@@ -31,8 +31,8 @@ module _ (f : Framing) (s buf : List ℕ) where
   pub reads-cut : read f s ≡ cut → Reads f s buf (ReadRefused Cut) buf
   reads-cut e = reads-by cut (ReadRefused Cut) buf e refl refl
 
-  pub reads-refused : (r : Refusal) → read f s ≡ refused (numberOf r) → Reads f s buf (ReadRefused r) buf
-  reads-refused r e = reads-by (refused (numberOf r)) (ReadRefused r) buf e refl refl
+  pub reads-refused : (r : Refusal) (judged : ℕ) → read f s ≡ refused judged (numberOf r) → Reads f s buf (ReadRefused r) buf
+  reads-refused r judged e = reads-by (refused judged (numberOf r)) (ReadRefused r) buf e refl refl
 
   module _ (used len : ℕ) (p : List ℕ) (e : read f s ≡ frame used p) (l : length p ≡ len) where
     pub reads-short : length buf < len → Reads f s buf (ReadRefused Buffer) buf

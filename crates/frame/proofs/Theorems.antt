@@ -1,21 +1,35 @@
--- The claims of specs/Claims.antt and specs/Examples.antt, each proved for both framings.
+-- The claims of specs/, each proved: specs/Claims.antt and the claims on calls and damage for both framings, and the examples.
+-- Every export has its statement in specs/; a crate above this one names this module alone.
 -- Assumes nothing.
-use Prim.Native.Nat.{ℕ, _<_}
-use mathlib.Core.Path.{_≡_, refl, subst}
-use mathlib.Core.List.{List}
-use lib.ListN.{length}
-use Rattle.frame.specs.Checks.{byte, test, word, bytes, frame}
+use mathlib.Core.Path.{refl}
+use Rattle.frame.specs.Checks.{byte, test, word, bytes}
 use Rattle.frame.specs.Binary.{footer, body, binary}
 use Rattle.frame.specs.Ascii.{isDigit, digitValue, digits, lineEnd, afterDigits, ascii}
-use Rattle.frame.specs.Framing.{checks, read, limit}
+use Rattle.frame.specs.Framing.{checks}
+use Rattle.frame.specs.Rule.{join}
+use Rattle.frame.specs.Reader.{settle, lineFrom, line, quiet}
 use Rattle.frame.specs.Claims.{LayoutReads, OneSpelling, DecisionStands, UndecidedIsShort, FrameIsSized}
+use Rattle.frame.specs.Recovery.{BytesAddUp, NeedsMoreIsTrue, CallsFollowRule, CleanLine, AsciiRecovers, BinaryRecovers}
+use Rattle.frame.specs.Recovery.{LateFramesComeBack, AsciiCallsRecover, BinaryCallsRecover, CleanCalls}
+use Rattle.frame.specs.Driving.{CanDrive, StateNeverRefused}
+use Rattle.frame.specs.RecoveryExamples.{LostAndBack, ProvisoNeeded}
 use Rattle.frame.specs.Examples.{Examples}
 use Rattle.frame.specs.declared.framing.Framing.{Framing}
 use Rattle.frame.specs.declared.framing.Framing.the-variants.{Binary, Ascii}
-use Rattle.frame.proofs.Trees.{stands, Bounded, bounded}
+use Rattle.frame.proofs.Trees.{stands}
 use Rattle.frame.proofs.BinaryLaws.{binary-layout-reads, binary-one-spelling}
 use Rattle.frame.proofs.AsciiLaws.{ascii-layout-reads, ascii-one-spelling}
-use Rattle.frame.proofs.Framings.{within-limit, used-is, used-there, used-most, some-used}
+use Rattle.frame.proofs.Framings.{undecided-short, frame-sized}
+use Rattle.frame.proofs.Rules as rules
+use Rattle.frame.proofs.Settling as settling
+use Rattle.frame.proofs.Calling as calling
+use Rattle.frame.proofs.Stretches as stretches
+use Rattle.frame.proofs.AsciiRecovery as ascii-recovery
+use Rattle.frame.proofs.BinaryRecovery as binary-recovery
+use Rattle.frame.proofs.CallsRecovery as calls-recovery
+use Rattle.frame.proofs.Driving as driving
+use Rattle.frame.proofs.Refusals as refusals
+use Rattle.frame.proofs.RecoveryExamples as recovery-examples
 
 pub layout-reads : (f : Framing) → LayoutReads f
 layout-reads Binary = binary-layout-reads
@@ -29,11 +43,53 @@ pub decision-stands : (f : Framing) → DecisionStands f
 decision-stands f = stands (checks f)
 
 pub undecided-is-short : (f : Framing) → UndecidedIsShort f
-undecided-is-short f s e = subst (Bounded (limit f) (length s)) e (bounded (limit f) (checks f) s (within-limit f))
+undecided-is-short = undecided-short
 
 pub frame-is-sized : (f : Framing) → FrameIsSized f
-frame-is-sized f s p used e = record { some = some-used f s p used e; most = used-most f s p used e; there = used-there f s p used e }
+frame-is-sized = frame-sized
+
+pub bytes-add-up : (f : Framing) → BytesAddUp f
+bytes-add-up = rules.bytes-add-up
+
+pub needs-more-is-true : (f : Framing) → NeedsMoreIsTrue f
+needs-more-is-true = settling.needs-more-is-true
+
+pub calls-follow-rule : (f : Framing) → CallsFollowRule f
+calls-follow-rule = calling.calls-follow-rule
+
+pub clean-line : (f : Framing) → CleanLine f
+clean-line = stretches.clean-line
+
+pub ascii-recovers : AsciiRecovers
+ascii-recovers = ascii-recovery.ascii-recovers
+
+pub binary-recovers : BinaryRecovers
+binary-recovers = binary-recovery.binary-recovers
+
+pub late-frames-come-back : LateFramesComeBack
+late-frames-come-back = binary-recovery.late-frames-come-back
+
+pub ascii-calls-recover : AsciiCallsRecover
+ascii-calls-recover = calls-recovery.ascii-calls-recover
+
+pub binary-calls-recover : BinaryCallsRecover
+binary-calls-recover = calls-recovery.binary-calls-recover
+
+pub clean-calls : (f : Framing) → CleanCalls f
+clean-calls = calls-recovery.clean-calls
+
+pub can-drive : (f : Framing) → CanDrive f
+can-drive = driving.can-drive
+
+pub state-never-refused : (f : Framing) → StateNeverRefused f
+state-never-refused = refusals.state-never-refused
+
+pub lost-and-back : LostAndBack
+lost-and-back = recovery-examples.lost-and-back
+
+pub proviso-needed : ProvisoNeeded
+proviso-needed = recovery-examples.proviso-needed
 
 pub examples : Examples
-unfolding byte test word bytes footer body binary isDigit digitValue digits lineEnd afterDigits ascii
+unfolding byte test word bytes footer body binary isDigit digitValue digits lineEnd afterDigits ascii join settle lineFrom line quiet
 examples = refl

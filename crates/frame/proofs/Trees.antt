@@ -20,12 +20,12 @@ use Rattle.frame.proofs.Numbers.{le-or-lt}
 
 pub behind-behind : (j k : ℕ) (v : Verdict) → behind j (behind k v) ≡ behind (j + k) v
 behind-behind j k cut = refl
-behind-behind j k (refused n) = refl
+behind-behind j k (refused i n) = ap (λ (x : ℕ). refused x n) (sym (add-assoc j k i))
 behind-behind j k (frame u p) = ap (λ (x : ℕ). frame x p) (sym (add-assoc j k u))
 
 pub behind-zero : (v : Verdict) → behind 0 v ≡ v
 behind-zero cut = refl
-behind-zero (refused n) = refl
+behind-zero (refused i n) = ap (λ (x : ℕ). refused x n) (zero-add i)
 behind-zero (frame u p) = ap (λ (x : ℕ). frame x p) (zero-add u)
 
 -- A byte is there: it is taken.
@@ -43,7 +43,7 @@ module _ (b n : ℕ) (t : Checks) (s : List ℕ) (k : ℕ) where
       step (λ x. cond (eqb x b) t (fails n)) s k h
       ∙ ap (λ (q : Bool). behind 1 (run (cond q t (fails n)) (drop (suc k) s))) (eq-eqb (getD s k 0) b e)
 
-  pub fail-byte : k < length s → (getD s k 0 ≡ b → ⊥) → run (byte b n t) (drop k s) ≡ refused n
+  pub fail-byte : k < length s → (getD s k 0 ≡ b → ⊥) → run (byte b n t) (drop k s) ≡ refused 1 n
   unfolding byte
   fail-byte h e =
       step (λ x. cond (eqb x b) t (fails n)) s k h
@@ -110,9 +110,9 @@ run-bytes (b ∷ p) s t =
     ∙ behind-behind 1 (length p) (run (t (b ∷ p)) s)
     ∙ ap (λ (k : ℕ). behind k (run (t (b ∷ p)) s)) (one-add (length p))
 
-decided-behind : (k : ℕ) (v : Verdict) → Decided (behind k v) → Decided v
+pub decided-behind : (k : ℕ) (v : Verdict) → Decided (behind k v) → Decided v
 decided-behind k cut d = d
-decided-behind k (refused n) d = tt
+decided-behind k (refused i n) d = tt
 decided-behind k (frame u p) d = tt
 
 -- A decision stands when more bytes follow.
@@ -129,19 +129,19 @@ Within n (whole p) = Unit {0}
 Within zero (next t) = ⊥
 Within (suc n) (next t) = (b : ℕ) → Within n (t b)
 
--- The verdict on m bytes, of which a tree takes at most n: undecided ones are fewer, and a frame's are among them.
+-- The verdict on m bytes, of which a tree takes at most n: undecided ones are fewer, and those judged for a decision are among them.
 abbrev pub Bounded : ℕ → ℕ → Verdict → Type 0
 Bounded n m cut = m < n
-Bounded n m (refused k) = Unit {0}
+Bounded n m (refused judged k) = (judged ≤ n) × (judged ≤ m)
 Bounded n m (frame used p) = (used ≤ n) × (used ≤ m)
 
 bounded-behind : (n m : ℕ) (v : Verdict) → Bounded n m v → Bounded (suc n) (suc m) (behind 1 v)
 bounded-behind n m cut h = omega arith
-bounded-behind n m (refused k) h = tt
+bounded-behind n m (refused judged k) h = omega arith
 bounded-behind n m (frame used p) h = omega arith
 
 pub bounded : (n : ℕ) (t : Checks) (s : List ℕ) → Within n t → Bounded n (length s) (run t s)
-bounded n (fails k) s w = tt
+bounded n (fails k) s w = (zero-le, zero-le)
 bounded n (whole p) s w = (zero-le, zero-le)
 bounded zero (next t) s w = absurd w
 bounded (suc n) (next t) [] w = omega arith
@@ -193,13 +193,16 @@ pub record Behind (t : Checks) (q s : List ℕ) (used : ℕ) (p : List ℕ) : Ty
 pub cut≢frame : (used : ℕ) (p : List ℕ) → cut ≡ frame used p → ⊥
 cut≢frame used p e = let z : _≡_ {A = ℕ} 0 1 = cc in omega arith
 
-pub refused≢frame : (n used : ℕ) (p : List ℕ) → refused n ≡ frame used p → ⊥
-refused≢frame n used p e = let z : _≡_ {A = ℕ} 0 1 = cc in omega arith
+pub cut≢refused : (i n : ℕ) → cut ≡ refused i n → ⊥
+cut≢refused i n e = let z : _≡_ {A = ℕ} 0 1 = cc in omega arith
+
+pub refused≢frame : (i n used : ℕ) (p : List ℕ) → refused i n ≡ frame used p → ⊥
+refused≢frame i n used p e = let z : _≡_ {A = ℕ} 0 1 = cc in omega arith
 
 -- A frame behind one byte is that frame, one byte further on.
 frame-behind : (v : Verdict) (used : ℕ) (p : List ℕ) → behind 1 v ≡ frame used p → (left : ℕ) × (used ≡ suc left) × (v ≡ frame left p)
 frame-behind cut used p e = absurd (cut≢frame used p e)
-frame-behind (refused n) used p e = absurd (refused≢frame n used p e)
+frame-behind (refused i n) used p e = absurd (refused≢frame (1 + i) n used p e)
 frame-behind (frame u q) used p e =
     let a : 1 + u ≡ used = cc in
     let b : q ≡ p = cc in
@@ -215,11 +218,11 @@ took-next t (b ∷ s) p used e =
 pub took-test : (holds : Bool) (n : ℕ) (t : Checks) (s p : List ℕ) (used : ℕ) → run (test holds n t) s ≡ frame used p → (holds ≡ true) × (run t s ≡ frame used p)
 unfolding test
 took-test true n t s p used e = (refl, e)
-took-test false n t s p used e = absurd (refused≢frame n used p e)
+took-test false n t s p used e = absurd (refused≢frame 0 n used p e)
 
 took-cond : (b n x : ℕ) (t : Checks) (s p : List ℕ) (used : ℕ) (q : Bool) → eqb x b ≡ q → run (cond q t (fails n)) s ≡ frame used p → (x ≡ b) × (run t s ≡ frame used p)
 took-cond b n x t s p used true q e = (eqb-true x b q, e)
-took-cond b n x t s p used false q e = absurd (refused≢frame n used p e)
+took-cond b n x t s p used false q e = absurd (refused≢frame 0 n used p e)
 
 pub took-byte : (b n : ℕ) (t : Checks) (s p : List ℕ) (used : ℕ) → run (byte b n t) s ≡ frame used p → Behind t (b ∷ []) s used p
 unfolding byte

@@ -29,22 +29,22 @@ unfoldable pub bytes : ℕ → (List ℕ → Checks) → Checks
 bytes zero t = t []
 bytes (suc k) t = next (λ b. bytes k (λ p. t (b ∷ p)))
 
--- What stands at the front of a list of bytes: cut short (2), refused with a number, or a frame with the count of the bytes it
--- uses and its payload.
+-- What stands at the front of a list of bytes: cut short (2); refused, with the count of the bytes judged, the failing one the last, and
+-- the number; or a frame, with the count of the bytes it uses and its payload.
 pub data Verdict : Type 0 where
   cut : Verdict
-  refused : ℕ → Verdict
+  refused : ℕ → ℕ → Verdict
   frame : ℕ → List ℕ → Verdict
 
 -- The verdict on bytes behind k others that were judged before.
 abbrev pub behind : ℕ → Verdict → Verdict
 behind k cut = cut
-behind k (refused n) = refused n
+behind k (refused judged n) = refused (k + judged) n
 behind k (frame used p) = frame (k + used) p
 
 -- The checks in order over a list of bytes.
 abbrev pub run : Checks → List ℕ → Verdict
-run (fails n) s = refused n
+run (fails n) s = refused 0 n
 run (whole p) s = frame 0 p
 run (next t) [] = cut
 run (next t) (b ∷ s) = behind 1 (run (t b) s)

@@ -24,7 +24,7 @@ OneSpelling f = (s p : List ℕ) (used : ℕ) → Bytes s → read f s ≡ frame
 -- The bytes are enough for a decision.
 abbrev pub Decided : Verdict → Type 0
 Decided cut = ⊥
-Decided (refused n) = Unit {0}
+Decided (refused judged n) = Unit {0}
 Decided (frame used p) = Unit {0}
 
 -- A decision stands when more bytes follow.

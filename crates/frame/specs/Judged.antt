@@ -33,7 +33,7 @@ frameLength Ascii n = 2 * n + 5
 -- The verdict that an answer stands for, where s was judged.
 abbrev pub verdictOf : Framing → List ℕ → Judged → Verdict
 verdictOf f s Undecided = cut
-verdictOf f s (Failed r) = refused (numberOf r)
+verdictOf f s (Failed r judged) = refused judged (numberOf r)
 verdictOf f s (Frame used len) = frame used (payloadAt f s len)
 
 -- The count of digits at the front of s, up to `most`.

@@ -6,5 +6,12 @@ pub mod Framing
 pub mod Refusal
 pub mod Judged
 pub mod Single
+pub mod Rule
+pub mod Reader
+pub mod Calls
+pub mod Recovery
+pub mod Driving
+pub mod RecoveryExamples
+pub mod Scan
 pub mod Claims
 pub mod Examples

@@ -31,14 +31,14 @@ readingOf (ReadRefused r) = noReading (numberOf r)
 -- What a read answers where the verdict on its bytes is this and the buffer has this length: refusals 1 to 6, then 13.
 abbrev pub reading : Verdict → ℕ → Reading
 reading cut room = noReading 2
-reading (refused n) room = noReading n
+reading (refused judged n) room = noReading n
 reading (frame used p) room =
     cond (leb (length p) room) (record { number = 0; used = used; len = length p }) (noReading 13)
 
 -- What a read leaves in the buffer.
 abbrev pub readInto : Verdict → List ℕ → List ℕ
 readInto cut buf = buf
-readInto (refused n) buf = buf
+readInto (refused judged n) buf = buf
 readInto (frame used p) buf = cond (leb (length p) (length buf)) (inFront p buf) buf
 
 -- The promise of a read of s into buf, which then holds `after`.

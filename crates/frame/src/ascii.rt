@@ -102,28 +102,46 @@ fn judge_digits(s: &[u8], count: usize) -> Judged
     let n = s.len();
     let end = 1 + count;
     if 514 < count {
-        return Judged::Failed(Refusal::Length);
+        return Judged::Failed {
+            refusal: Refusal::Length,
+            judged: 516,
+        };
     }
     if n <= end {
         return Judged::Undecided;
     }
     if s[end] != 0x0D {
-        return Judged::Failed(Refusal::Character);
+        return Judged::Failed {
+            refusal: Refusal::Character,
+            judged: end + 1,
+        };
     }
     if count < 4 {
-        return Judged::Failed(Refusal::Length);
+        return Judged::Failed {
+            refusal: Refusal::Length,
+            judged: end + 1,
+        };
     }
     if count % 2 != 0 {
-        return Judged::Failed(Refusal::Length);
+        return Judged::Failed {
+            refusal: Refusal::Length,
+            judged: end + 1,
+        };
     }
     if pair_sum(&s[1..end]) % 256 != 0 {
-        return Judged::Failed(Refusal::Checksum);
+        return Judged::Failed {
+            refusal: Refusal::Checksum,
+            judged: end + 1,
+        };
     }
     if n <= end + 1 {
         return Judged::Undecided;
     }
     if s[end + 1] != 0x0A {
-        return Judged::Failed(Refusal::Footer);
+        return Judged::Failed {
+            refusal: Refusal::Footer,
+            judged: end + 2,
+        };
     }
     Judged::Frame {
         used: end + 2,
@@ -140,7 +158,10 @@ pub(crate) fn judge(s: &[u8]) -> Judged
         return Judged::Undecided;
     }
     if s[0] != 0x3A {
-        return Judged::Failed(Refusal::Start);
+        return Judged::Failed {
+            refusal: Refusal::Start,
+            judged: 1,
+        };
     }
     judge_digits(s, digit_run(&s[1..]))
 }

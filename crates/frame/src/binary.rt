@@ -42,13 +42,19 @@ fn judge_body(s: &[u8], len: usize) -> Judged
         return Judged::Undecided;
     }
     if xor_of(&s[4..end]) != s[end] {
-        return Judged::Failed(Refusal::Checksum);
+        return Judged::Failed {
+            refusal: Refusal::Checksum,
+            judged: end + 1,
+        };
     }
     if n <= end + 1 {
         return Judged::Undecided;
     }
     if s[end + 1] != 0x04 {
-        return Judged::Failed(Refusal::Footer);
+        return Judged::Failed {
+            refusal: Refusal::Footer,
+            judged: end + 2,
+        };
     }
     Judged::Frame {
         used: end + 2,
@@ -65,23 +71,35 @@ pub(crate) fn judge(s: &[u8]) -> Judged
         return Judged::Undecided;
     }
     if s[0] != 0xA5 {
-        return Judged::Failed(Refusal::Start);
+        return Judged::Failed {
+            refusal: Refusal::Start,
+            judged: 1,
+        };
     }
     if n == 1 {
         return Judged::Undecided;
     }
     if s[1] != 0x5A {
-        return Judged::Failed(Refusal::Start);
+        return Judged::Failed {
+            refusal: Refusal::Start,
+            judged: 2,
+        };
     }
     if n < 4 {
         return Judged::Undecided;
     }
     let word = wide(s[2]) * 256 + wide(s[3]);
     if word < 0x8001 {
-        return Judged::Failed(Refusal::Length);
+        return Judged::Failed {
+            refusal: Refusal::Length,
+            judged: 4,
+        };
     }
     if 0x8100 < word {
-        return Judged::Failed(Refusal::Length);
+        return Judged::Failed {
+            refusal: Refusal::Length,
+            judged: 4,
+        };
     }
     judge_body(s, word - 0x8000)
 }

@@ -22,7 +22,8 @@ pub enum Framing {
 pub(crate) enum Judged {
     // The bytes end before a decision.
     Undecided,
-    Failed(Refusal),
+    // A check failed at the last of `judged` bytes.
+    Failed { refusal: Refusal, judged: usize },
     // A frame of `used` bytes with a payload of `len` bytes.
     Frame { used: usize, len: usize },
 }

@@ -3,10 +3,17 @@ mod ascii;
 mod binary;
 mod copy;
 mod framing;
+mod reader;
 mod refusal;
+mod scan;
 mod single;
 
 pub use framing::Framing;
+pub use reader::Fed;
+pub use reader::FeedAnswer;
+pub use reader::QuietAnswer;
+pub use reader::Quieted;
+pub use reader::Reader;
 pub use refusal::Refusal;
 pub use single::ReadAnswer;
 pub use single::WriteAnswer;

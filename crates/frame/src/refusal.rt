@@ -19,6 +19,10 @@ pub enum Refusal {
     Buffer,
     // 14: the payload to write is empty or longer than 256 bytes.
     Payload,
+    // 15: the chunk is longer than 65,536 bytes.
+    Chunk,
+    // 16: the reader's state holds more bytes than a frame can have.
+    State,
 }
 
 impl Refusal {
@@ -35,6 +39,8 @@ impl Refusal {
             Refusal::Character => 6,
             Refusal::Buffer => 13,
             Refusal::Payload => 14,
+            Refusal::Chunk => 15,
+            Refusal::State => 16,
         }
     }
 }

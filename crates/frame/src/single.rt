@@ -27,7 +27,7 @@ pub fn read_frame(framing: Framing, s: &[u8], buf: &mut [u8]) -> ReadAnswer
 {
     match judge(framing, s) {
         Judged::Undecided => ReadAnswer::Refused(Refusal::Cut),
-        Judged::Failed(refusal) => ReadAnswer::Refused(refusal),
+        Judged::Failed { refusal, judged: _ } => ReadAnswer::Refused(refusal),
         Judged::Frame { used, len } => {
             if buf.len() < len {
                 return ReadAnswer::Refused(Refusal::Buffer);

@@ -37,7 +37,7 @@ judged : (v : Verdict) (u n : ℕ) (buf after : List ℕ) →
     after ≡ readInto v buf →
     n ≤ length after
 judged cut u n buf after e l = omega (arith, ap (λ (r : Reading). r .len) e)
-judged (refused k) u n buf after e l = omega (arith, ap (λ (r : Reading). r .len) e)
+judged (refused j k) u n buf after e l = omega (arith, ap (λ (r : Reading). r .len) e)
 judged (frame used p) u n buf after e l = found (leb (length p) (length buf)) used u n p buf after e l
 
 -- A write of the frame `out`, by whether the payload may be written and whether the frame fits.

@@ -36,11 +36,20 @@ returns-2 c =
 shared-slice-read-if3 : tie.Need-shared-slice-read-if3
 shared-slice-read-if3 c = search needs
 
+add-t10 : tie.Need-add-t10
+add-t10 c = search needs
+
 returns-3 : tie.Need-returns-3
 returns-3 c = line-character (stopped (c .before .before)) (c .if3 .taken)
 
+add-t12 : tie.Need-add-t12
+add-t12 c = search needs
+
 returns-4 : tie.Need-returns-4
 returns-4 c = line-count (stopped (c .before .before .before)) (c .before .if3 .left) (inl (c .if4 .taken))
+
+add-t15 : tie.Need-add-t15
+add-t15 c = search needs
 
 returns-5 : tie.Need-returns-5
 returns-5 c = line-count (stopped (c .before .before .before .before)) (c .before .before .if3 .left) (inr (c .if5 .taken))
@@ -57,6 +66,9 @@ part-pair-sum-end c = search needs
 pair-sum-requires : tie.Need-pair-sum-requires
 pair-sum-requires c κs = search needs
 
+add-t22 : tie.Need-add-t22
+add-t22 c = search needs
+
 returns-6 : tie.Need-returns-6
 returns-6 c = line-checksum (summed (c .before)) (c .if6 .taken)
 
@@ -72,16 +84,19 @@ add-if8 c = search needs
 shared-slice-read-if8 : tie.Need-shared-slice-read-if8
 shared-slice-read-if8 c = search needs
 
+add-t25 : tie.Need-add-t25
+add-t25 c = search needs
+
 returns-8 : tie.Need-returns-8
 returns-8 c =
     line-footer (summed (c .before .before .before .before)) (c .before .before .before .if6 .left) (c .before .before .if7 .left)
     (c .if8 .taken)
 
-add-t11 : tie.Need-add-t11
-add-t11 c = search needs
+add-t13 : tie.Need-add-t13
+add-t13 c = search needs
 
-sub-t22 : tie.Need-sub-t22
-sub-t22 c = search needs
+sub-t27 : tie.Need-sub-t27
+sub-t27 c = search needs
 
 returns-9 : tie.Need-returns-9
 returns-9 c =
@@ -96,19 +111,24 @@ judge-digits-spec =
     returns
     returns-2
     shared-slice-read-if3
+    add-t10
     returns-3
+    add-t12
     returns-4
+    add-t15
     returns-5
     sub-pair-sum
     part-pair-sum-start
     part-pair-sum-end
     pair-sum-requires
+    add-t22
     returns-6
     add-if7
     returns-7
     add-if8
     shared-slice-read-if8
+    add-t25
     returns-8
-    add-t11
-    sub-t22
+    add-t13
+    sub-t27
     returns-9)

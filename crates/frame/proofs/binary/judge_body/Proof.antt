@@ -18,81 +18,68 @@ summed c =
     let a = c .before .before .before .before .args in
     c .xor-of .ensures ∙ ap (λ (k : ℕ). xorOf (take k (drop 4 (a .s .now)))) (add-sub-cancel-left 4 (a .len))
 
--- src/binary.rt:39:15
 add-end : tie.Need-add-end
 add-end c = search needs
 
--- src/binary.rt:41:9
 returns : tie.Need-returns
 returns c =
     let a = c .before .before .args in
-    ap (behind 4) (body-short (a .s .now) (a .len) (c .before .before .pre .0) (c .if1 .taken))
+    body-short (a .s .now) (a .len) (c .before .before .pre .0) (c .if1 .taken)
 
--- src/binary.rt:43:15
 sub-xor-of : tie.Need-sub-xor-of
 sub-xor-of c = search needs
 
--- src/binary.rt:43:15
 part-xor-of-start : tie.Need-part-xor-of-start
 part-xor-of-start c = search needs
 
--- src/binary.rt:43:15
 part-xor-of-end : tie.Need-part-xor-of-end
 part-xor-of-end c = search needs
 
--- src/binary.rt:43:8
 xor-of-requires : tie.Need-xor-of-requires
 xor-of-requires c κs = search needs
 
--- src/binary.rt:43:30
 shared-slice-read-if2 : tie.Need-shared-slice-read-if2
 shared-slice-read-if2 c = search needs
 
--- src/binary.rt:44:9
+add-t14 : tie.Need-add-t14
+add-t14 c = search needs
+
 returns-2 : tie.Need-returns-2
 returns-2 c =
     let a = c .before .before .before .before .before .before .args in
-    ap (behind 4)
-    (body-checksum (a .s .now) (a .len) (omega arith) (λ e. c .if2 .taken (summed (c .before .before) ∙ sym e)))
+    body-checksum (a .s .now) (a .len) (omega arith) (λ e. c .if2 .taken (summed (c .before .before) ∙ sym e))
 
--- src/binary.rt:46:13
 add-if3 : tie.Need-add-if3
 add-if3 c = search needs
 
--- src/binary.rt:47:9
 returns-3 : tie.Need-returns-3
 returns-3 c =
     let a = c .before .before .before .before .before .before .before .args in
-    ap (behind 4)
-    (body-no-footer (a .s .now) (a .len) (omega arith) (sym (c .before .if2 .left) ∙ summed (c .before .before .before)) (c .if3 .taken))
+    body-no-footer (a .s .now) (a .len) (omega arith) (sym (c .before .if2 .left) ∙ summed (c .before .before .before)) (c .if3 .taken)
 
--- src/binary.rt:49:10
 add-if4 : tie.Need-add-if4
 add-if4 c = search needs
 
--- src/binary.rt:49:8
 shared-slice-read-if4 : tie.Need-shared-slice-read-if4
 shared-slice-read-if4 c = search needs
 
--- src/binary.rt:50:9
+add-t17 : tie.Need-add-t17
+add-t17 c = search needs
+
 returns-4 : tie.Need-returns-4
 returns-4 c =
     let a = c .before .before .before .before .before .before .before .before .before .args in
     let sum = sym (c .before .before .before .if2 .left) ∙ summed (c .before .before .before .before .before) in
-    ap (behind 4) (body-footer (a .s .now) (a .len) (omega arith) sum (c .before .before .if3 .left) (c .if4 .taken))
+    body-footer (a .s .now) (a .len) (omega arith) sum (c .before .before .if3 .left) (c .if4 .taken)
 
--- src/binary.rt:53:15
 add-t8 : tie.Need-add-t8
 add-t8 c = search needs
 
--- src/binary.rt:34:1
 returns-5 : tie.Need-returns-5
 returns-5 c =
     let a = c .before .before .before .before .before .before .before .before .before .args in
     let sum = sym (c .before .before .before .if2 .left) ∙ summed (c .before .before .before .before .before) in
-    let size : 4 + (a .len + 2) ≡ 4 + a .len + 2 = omega arith in
-    ap (behind 4) (body-frame (a .s .now) (a .len) (omega arith) sum (c .before .before .if3 .left) (c .if4 .left))
-    ∙ ap (λ (k : ℕ). frame k (take (a .len) (drop 4 (a .s .now)))) size
+    body-frame (a .s .now) (a .len) (omega arith) sum (c .before .before .if3 .left) (c .if4 .left)
 
 pub judge-body-spec : {M : Type 1} → statement M
 judge-body-spec =
@@ -105,11 +92,13 @@ judge-body-spec =
     part-xor-of-end
     xor-of-requires
     shared-slice-read-if2
+    add-t14
     returns-2
     add-if3
     returns-3
     add-if4
     shared-slice-read-if4
+    add-t17
     returns-4
     add-t8
     returns-5)

@@ -58,7 +58,7 @@ returns-2 c =
 returns-3 : tie.Need-returns-3
 returns-3 c =
     let a = c .before .before .before .before .before .before .args in
-    reads-refused (a .framing) (a .s .now) (a .buf .now) (c .before .refusal .given .0 .0)
+    reads-refused (a .framing) (a .s .now) (a .buf .now) (c .before .refusal .given .0 .0) (c .before .refusal .given .0 .1 .0)
     (c .before .before .before .judge .ensures ∙ ap (verdictOf (a .framing) (a .s .now)) (c .before .refusal .given .1))
 
 -- src/single.rt:25:1

@@ -1,0 +1,411 @@
+-- Good binary frames behind damage: those whose first byte lies in no frame that begins in the damage are handed out.
+-- Assumes nothing.
+use Prim.Native.Nat.{ℕ, zero, suc, pred, _+_, _-_, _≤_, _<_, zero-le, suc-le-suc}
+use native.Mathlib.Nat.{zero-add, add-zero, suc-add, add-suc, add-assoc, le-of-suc-le-suc, not-suc-le-zero, le-refl, le-trans}
+use native.Mathlib.Omega.{arith}
+use mathlib.Core.Path.{_≡_, refl, sym, ap, ap₂, _∙_, subst}
+use mathlib.Core.List.{List, [], _∷_, _++_, List·Memᴰ, List·Memᴰ·head, List·Memᴰ·tail, List·Memᴰ·cases-cons, List·Memᴰ·not-nil, Memᴰ·cast}
+use mathlib.Core.List.{Memᴰ·append-right}
+use mathlib.Core.Bool.{Bool, true, false, cond, not, _&&_, and-true, and-false, and-comm}
+use mathlib.Core.Logic.{⊎-elim}
+use borrow.Author.Tests.{le-leb, lt-leb, le-ltb, lt-ltb}
+use lib.Dec.{leb, ltb}
+use lib.ListN.{length, getD, drop, length-append, length-drop}
+use lib.Seq.{drop-append-le, drop-append-add, getD-append-add, getD-drop}
+use Rattle.frame.specs.Checks.{Verdict, cut, refused, frame}
+use Rattle.frame.specs.Framing.{read}
+use Rattle.frame.specs.Rule.{Output, join, Found, outAt, passAfter, ruleFrom}
+use Rattle.frame.specs.Recovery.{Stretch, none, another, concat, payloadIn, foundsFrom, starts, PairsBegin, select, All, reaches}
+use Rattle.frame.specs.Recovery.{inNone, Recovered, BinaryRecovers, LateFramesComeBack}
+use Rattle.frame.specs.declared.framing.Framing.{Framing}
+use Rattle.frame.specs.declared.framing.Framing.the-variants.{Binary}
+use Rattle.frame.proofs.Numbers.{le-or-lt}
+use Rattle.frame.proofs.Shapes.{NoFrame, pair-first}
+use Rattle.frame.proofs.Framings.{frame-sized}
+use Rattle.frame.proofs.Rules.{rule-pass, rule-noise}
+use Rattle.frame.proofs.Stretches.{rule-stretch}
+
+-- The pair A5 5A stands at place i of s.
+abbrev PairAt : List ℕ → ℕ → Type 0
+PairAt s i = (suc i < length s) × (getD s i 0 ≡ 0xA5) × (getD s (suc i) 0 ≡ 0x5A)
+
+-- Where the pair does not stand, no frame begins.
+no-pair-as : (s : List ℕ) (v : Verdict) → read Binary s ≡ v → (PairAt s 0 → ⊥) → NoFrame v
+no-pair-as s cut e h = tt
+no-pair-as s (refused judged n) e h = tt
+no-pair-as s (frame used p) e h =
+    let k = pair-first s p used e in
+    h (subst (λ (l : List ℕ). PairAt l 0) (sym (k .1)) (omega arith, refl, refl))
+
+-- So a byte there is noise.
+no-pair : (s : List ℕ) → (PairAt s 0 → ⊥) → NoFrame (read Binary s)
+no-pair s h = no-pair-as s (read Binary s) refl h
+
+-- Bytes in which no pair stands give no frame.
+rule-unpaired :
+    (place : ℕ) (d more : List ℕ) → ((i : ℕ) → i < length d → PairAt (d ++ more) i → ⊥) →
+    ruleFrom Binary place 0 (d ++ more) .frames ≡ ruleFrom Binary (place + length d) 0 more .frames
+unfolding join
+rule-unpaired place [] more h = rw add-zero
+rule-unpaired place (b ∷ d) more h =
+    ap (λ (o : Output Found). o .frames) (rule-noise Binary place b (d ++ more) (no-pair (b ∷ (d ++ more)) (h 0 (suc-le-suc zero-le))))
+    ∙ rule-unpaired (suc place) d more (λ i l k. h (suc i) (suc-le-suc l) (suc-le-suc (k .0), k .1, k .2))
+    ∙ rw (suc-add, add-suc)
+
+-- The proviso, for a stretch whose first frame begins at `place`.
+abbrev PairsFrom : ℕ → List (List ℕ) → Type 0
+PairsFrom place gs = (i : ℕ) → PairAt (concat gs) i → List·Memᴰ (place + i) (starts place gs)
+
+-- No frame of a stretch begins before its first one.
+starts-late : (place : ℕ) (gs : List (List ℕ)) (i : ℕ) → List·Memᴰ i (starts place gs) → place ≤ i
+starts-late place [] i m = absurd (List·Memᴰ·not-nil m)
+starts-late place (g ∷ gs) i m =
+    ⊎-elim
+    (λ (e : i ≡ place). omega arith)
+    (λ (k : List·Memᴰ i (starts (place + length g) gs)). omega (arith, starts-late (place + length g) gs i k))
+    (List·Memᴰ·cases-cons m)
+
+-- The pair does not stand inside the first frame.
+pairs-inside :
+    (place : ℕ) (g : List ℕ) (gs : List (List ℕ)) → PairsFrom place (g ∷ gs) →
+    (i : ℕ) → 1 ≤ i → i < length g → PairAt (g ++ concat gs) i → ⊥
+pairs-inside place g gs pairs i some l k =
+    ⊎-elim
+    (λ (e : place + i ≡ place). omega arith)
+    (λ (m : List·Memᴰ (place + i) (starts (place + length g) gs)). omega (arith, starts-late (place + length g) gs (place + i) m))
+    (List·Memᴰ·cases-cons (pairs i k))
+
+-- A pair behind bytes is a pair further on.
+pair-behind : (g s : List ℕ) (i : ℕ) → PairAt s i → PairAt (g ++ s) (length g + i)
+pair-behind g s i k = (
+  rw length-append (omega (arith, k .0)),
+  getD-append-add g s i 0 ∙ k .1,
+  ap (λ (n : ℕ). getD (g ++ s) n 0) (sym (add-suc (length g) i)) ∙ getD-append-add g s (suc i) 0 ∙ k .2,
+)
+
+-- A pair in what is left behind n bytes stands n places further on.
+pair-in-drop : (n : ℕ) (s : List ℕ) (i : ℕ) → PairAt (drop n s) i → PairAt s (n + i)
+pair-in-drop n s i k = (
+  omega (arith, k .0, length-drop n s),
+  sym (getD-drop n s i 0) ∙ k .1,
+  ap (λ (m : ℕ). getD s m 0) (sym (add-suc n i)) ∙ sym (getD-drop n s (suc i) 0) ∙ k .2,
+)
+
+-- The proviso holds behind the first frame.
+pairs-tail : (place : ℕ) (g : List ℕ) (gs : List (List ℕ)) → 1 ≤ length g → PairsFrom place (g ∷ gs) → PairsFrom (place + length g) gs
+pairs-tail place g gs some pairs i k =
+    ⊎-elim
+    (λ (e : place + (length g + i) ≡ place). absurd (let z : ⊥ = omega arith in z))
+    (λ (m : List·Memᴰ (place + (length g + i)) (starts (place + length g) gs)). Memᴰ·cast (add-assoc place (length g) i) m)
+    (List·Memᴰ·cases-cons (pairs (length g + i) (pair-behind g (concat gs) i k)))
+
+-- A good frame as the rule hands it out.
+abbrev foundAt : Framing → ℕ → List ℕ → Found
+foundAt f place g = record { place = place; used = length g; payload = payloadIn (read f g) }
+
+-- The frames of a stretch that begin at `bound` or later.
+abbrev from : ℕ → List Found → List Found
+from bound xs = select (λ x. leb bound (x .place)) xs
+
+-- Tests that agree on the places of a stretch select the same of its frames.
+select-same :
+    (f : Framing) (place : ℕ) (gs : List (List ℕ)) (q r : Found → Bool) → ((x : Found) → place ≤ x .place → q x ≡ r x) →
+    select q (foundsFrom f place gs) ≡ select r (foundsFrom f place gs)
+select-same f place [] q r h = refl
+select-same f place (g ∷ gs) q r h =
+    ap₂
+    (λ (t : Bool) (xs : List Found). cond t (foundAt f place g ∷ xs) xs)
+    (h (foundAt f place g) (le-refl place))
+    (select-same f (place + length g) gs q r (λ x l. h x (omega arith)))
+
+-- A test that all pass selects all.
+select-all : (xs : List Found) → select (λ x. true) xs ≡ xs
+select-all [] = refl
+select-all (x ∷ xs) = ap (λ (l : List Found). x ∷ l) (select-all xs)
+
+-- All the frames of a stretch begin at its first place or later.
+from-first :
+    (f : Framing) (place : ℕ) (gs : List (List ℕ)) (bound : ℕ) → bound ≤ place → from bound (foundsFrom f place gs) ≡ foundsFrom f place gs
+from-first f place gs bound l =
+    select-same f place gs (λ x. leb bound (x .place)) (λ x. true) (λ x k. le-leb bound (x .place) (le-trans l k))
+    ∙ select-all (foundsFrom f place gs)
+
+-- A frame that begins before the bound is left out.
+from-later :
+    (f : Framing) (place : ℕ) (g : List ℕ) (gs : List (List ℕ)) (bound : ℕ) → place < bound →
+    from bound (foundsFrom f place (g ∷ gs)) ≡ from bound (foundsFrom f (place + length g) gs)
+from-later f place g gs bound l =
+    let xs : List Found = from bound (foundsFrom f (place + length g) gs) in
+    ap (λ (t : Bool). cond t (foundAt f place g ∷ xs) xs) (lt-leb bound place l)
+
+-- To pass over more bytes than the first frame has is to pass over the rest of them behind it.
+pass-more : (place m : ℕ) (g more : List ℕ) → ruleFrom Binary place (length g + m) (g ++ more) ≡ ruleFrom Binary (place + length g) m more
+pass-more place m g more =
+    rule-pass Binary place (length g + m) (g ++ more)
+    ∙ ap₂ (λ (n : ℕ) (s : List ℕ). ruleFrom Binary n 0 s) (sym (add-assoc place (length g) m)) (drop-append-add g more m)
+    ∙ sym (rule-pass Binary (place + length g) m more)
+
+-- To pass over some bytes of the first frame is to hand out nothing of it.
+pass-some :
+    (place pass : ℕ) (g : List ℕ) (gs : List (List ℕ)) → 1 ≤ pass → pass < length g → PairsFrom place (g ∷ gs) →
+    ruleFrom Binary place pass (g ++ concat gs) .frames ≡ ruleFrom Binary (place + length g) 0 (concat gs) .frames
+pass-some place pass g gs some l pairs =
+    let c : List ℕ = concat gs in
+    let behind : place + pass + length (drop pass g) ≡ place + length g = omega (arith, length-drop pass g) in
+    let here : drop pass (g ++ c) ≡ drop pass g ++ c = drop-append-le pass g c (omega arith) in
+    ap (λ (o : Output Found). o .frames) (rule-pass Binary place pass (g ++ c) ∙ ap (ruleFrom Binary (place + pass) 0) here)
+    ∙ rule-unpaired (place + pass) (drop pass g) c (λ i k q.
+    pairs-inside place g gs pairs (pass + i) (omega arith) (omega (arith, length-drop pass g))
+    (pair-in-drop pass (g ++ c) i (subst (λ (s : List ℕ). PairAt s i) (sym here) q)))
+    ∙ ap (λ (n : ℕ). ruleFrom Binary n 0 c .frames) behind
+
+-- Where the rule comes to a stretch with bytes still to pass over, it hands out the frames that begin behind those.
+rule-into :
+    {gs : List (List ℕ)} (place pass : ℕ) → Stretch Binary gs → PairsFrom place gs →
+    ruleFrom Binary place pass (concat gs) .frames ≡ from (place + pass) (foundsFrom Binary place gs)
+unfolding ruleFrom
+rule-into place pass none pairs = refl
+rule-into place zero (another {g} {gs} good st) pairs =
+    ap (λ (o : Output Found). o .frames) (rule-stretch Binary place (another good st))
+    ∙ sym (from-first Binary place (g ∷ gs) (place + 0) (omega arith))
+rule-into place (suc pass) (another {g} {gs} good st) pairs =
+    let some : 1 ≤ length g = frame-sized Binary g (good .payload) (length g) (good .reads) .some in
+    ⊎-elim
+    (λ (l : length g ≤ suc pass).
+    let m : ℕ = suc pass - length g in
+    let e : suc pass ≡ length g + m = omega arith in
+    ap (λ (k : ℕ). ruleFrom Binary place k (g ++ concat gs) .frames) e
+    ∙ ap (λ (o : Output Found). o .frames) (pass-more place m g (concat gs))
+    ∙ rule-into (place + length g) m st (pairs-tail place g gs some pairs)
+    ∙ ap (λ (k : ℕ). from k (foundsFrom Binary (place + length g) gs)) (let q : place + length g + m ≡ place + suc pass = omega arith in q))
+    (λ (l : suc pass < length g).
+    pass-some place (suc pass) g gs (suc-le-suc zero-le) l pairs
+    ∙ ap (λ (o : Output Found). o .frames) (rule-stretch Binary (place + length g) st)
+    ∙ sym (from-first Binary (place + length g) gs (place + suc pass) (omega arith)))
+    (le-or-lt (length g) (suc pass))
+    ∙ sym (from-later Binary place g gs (place + suc pass) (omega arith))
+
+-- Of two places in order, the test of the later against what a frame covers tells whether it is behind the frame.
+covers : (place used at : ℕ) → place ≤ at → not (leb place at && ltb at (place + used)) ≡ leb (place + used) at
+covers place used at l =
+    ap (λ (t : Bool). not (t && ltb at (place + used))) (le-leb place at l)
+    ∙ ⊎-elim
+    (λ (k : place + used ≤ at). ap not (le-ltb at (place + used) k) ∙ sym (le-leb (place + used) at k))
+    (λ (k : at < place + used). ap not (lt-ltb at (place + used) k) ∙ sym (lt-leb (place + used) at k))
+    (le-or-lt (place + used) at)
+
+-- What the rule does in the damage d, whose first byte stands at `place`, with `pass` bytes to pass over first: the frames that begin in
+-- it, the bytes still to pass over behind it, and what these frames cover of places at `end`, the stretch's first, or later.
+record Early (more : List ℕ) (end place pass : ℕ) (d : List ℕ) : Type 0 where
+  early : List Found
+  left : ℕ
+  begin : All (λ x. x .place < end) early
+  one : length (select (reaches end) early) ≤ 1
+  reach : All (λ x. x .place + x .used ≤ end + 260) early
+  gone : length d ≤ pass → early ≡ []
+  clear : (at : ℕ) → end ≤ at → (inNone at early && leb (place + pass) at) ≡ leb (end + left) at
+  frames : ruleFrom Binary place pass (d ++ more) .frames ≡ early ++ ruleFrom Binary end left more .frames
+
+module _ (more : List ℕ) (first : getD more 0 0 ≡ 0x5A → ⊥) (end : ℕ) where
+  -- The end of the damage.
+  early-nil : (place pass : ℕ) → place + 0 ≡ end → Early more end place pass []
+  early-nil place pass e =
+      let same : place ≡ end = omega arith in
+      record {
+        early = [];
+        left = pass;
+        begin = tt;
+        one = zero-le;
+        reach = tt;
+        gone = λ _. refl;
+        clear = λ at l. rw same;
+        frames = rw same;
+      }
+
+  -- A byte to pass over.
+  early-pass : (place pass b : ℕ) (d : List ℕ) → Early more end (suc place) pass d → Early more end place (suc pass) (b ∷ d)
+  unfolding ruleFrom
+  early-pass place pass b d w =
+      record {
+        early = w .early;
+        left = w .left;
+        begin = w .begin;
+        one = w .one;
+        reach = w .reach;
+        gone = λ l. w .gone (le-of-suc-le-suc l);
+        clear = λ at l. ap (λ (n : ℕ). inNone at (w .early) && leb n at) (add-suc place pass ∙ sym (suc-add place pass)) ∙ w .clear at l;
+        frames = w .frames;
+      }
+
+  -- A byte at which no frame begins.
+  early-noise :
+      (place b : ℕ) (d : List ℕ) → place + suc (length d) ≡ end → NoFrame (read Binary (b ∷ (d ++ more))) → Early more end (suc place) 0 d →
+      Early more end place 0 (b ∷ d)
+  unfolding join
+  early-noise place b d e h w =
+      record {
+        early = w .early;
+        left = w .left;
+        begin = w .begin;
+        one = w .one;
+        reach = w .reach;
+        gone = λ l. absurd (not-suc-le-zero l);
+        clear = λ at l.
+            ap
+            (λ (t : Bool). inNone at (w .early) && t)
+            (le-leb (place + 0) at (omega arith) ∙ sym (le-leb (suc place + 0) at (omega arith)))
+            ∙ w .clear at l;
+        frames = ap (λ (o : Output Found). o .frames) (rule-noise Binary place b (d ++ more) h) ∙ w .frames;
+      }
+
+  -- A frame that begins in the damage has two bytes there: the stretch does not begin with 5A.
+  two-inside : (b : ℕ) (d p : List ℕ) (used : ℕ) → read Binary (b ∷ (d ++ more)) ≡ frame used p → 1 ≤ length d
+  two-inside b [] p used e = absurd (first (ap (λ (s : List ℕ). getD s 1 0) (pair-first (b ∷ more) p used e .1)))
+  two-inside b (c ∷ d) p used e = suc-le-suc zero-le
+
+  -- Of one frame at most one is selected.
+  at-most-one : (t : Bool) (x : Found) → length (cond t (x ∷ []) []) ≤ 1
+  at-most-one true x = le-refl 1
+  at-most-one false x = zero-le
+
+  -- A byte at which a frame begins.
+  early-frame :
+      (place b : ℕ) (d p : List ℕ) (used : ℕ) → place + suc (length d) ≡ end → read Binary (b ∷ (d ++ more)) ≡ frame used p →
+      Early more end (suc place) (pred used) d → Early more end place 0 (b ∷ d)
+  unfolding ruleFrom join
+  early-frame place b d p used e h w =
+      let x : Found = record { place = place; used = used; payload = p } in
+      let sized = frame-sized Binary (b ∷ (d ++ more)) p used h in
+      let most : used ≤ 262 = sized .most in
+      let some : 1 ≤ used = sized .some in
+      let two : 1 ≤ length d = two-inside b d p used h in
+      let over : List Found = select (reaches end) (w .early) in
+      let fewer : place + used ≤ end → length (select (reaches end) (x ∷ w .early)) ≤ 1 =
+      λ l. subst (λ (t : Bool). length (cond t (x ∷ over) over) ≤ 1) (sym (le-ltb end (place + used) l)) (w .one) in
+      let last : end < place + used → length (select (reaches end) (x ∷ w .early)) ≤ 1 =
+      λ l.
+      subst
+      (λ (xs : List Found). length (select (reaches end) (x ∷ xs)) ≤ 1)
+      (sym (w .gone (omega arith)))
+      (at-most-one (reaches end x) x) in
+      record {
+        early = x ∷ w .early;
+        left = w .left;
+        begin = (omega arith, w .begin);
+        one = ⊎-elim fewer last (le-or-lt (place + used) end);
+        reach = (omega arith, w .reach);
+        gone = λ l. absurd (not-suc-le-zero l);
+        clear = λ at l.
+            let n = inNone at (w .early) in
+            ap₂ (λ (s t : Bool). s && n && t) (covers place used at (omega arith)) (le-leb (place + 0) at (omega arith))
+            ∙ and-true (leb (place + used) at && n)
+            ∙ and-comm (leb (place + used) at) n
+            ∙ ap (λ (m : ℕ). n && leb m at) (let q : place + used ≡ suc place + pred used = omega arith in q)
+            ∙ w .clear at l;
+        frames =
+            ap (λ (v : Verdict). join (outAt place v) (ruleFrom Binary (suc place) (passAfter v) (d ++ more)) .frames) h
+            ∙ ap (λ (xs : List Found). x ∷ xs) (w .frames);
+      }
+
+  -- A byte, whatever stands there.
+  early-at :
+      (place b : ℕ) (d : List ℕ) (v : Verdict) → place + suc (length d) ≡ end → read Binary (b ∷ (d ++ more)) ≡ v →
+      ((pass : ℕ) → Early more end (suc place) pass d) → Early more end place 0 (b ∷ d)
+  early-at place b d cut e h w = early-noise place b d e (subst NoFrame (sym h) tt) (w 0)
+  early-at place b d (refused judged n) e h w = early-noise place b d e (subst NoFrame (sym h) tt) (w 0)
+  early-at place b d (frame used p) e h w = early-frame place b d p used e h (w (pred used))
+
+  -- All of the damage.
+  walk : (place pass : ℕ) (d : List ℕ) → place + length d ≡ end → Early more end place pass d
+  walk place pass [] e = early-nil place pass e
+  walk place zero (b ∷ d) e = early-at place b d (read Binary (b ∷ (d ++ more))) e refl (λ pass. walk (suc place) pass d (omega arith))
+  walk place (suc pass) (b ∷ d) e = early-pass place pass b d (walk (suc place) pass d (omega arith))
+
+-- A stretch does not begin with 5A.
+stretch-first : {gs : List (List ℕ)} → Stretch Binary gs → getD (concat gs) 0 0 ≡ 0x5A → ⊥
+stretch-first none e = let z : _≡_ {A = ℕ} 0 0x5A = e in omega arith
+stretch-first (another {g} {gs} good st) e =
+    let h = pair-first g (good .payload) (length g) (good .reads) in
+    let z : _≡_ {A = ℕ} 0xA5 0x5A = ap (λ (l : List ℕ). getD (l ++ concat gs) 0 0) (sym (h .1)) ∙ e in
+    omega arith
+
+-- The places of a stretch further on are as much further on.
+starts-shift : (k place : ℕ) (gs : List (List ℕ)) (i : ℕ) → List·Memᴰ i (starts place gs) → List·Memᴰ (k + i) (starts (k + place) gs)
+starts-shift k place [] i m = absurd (List·Memᴰ·not-nil m)
+starts-shift k place (g ∷ gs) i m =
+    ⊎-elim
+    (λ (e : i ≡ place). List·Memᴰ·head (ap (λ (n : ℕ). k + n) e))
+    (λ (n : List·Memᴰ i (starts (place + length g) gs)).
+    List·Memᴰ·tail
+    (subst
+    (λ (q : ℕ). List·Memᴰ (k + i) (starts q gs))
+    (sym (add-assoc k place (length g)))
+    (starts-shift k (place + length g) gs i n)))
+    (List·Memᴰ·cases-cons m)
+
+-- The proviso, wherever the stretch begins.
+pairs-from : (place : ℕ) (gs : List (List ℕ)) → PairsBegin gs → PairsFrom place gs
+pairs-from place gs pairs i k =
+    subst (λ (q : ℕ). List·Memᴰ (place + i) (starts q gs)) (add-zero place) (starts-shift place 0 gs i (pairs i (k .0) (k .1) (k .2)))
+
+-- Behind damage: the frames that begin in it, then the good frames whose first byte lies in none of them.
+pub binary-recovers : BinaryRecovers
+binary-recovers damage gs st pairs =
+    let end : ℕ = length damage in
+    let w : Early (concat gs) end 0 0 damage = walk (concat gs) (stretch-first st) end 0 0 damage (zero-add end) in
+    let same : (x : Found) → end ≤ x .place → leb (end + w .left) (x .place) ≡ inNone (x .place) (w .early) =
+    λ x l.
+    sym (w .clear (x .place) l)
+    ∙ ap (λ (t : Bool). inNone (x .place) (w .early) && t) (le-leb 0 (x .place) zero-le)
+    ∙ and-true (inNone (x .place) (w .early)) in
+    record {
+      early = w .early;
+      begin = w .begin;
+      one = w .one;
+      reach = w .reach;
+      frames =
+          w .frames
+          ∙ ap
+          (λ (xs : List Found). w .early ++ xs)
+          (rule-into end (w .left) st (pairs-from end gs pairs)
+          ∙ select-same Binary end gs (λ x. leb (end + w .left) (x .place)) (λ x. inNone (x .place) (w .early)) same);
+    }
+
+-- A place behind all that frames reach lies in none of them.
+far : (m at : ℕ) (xs : List Found) → All (λ x. x .place + x .used ≤ m) xs → m ≤ at → inNone at xs ≡ true
+far m at [] h l = refl
+far m at (x ∷ xs) h l =
+    ap₂
+    (λ (s t : Bool). not (leb (x .place) at && s) && t)
+    (le-ltb at (x .place + x .used) (le-trans (h .0) l))
+    (far m at xs (h .1) l)
+    ∙ ap (λ (t : Bool). not t && true) (and-false (leb (x .place) at))
+
+-- An element that passes the test is selected.
+mem-select : (q : Found → Bool) (xs : List Found) (x : Found) → q x ≡ true → List·Memᴰ x xs → List·Memᴰ x (select q xs)
+mem-select q [] x t m = absurd (List·Memᴰ·not-nil m)
+mem-select q (y ∷ ys) x t m =
+    ⊎-elim
+    (λ (e : x ≡ y). subst (λ (b : Bool). List·Memᴰ x (cond b (y ∷ select q ys) (select q ys))) (sym (ap q (sym e) ∙ t)) (List·Memᴰ·head e))
+    (λ (k : List·Memᴰ x ys). mem-cond (q y) (mem-select q ys x t k))
+    (List·Memᴰ·cases-cons m)
+  where
+    mem-cond : (b : Bool) → List·Memᴰ x (select q ys) → List·Memᴰ x (cond b (y ∷ select q ys) (select q ys))
+    mem-cond true k = List·Memᴰ·tail k
+    mem-cond false k = k
+
+-- Every good frame that begins 260 or more bytes into the stretch is handed out.
+pub late-frames-come-back : LateFramesComeBack
+late-frames-come-back damage gs st pairs x m l =
+    let r : Recovered damage gs = binary-recovers damage gs st pairs in
+    subst
+    (λ (xs : List Found). List·Memᴰ x xs)
+    (sym (r .frames))
+    (Memᴰ·append-right
+    (r .early)
+    (mem-select
+    (λ y. inNone (y .place) (r .early))
+    (foundsFrom Binary (length damage) gs)
+    x
+    (far (length damage + 260) (x .place) (r .early) (r .reach) l)
+    m))

@@ -1,0 +1,61 @@
+-- Good frames behind damage, by any list of calls.
+-- Assumes nothing.
+use Prim.Native.Nat.{ℕ, _+_}
+use mathlib.Core.Path.{_≡_, refl, sym, ap, _∙_, subst}
+use mathlib.Core.List.{List, [], _∷_, _++_, map, List·Memᴰ, List·Memᴰ·head, List·Memᴰ·tail}
+use lib.ListN.{length}
+use Rattle.frame.specs.Framing.{read}
+use Rattle.frame.specs.Rule.{Output, join, Found, rule, payloads}
+use Rattle.frame.specs.Recovery.{concat, payloadIn, foundsFrom, payloadsOf, AsciiCallsRecover, BinaryCallsRecover, CleanCalls}
+use Rattle.frame.specs.declared.framing.Framing.{Framing}
+use Rattle.frame.specs.declared.framing.Framing.the-variants.{Binary, Ascii}
+use Rattle.frame.proofs.Rules.{payloads-join}
+use Rattle.frame.proofs.Calling.{calls-follow-rule}
+use Rattle.frame.proofs.Stretches.{clean-line}
+use Rattle.frame.proofs.AsciiRecovery.{ascii-recovers}
+use Rattle.frame.proofs.BinaryRecovery.{binary-recovers, late-frames-come-back}
+
+-- The payloads of a stretch's frames, wherever it begins.
+founds-payloads : (f : Framing) (place : ℕ) (gs : List (List ℕ)) → map (λ (x : Found). x .payload) (foundsFrom f place gs) ≡ payloadsOf f gs
+founds-payloads f place [] = refl
+founds-payloads f place (g ∷ gs) = ap (λ (ps : List (List ℕ)). payloadIn (read f g) ∷ ps) (founds-payloads f (place + length g) gs)
+
+-- A frame's payload is among the payloads.
+mem-payload : {x : Found} {xs : List Found} → List·Memᴰ x xs → List·Memᴰ (x .payload) (map (λ (y : Found). y .payload) xs)
+mem-payload (List·Memᴰ·head e) = List·Memᴰ·head (ap (λ (y : Found). y .payload) e)
+mem-payload (List·Memᴰ·tail m) = List·Memᴰ·tail (mem-payload m)
+
+-- In ASCII framing: what the damage alone gives, then every good frame's payload.
+pub ascii-calls-recover : AsciiCallsRecover
+ascii-calls-recover damage gs out st calls =
+    calls-follow-rule Ascii (damage ++ concat gs) out calls
+    ∙ ap payloads (ascii-recovers damage gs st)
+    ∙ payloads-join (rule Ascii damage) (record { frames = foundsFrom Ascii (length damage) gs; noise = 0 })
+    ∙ ap
+    (λ (ps : List (List ℕ)). join (payloads (rule Ascii damage)) (record { frames = ps; noise = 0 }))
+    (founds-payloads Ascii (length damage) gs)
+
+-- In binary framing: the frames that begin in the damage, then the good ones clear of them.
+pub binary-calls-recover : BinaryCallsRecover
+binary-calls-recover damage gs out st pairs calls =
+    let e : out ≡ payloads (rule Binary (damage ++ concat gs)) = calls-follow-rule Binary (damage ++ concat gs) out calls in
+    let r = binary-recovers damage gs st pairs in
+    let frames : out .frames ≡ map (λ (x : Found). x .payload) (rule Binary (damage ++ concat gs) .frames) =
+    ap (λ (o : Output (List ℕ)). o .frames) e in
+    record {
+      found = r;
+      frames = frames ∙ ap (map (λ (x : Found). x .payload)) (r .frames);
+      late = λ x m l.
+          subst
+          (λ (ps : List (List ℕ)). List·Memᴰ (x .payload) ps)
+          (sym frames)
+          (mem-payload (late-frames-come-back damage gs st pairs x m l));
+      noise = ap (λ (o : Output (List ℕ)). o .noise) e;
+    }
+
+-- With no damage, in either framing: every good frame's payload.
+pub clean-calls : (f : Framing) → CleanCalls f
+clean-calls f gs out st calls =
+    calls-follow-rule f (concat gs) out calls
+    ∙ ap payloads (clean-line f gs st)
+    ∙ ap (λ (ps : List (List ℕ)). record { frames = ps; noise = 0 }) (founds-payloads f 0 gs)

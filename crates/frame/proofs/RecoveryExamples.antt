@@ -1,0 +1,102 @@
+-- The examples of damage, computed.
+-- Assumes nothing.
+use Prim.Native.Nat.{ℕ, zero, suc, _+_, _<_}
+use native.Mathlib.Nat.{zero-add, add-zero, suc-add, add-suc, le-of-suc-le-suc, not-suc-le-zero}
+use native.Mathlib.Omega.{arith}
+use mathlib.Core.Path.{_≡_, refl, sym, ap, ap₂, _∙_}
+use mathlib.Core.List.{List, [], _∷_, _++_, List·Memᴰ, List·Memᴰ·head, List·Memᴰ·tail, List·Memᴰ·cases-cons, List·Memᴰ·not-nil, Memᴰ·cast}
+use mathlib.Core.Bool.{Bool, true, false, not, _&&_, _||_, and-eq-true-iff, false≢true}
+use mathlib.Core.Logic.{⊎-elim}
+use borrow.Author.Tests.{eq-eqb, eqb-true}
+use lib.Dec.{eqb}
+use lib.ListN.{length, getD, take, drop, replicate}
+use Rattle.frame.specs.Checks.{byte, test, word, bytes}
+use Rattle.frame.specs.Binary.{binary, body, footer}
+use Rattle.frame.specs.Rule.{join, Found, ruleFrom, rule}
+use Rattle.frame.specs.Recovery.{Good, Stretch, none, another, concat, starts, All}
+use Rattle.frame.specs.RecoveryExamples.{response, swallowed, LostAndBack, holdsStart, unguarded, shortStart, lostFrame}
+use Rattle.frame.specs.RecoveryExamples.{ProvisoNeeded}
+use Rattle.frame.specs.declared.framing.Framing.{Framing}
+use Rattle.frame.specs.declared.framing.Framing.the-variants.{Binary}
+
+-- The proviso as a computed test: wherever the pair stands in s, whose first byte is at `place`, that place is one of ss.
+abbrev among : ℕ → List ℕ → Bool
+among n [] = false
+among n (k ∷ ks) = eqb n k || among n ks
+
+abbrev pairsAmong : ℕ → List ℕ → List ℕ → Bool
+pairsAmong place [] ss = true
+pairsAmong place (a ∷ []) ss = true
+pairsAmong place (a ∷ b ∷ s) ss = (not (eqb a 0xA5 && eqb b 0x5A) || among place ss) && pairsAmong (suc place) (b ∷ s) ss
+
+among-at :
+    (n k : ℕ) (ks : List ℕ) (q : Bool) → eqb n k ≡ q → (q || among n ks) ≡ true → (among n ks ≡ true → List·Memᴰ n ks) →
+    List·Memᴰ n (k ∷ ks)
+among-at n k ks true e t later = List·Memᴰ·head (eqb-true n k e)
+among-at n k ks false e t later = List·Memᴰ·tail (later t)
+
+-- A number that the test finds is in the list.
+among-mem : (n : ℕ) (ks : List ℕ) → among n ks ≡ true → List·Memᴰ n ks
+among-mem n [] t = absurd (false≢true t)
+among-mem n (k ∷ ks) t = among-at n k ks (eqb n k) refl t (λ u. among-mem n ks u)
+
+-- The test shows the proviso.
+pairs-sound :
+    (place : ℕ) (s ss : List ℕ) → pairsAmong place s ss ≡ true → (i : ℕ) → suc i < length s → getD s i 0 ≡ 0xA5 → getD s (suc i) 0 ≡ 0x5A →
+    List·Memᴰ (place + i) ss
+pairs-sound place [] ss t i l x y = absurd (not-suc-le-zero l)
+pairs-sound place (a ∷ []) ss t i l x y = absurd (not-suc-le-zero (le-of-suc-le-suc l))
+pairs-sound place (a ∷ b ∷ s) ss t zero l x y =
+    let here = and-eq-true-iff (not (eqb a 0xA5 && eqb b 0x5A) || among place ss) (pairsAmong (suc place) (b ∷ s) ss) .0 t .0 in
+    Memᴰ·cast
+    (add-zero place)
+    (among-mem place ss (ap₂ (λ (p q : Bool). not (p && q) || among place ss) (sym (eq-eqb a 0xA5 x)) (sym (eq-eqb b 0x5A y)) ∙ here))
+pairs-sound place (a ∷ b ∷ s) ss t (suc i) l x y =
+    let later = and-eq-true-iff (not (eqb a 0xA5 && eqb b 0x5A) || among place ss) (pairsAmong (suc place) (b ∷ s) ss) .0 t .1 in
+    Memᴰ·cast (add-suc place i ∙ sym (suc-add place i)) (pairs-sound (suc place) (b ∷ s) ss later i (le-of-suc-le-suc l) x y)
+
+-- Copies of a good frame, and a stretch behind them.
+copies : {f : Framing} {g : List ℕ} {gs : List (List ℕ)} (n : ℕ) → Good f g → Stretch f gs → Stretch f (replicate n g ++ gs)
+copies zero good st = st
+copies (suc n) good st = another good (copies n good st)
+
+-- The response is a good frame.
+response-good : Good Binary response
+unfolding binary body footer byte test word bytes
+response-good = record { payload = 0xDB ∷ 0xA1 ∷ 0x80 ∷ 0x01 ∷ []; reads = refl }
+
+-- A stray start loses good frames, and later ones come back.
+pub lost-and-back : LostAndBack
+unfolding ruleFrom join binary body footer byte test word bytes
+lost-and-back =
+    record {
+      good =
+          copies 22 response-good
+          (another (record { payload = replicate 11 0; reads = refl }) (another (record { payload = replicate 15 0; reads = refl })
+          (another response-good (another response-good none))));
+      pairs = λ i l x y. Memᴰ·cast (sym (zero-add i)) (pairs-sound 0 (concat swallowed) (starts 0 swallowed) refl i l x y);
+      frames = refl;
+    }
+
+-- A frame is not among frames at other places.
+elsewhere : (x : Found) (xs : List Found) → All (λ y. x .place ≡ y .place → ⊥) xs → List·Memᴰ x xs → ⊥
+elsewhere x [] h m = List·Memᴰ·not-nil m
+elsewhere x (y ∷ ys) h m =
+    ⊎-elim
+    (λ (e : x ≡ y). h .0 (ap (λ (z : Found). z .place) e))
+    (λ (k : List·Memᴰ x ys). elsewhere x ys (h .1) k)
+    (List·Memᴰ·cases-cons m)
+
+-- Without the proviso a good frame far into the stretch is lost.
+pub proviso-needed : ProvisoNeeded
+unfolding ruleFrom join binary body footer byte test word bytes
+proviso-needed =
+    record {
+      good =
+          another (record { payload = take 256 (drop 4 holdsStart); reads = refl })
+          (another (record { payload = lostFrame .payload; reads = refl }) (another response-good none));
+      there = List·Memᴰ·tail (List·Memᴰ·head refl);
+      late = omega arith;
+      frames = refl;
+      lost = elsewhere lostFrame (rule Binary (shortStart ++ concat unguarded) .frames) (omega arith, (omega arith, (omega arith, tt)));
+    }

@@ -1,0 +1,197 @@
+-- Laws of the leftmost rule, for both framings at once.
+-- Assumes nothing.
+use Prim.Native.Nat.{ℕ, zero, suc, pred, _+_, _≤_, zero-le}
+use native.Mathlib.Nat.{add-assoc, zero-add, add-zero, suc-add, add-suc, le-of-suc-le-suc, not-suc-le-zero, le-trans}
+use native.Mathlib.Omega.{arith}
+use mathlib.Core.Path.{_≡_, refl, sym, ap, _∙_, subst}
+use mathlib.Core.List.{List, [], _∷_, _++_, append-assoc, map-append}
+use lib.ListN.{length, drop}
+use Rattle.frame.specs.Checks.{Verdict, cut, refused, frame}
+use Rattle.frame.specs.Framing.{read}
+use Rattle.frame.specs.Rule.{Output, nothing, noiseByte, handed, join, Found, outAt, passAfter, ruleFrom, rule, payloads}
+use Rattle.frame.specs.Recovery.{All, usedBytes, BytesAddUp}
+use Rattle.frame.specs.declared.framing.Framing.{Framing}
+use Rattle.frame.proofs.Shapes.{NoFrame, read-stands}
+use Rattle.frame.proofs.Framings.{frame-sized}
+
+-- Outputs join in any grouping, and nothing adds nothing.
+module _ {A : Type 0} where
+  -- Nothing before an output adds nothing.
+  pub join-nothing : (o : Output A) → join nothing o ≡ o
+  unfolding join
+  join-nothing o = λ i. record { frames = o .frames; noise = zero-add (o .noise) i }
+
+  -- Outputs join in any grouping.
+  pub join-assoc : (a b c : Output A) → join (join a b) c ≡ join a (join b c)
+  unfolding join
+  join-assoc a b c =
+      λ i.
+      record {
+        frames = append-assoc (a .frames) (b .frames) (c .frames) i;
+        noise = add-assoc (a .noise) (b .noise) (c .noise) i;
+      }
+
+-- The bytes of an output: those of its frames and its noise.
+abbrev bytesOf : Output Found → ℕ
+bytesOf o = usedBytes (o .frames) + o .noise
+
+-- Every frame that the rule gives uses a byte.
+used-at :
+    (f : Framing) (place b : ℕ) (s : List ℕ) (v : Verdict) → read f (b ∷ s) ≡ v →
+    ((pass : ℕ) → All (λ x. 1 ≤ x .used) (ruleFrom f (suc place) pass s .frames)) →
+    All (λ x. 1 ≤ x .used) (join (outAt place v) (ruleFrom f (suc place) (passAfter v) s) .frames)
+unfolding join
+used-at f place b s cut e later = later 0
+used-at f place b s (refused judged n) e later = later 0
+used-at f place b s (frame used p) e later = (frame-sized f (b ∷ s) p used e .some, later (pred used))
+
+rule-used : (f : Framing) (place pass : ℕ) (s : List ℕ) → All (λ x. 1 ≤ x .used) (ruleFrom f place pass s .frames)
+unfolding ruleFrom
+rule-used f place pass [] = tt
+rule-used f place zero (b ∷ s) = used-at f place b s (read f (b ∷ s)) refl (λ pass. rule-used f (suc place) pass s)
+rule-used f place (suc pass) (b ∷ s) = rule-used f (suc place) pass s
+
+-- Frames that use a byte each are no more than their bytes.
+count-used : (xs : List Found) → All (λ x. 1 ≤ x .used) xs → length xs ≤ usedBytes xs
+count-used [] h = zero-le
+count-used (x ∷ xs) h = omega (arith, count-used xs (h .1), h .0)
+
+-- One place of the rule: its byte, or the frame there, and what lies behind.
+add-up-at :
+    (f : Framing) (place b : ℕ) (s : List ℕ) (v : Verdict) → read f (b ∷ s) ≡ v →
+    ((pass : ℕ) → pass ≤ length s → bytesOf (ruleFrom f (suc place) pass s) + pass ≡ length s) →
+    bytesOf (join (outAt place v) (ruleFrom f (suc place) (passAfter v) s)) ≡ suc (length s)
+unfolding join
+add-up-at f place b s cut e later = omega (arith, later 0 zero-le)
+add-up-at f place b s (refused judged n) e later = omega (arith, later 0 zero-le)
+add-up-at f place b s (frame used p) e later =
+    let h = frame-sized f (b ∷ s) p used e in
+    let l : pred used ≤ length s = omega (arith, h .some, h .there) in
+    omega (arith, later (pred used) l, h .some)
+
+-- The bytes that the rule gives out behind those it passes over are all the others.
+add-up : (f : Framing) (place pass : ℕ) (s : List ℕ) → pass ≤ length s → bytesOf (ruleFrom f place pass s) + pass ≡ length s
+unfolding ruleFrom
+add-up f place pass [] h = omega arith
+add-up f place zero (b ∷ s) h =
+    add-zero _ ∙ add-up-at f place b s (read f (b ∷ s)) refl (λ pass l. add-up f (suc place) pass s l)
+add-up f place (suc pass) (b ∷ s) h = omega (arith, add-up f (suc place) pass s (le-of-suc-le-suc h))
+
+-- The bytes of a segment are those of its frames and noise.
+pub bytes-add-up : (f : Framing) → BytesAddUp f
+bytes-add-up f s = sym (add-zero (bytesOf (rule f s))) ∙ add-up f 0 0 s zero-le
+
+-- The rule gives no more frames than there are bytes.
+pub rule-few : (f : Framing) (s : List ℕ) → length (rule f s .frames) ≤ length s
+rule-few f s = omega (arith, bytes-add-up f s, count-used (rule f s .frames) (rule-used f 0 0 s))
+
+module _ (f : Framing) where
+  -- To pass over bytes is to begin behind them.
+  pub rule-pass : (place pass : ℕ) (s : List ℕ) → ruleFrom f place pass s ≡ ruleFrom f (place + pass) 0 (drop pass s)
+  unfolding ruleFrom
+  rule-pass place zero s = rw add-zero
+  rule-pass place (suc pass) [] = refl
+  rule-pass place (suc pass) (b ∷ s) = rule-pass (suc place) pass s ∙ rw (suc-add, add-suc)
+
+  noise-at :
+      (place b : ℕ) (s : List ℕ) (v : Verdict) → NoFrame v →
+      join (outAt place v) (ruleFrom f (suc place) (passAfter v) s) ≡ join noiseByte (ruleFrom f (suc place) 0 s)
+  noise-at place b s cut h = refl
+  noise-at place b s (refused judged n) h = refl
+  noise-at place b s (frame used p) h = absurd h
+
+  -- Where no frame stands, one byte is noise.
+  pub rule-noise :
+      (place b : ℕ) (s : List ℕ) → NoFrame (read f (b ∷ s)) → ruleFrom f place 0 (b ∷ s) ≡ join noiseByte (ruleFrom f (suc place) 0 s)
+  unfolding ruleFrom
+  rule-noise place b s h = noise-at place b s (read f (b ∷ s)) h
+
+  -- A frame is handed out, and the rule goes on behind it.
+  pub rule-frame :
+      (place used : ℕ) (p s : List ℕ) → read f s ≡ frame used p →
+      ruleFrom f place 0 s ≡ join (handed (record { place = place; used = used; payload = p })) (ruleFrom f (place + used) 0 (drop used s))
+  unfolding ruleFrom
+  rule-frame place used p [] e = absurd (not-suc-le-zero (le-trans (frame-sized f [] p used e .some) (frame-sized f [] p used e .there)))
+  rule-frame place zero p (b ∷ s) e = absurd (not-suc-le-zero (frame-sized f (b ∷ s) p zero e .some))
+  rule-frame place (suc used) p (b ∷ s) e =
+      ap (λ (v : Verdict). join (outAt place v) (ruleFrom f (suc place) (passAfter v) s)) e
+      ∙ ap (join (handed (record { place = place; used = suc used; payload = p }))) (rule-pass (suc place) used s ∙ rw (suc-add, add-suc))
+
+-- Payloads of joined outputs are joined payloads.
+pub payloads-join : (a b : Output Found) → payloads (join a b) ≡ join (payloads a) (payloads b)
+unfolding join
+payloads-join a b =
+    λ i. record { frames = map-append (λ (x : Found). x .payload) (a .frames) (b .frames) i; noise = a .noise + b .noise }
+
+-- The payload at a place does not depend on where the place is.
+payloads-at : (place place′ : ℕ) (v : Verdict) → payloads (outAt place v) ≡ payloads (outAt place′ v)
+payloads-at place place′ cut = refl
+payloads-at place place′ (refused judged n) = refl
+payloads-at place place′ (frame used p) = refl
+
+-- The payloads of a segment: what its rule gives, without the places.
+abbrev pub given : Framing → List ℕ → Output (List ℕ)
+given f s = payloads (rule f s)
+
+module _ (f : Framing) where
+  -- Wherever a segment begins, its payloads are the same.
+  pub any-place : (place place′ pass : ℕ) (s : List ℕ) → payloads (ruleFrom f place pass s) ≡ payloads (ruleFrom f place′ pass s)
+  unfolding ruleFrom
+  any-place place place′ pass [] = refl
+  any-place place place′ zero (b ∷ s) =
+      let v = read f (b ∷ s) in
+      payloads-join (outAt place v) (ruleFrom f (suc place) (passAfter v) s)
+      ∙ ap (λ (o : Output (List ℕ)). join o (payloads (ruleFrom f (suc place) (passAfter v) s))) (payloads-at place place′ v)
+      ∙ ap (join (payloads (outAt place′ v))) (any-place (suc place) (suc place′) (passAfter v) s)
+      ∙ sym (payloads-join (outAt place′ v) (ruleFrom f (suc place′) (passAfter v) s))
+  any-place place place′ (suc pass) (b ∷ s) = any-place (suc place) (suc place′) pass s
+
+  -- Where no frame stands, one byte is noise.
+  pub given-noise : (b : ℕ) (s : List ℕ) → NoFrame (read f (b ∷ s)) → given f (b ∷ s) ≡ join noiseByte (given f s)
+  given-noise b s h =
+      ap payloads (rule-noise f 0 b s h) ∙ payloads-join noiseByte (ruleFrom f 1 0 s) ∙ ap (join noiseByte) (any-place 1 0 0 s)
+
+  -- A frame's payload is handed out, and the rule goes on behind it.
+  pub given-frame : (used : ℕ) (p s : List ℕ) → read f s ≡ frame used p → given f s ≡ join (handed p) (given f (drop used s))
+  given-frame used p s e =
+      ap payloads (rule-frame f 0 used p s e)
+      ∙ payloads-join (handed (record { place = 0; used = used; payload = p })) (ruleFrom f (0 + used) 0 (drop used s))
+      ∙ ap (join (handed p)) (any-place (0 + used) 0 0 (drop used s))
+
+-- Of no bytes the rule gives nothing.
+pub given-nil : (f : Framing) → given f [] ≡ nothing
+unfolding ruleFrom
+given-nil f = refl
+
+-- Where what follows makes no frame of an undecided start, the rule over both is the rule over each.
+module _ (f : Framing) (more : List ℕ) (breaks : (b : ℕ) (s : List ℕ) → read f (b ∷ s) ≡ cut → NoFrame (read f ((b ∷ s) ++ more))) where
+  -- What stands in the first part at a place stands there with the second part behind it.
+  split-at :
+      (place b : ℕ) (s : List ℕ) (v : Verdict) → read f (b ∷ s) ≡ v →
+      (ruleFrom f place 0 ((b ∷ s) ++ more) ≡ join (outAt place v) (ruleFrom f (suc place) (passAfter v) (s ++ more)))
+      × (passAfter v ≤ length s)
+  unfolding ruleFrom
+  split-at place b s cut e = (rule-noise f place b (s ++ more) (breaks b s e), zero-le)
+  split-at place b s (refused judged n) e =
+      (rule-noise f place b (s ++ more) (subst NoFrame (sym (read-stands f (b ∷ s) more (refused judged n) tt e)) tt), zero-le)
+  split-at place b s (frame used p) e =
+      let h = frame-sized f (b ∷ s) p used e in
+      let same : read f ((b ∷ s) ++ more) ≡ frame used p = read-stands f (b ∷ s) more (frame used p) tt e in
+      let inside : pred used ≤ length s = omega (arith, h .some, h .there) in
+      (ap (λ (v : Verdict). join (outAt place v) (ruleFrom f (suc place) (passAfter v) (s ++ more))) same, inside)
+
+  -- The rule over both parts.
+  pub rule-split :
+      (place pass : ℕ) (s : List ℕ) → pass ≤ length s →
+      ruleFrom f place pass (s ++ more) ≡ join (ruleFrom f place pass s) (ruleFrom f (place + length s) 0 more)
+  unfolding ruleFrom
+  rule-split place zero [] l = sym (join-nothing (ruleFrom f (place + 0) 0 more) ∙ rw add-zero)
+  rule-split place (suc pass) [] l = absurd (not-suc-le-zero l)
+  rule-split place zero (b ∷ s) l =
+      let v : Verdict = read f (b ∷ s) in
+      let k = split-at place b s v refl in
+      k .0
+      ∙ ap (join (outAt place v)) (rule-split (suc place) (passAfter v) s (k .1))
+      ∙ sym (join-assoc (outAt place v) (ruleFrom f (suc place) (passAfter v) s) (ruleFrom f (suc place + length s) 0 more))
+      ∙ rw (suc-add, add-suc)
+  rule-split place (suc pass) (b ∷ s) l = rule-split (suc place) pass s (le-of-suc-le-suc l) ∙ rw (suc-add, add-suc)

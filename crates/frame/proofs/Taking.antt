@@ -1,0 +1,145 @@
+-- How a line call takes bytes, by what the checks say of all bytes that it may take.
+-- Assumes nothing.
+use Prim.Native.Nat.{ℕ, zero, suc, _+_, _-_, _≤_, _<_, max}
+use native.Mathlib.Nat.{add-zero, zero-add, add-assoc, sub-zero, zero-sub, suc-sub-suc, not-suc-le-zero, le-refl, le-trans}
+use native.Mathlib.Numerals.{one-add}
+use native.Mathlib.Omega.{arith}
+use mathlib.Core.Path.{_≡_, refl, sym, ap, _∙_}
+use mathlib.Core.List.{List, [], _∷_, _++_}
+use lib.ListN.{length, getD, take, drop}
+use lib.Seq.{drop-cons, drop-length, take-suc, take-nil, take-length}
+use Rattle.frame.specs.Checks.{cut, refused, frame}
+use Rattle.frame.specs.Framing.{checks, read}
+use Rattle.frame.specs.Rule.{nothing, noiseByte, handed, join}
+use Rattle.frame.specs.Reader.{Settled, settle, Called, stopped, oneMore, ifFrame, lineFrom, line}
+use Rattle.frame.specs.Scan.{judgedBytes}
+use Rattle.frame.specs.declared.framing.Framing.{Framing}
+use Rattle.frame.proofs.Framings.{frame-sized}
+use Rattle.frame.proofs.Rules.{join-nothing}
+use Rattle.frame.proofs.Prefixes.{enough, too-few, front-undecided, judged-there, refused-sized}
+
+-- A call that took d bytes more.
+abbrev pub more : ℕ → Called → Called
+more d c = record { taken = d + c .taken; out = c .out; held = c .held }
+
+-- A call with k bytes of noise more.
+abbrev pub noisier : ℕ → Called → Called
+noisier k c = record { taken = c .taken; out = record { frames = c .out .frames; noise = k + c .out .noise }; held = c .held }
+
+-- The rest of a front.
+pub drop-take : (k m : ℕ) (s : List ℕ) → drop k (take m s) ≡ take (m - k) (drop k s)
+drop-take zero m s = rw sub-zero
+drop-take (suc k) zero s = rw zero-sub
+drop-take (suc k) (suc m) [] = sym (take-nil (suc m - suc k))
+drop-take (suc k) (suc m) (b ∷ s) = rw suc-sub-suc (drop-take k m s)
+
+-- Noise that came out before a byte was taken does not change the call.
+noise-more :
+    (st : Settled) (c : Called) (fs : List (List ℕ)) →
+    let st′ : Settled = record { out = join noiseByte (st .out); rest = st .rest } in
+    ifFrame fs (stopped st′) (oneMore (st′ .out) c) ≡ noisier 1 (ifFrame fs (stopped st) (oneMore (st .out) c))
+unfolding join
+noise-more st c [] = rw add-assoc
+noise-more st c (p ∷ ps) = refl
+
+module _ (f : Framing) where
+  -- Undecided bytes stay as they are.
+  settle-cut : (h : List ℕ) → read f h ≡ cut → settle (read f) h ≡ record { out = nothing; rest = h }
+  unfolding settle
+  settle-cut [] q = refl
+  settle-cut (b ∷ h) q = rw q
+
+  -- A frame is handed out.
+  settle-frame : (h p : List ℕ) (used : ℕ) → read f h ≡ frame used p → settle (read f) h ≡ record { out = handed p; rest = drop used h }
+  unfolding settle
+  settle-frame [] p used q = let size = frame-sized f [] p used q in absurd (not-suc-le-zero (le-trans (size .some) (size .there)))
+  settle-frame (b ∷ h) p used q = rw q
+
+  -- Behind undecided bytes a further byte is taken.
+  line-more : (h : List ℕ) (b : ℕ) (chunk : List ℕ) → read f h ≡ cut → line f h (b ∷ chunk) ≡ more 1 (line f (h ++ (b ∷ [])) chunk)
+  unfolding line lineFrom
+  line-more h b chunk q =
+      let c : Called = line f (h ++ (b ∷ [])) chunk in
+      rw (settle-cut h q, one-add) (λ i. record { taken = suc (c .taken); out = join-nothing (c .out) i; held = c .held })
+
+  -- A call stops at a frame.
+  line-frame :
+      (h p chunk : List ℕ) (used : ℕ) → read f h ≡ frame used p →
+      line f h chunk ≡ record { taken = 0; out = handed p; held = drop used h }
+  unfolding line lineFrom
+  line-frame h p [] used q = rw (settle-frame h p used q)
+  line-frame h p (b ∷ chunk) used q = rw (settle-frame h p used q)
+
+  -- Nor does it change a call over a whole chunk.
+  noise-first :
+      (st : Settled) (chunk : List ℕ) →
+      lineFrom f (record { out = join noiseByte (st .out); rest = st .rest }) chunk ≡ noisier 1 (lineFrom f st chunk)
+  unfolding lineFrom join
+  noise-first st [] = refl
+  noise-first st (b ∷ chunk) = noise-more st (lineFrom f (settle (read f) (st .rest ++ (b ∷ []))) chunk) (st .out .frames)
+
+  -- A failed start is one byte of noise.
+  line-refused :
+      (b : ℕ) (h chunk : List ℕ) (judged n : ℕ) → read f (b ∷ h) ≡ refused judged n → line f (b ∷ h) chunk ≡ noisier 1 (line f h chunk)
+  unfolding line settle
+  line-refused b h chunk judged n q = rw q (noise-first (settle (read f) h) chunk)
+
+  -- The line call where the first m bytes of s are held and the others are the chunk.
+  abbrev pub lineAt : List ℕ → ℕ → Called
+  lineAt s m = line f (take m s) (drop m s)
+
+  module _ (s : List ℕ) where
+    -- While its front is undecided, bytes are taken.
+    advance :
+        (d m : ℕ) → m + d ≤ length s → ((i : ℕ) → m ≤ i → i < m + d → read f (take i s) ≡ cut) → lineAt s m ≡ more d (lineAt s (m + d))
+    advance zero m l q = rw (add-zero, zero-add)
+    advance (suc d) m l q =
+        let c : Called = lineAt s (m + suc d) in
+        let next : m + suc d ≡ suc m + d = omega arith in
+        let one : lineAt s m ≡ more 1 (lineAt s (suc m)) =
+        rw (drop-cons s m 0 (omega arith), take-suc s m 0 (omega arith))
+        (line-more (take m s) (getD s m 0) (drop (suc m) s) (q m (le-refl m) (omega arith)))
+        in
+        let rest : lineAt s (suc m) ≡ more d (lineAt s (m + suc d)) =
+        rw next (advance d (suc m) (omega arith) (λ i a b. q i (omega arith) (omega arith))) in
+        let count : 1 + (d + c .taken) ≡ suc d + c .taken = omega arith in
+        one ∙ ap (more 1) rest ∙ (λ i. record { taken = count i; out = c .out; held = c .held })
+
+    -- Undecided bytes are all taken.
+    pub line-cut : (m : ℕ) → m ≤ length s → read f s ≡ cut → lineAt s m ≡ record { taken = length s - m; out = nothing; held = s }
+    unfolding line lineFrom
+    line-cut m l q =
+        let all : m + (length s - m) ≡ length s = omega arith in
+        advance (length s - m) m (omega arith) (λ i a b. front-undecided (checks f) s i q)
+        ∙ rw (all, take-length, drop-length, settle-cut s q, add-zero)
+
+    -- Bytes are taken up to a decision, where the first m are not enough for it.
+    pub line-decided :
+        (m : ℕ) → m ≤ length s →
+        let far : ℕ = max m (judgedBytes (read f s)) in
+        lineAt s m ≡ more (far - m) (lineAt s far)
+    line-decided m l =
+        let far : ℕ = max m (judgedBytes (read f s)) in
+        let all : m + (far - m) ≡ far = omega arith in
+        let inside : m + (far - m) ≤ length s = omega (arith, judged-there f s) in
+        rw all at (advance (far - m) m inside (λ i a b. too-few (checks f) s i (omega arith)))
+
+    -- A frame.
+    pub line-found :
+        (m used : ℕ) (p : List ℕ) → m ≤ length s → read f s ≡ frame used p →
+        lineAt s m ≡ record { taken = max m used - m; out = handed p; held = take (max m used - used) (drop used s) }
+    line-found m used p l q =
+        let far : ℕ = max m used in
+        let there : read f (take far s) ≡ frame used p = enough (checks f) s far (rw q tt) (rw q (omega arith)) ∙ q in
+        rw q at (line-decided m l) ∙ rw (line-frame (take far s) p (drop far s) used there, add-zero, drop-take)
+
+  -- A failed start with the bytes judged for it held.
+  pub line-failed :
+      (s : List ℕ) (m judged n : ℕ) → read f s ≡ refused judged n → judged ≤ m → lineAt s m ≡ noisier 1 (lineAt (drop 1 s) (m - 1))
+  line-failed s zero judged n q l = absurd (not-suc-le-zero (le-trans (refused-sized f s judged n q .some) l))
+  line-failed [] (suc m) judged n q l =
+      let size = refused-sized f [] judged n q in absurd (not-suc-le-zero (le-trans (size .some) (size .there)))
+  line-failed (b ∷ s) (suc m) judged n q l =
+      let there : read f (take (suc m) (b ∷ s)) ≡ refused judged n = enough (checks f) (b ∷ s) (suc m) (rw q tt) (rw q l) ∙ q in
+      let less : suc m - 1 ≡ m = omega arith in
+      rw less (line-refused b (take m s) (drop m s) judged n there)

@@ -1,0 +1,26 @@
+-- `frame::reader::hold` meets its contract: the bytes were copied to the front of the array.
+-- Assumes nothing.
+use mathlib.Core.Path.{refl, ap, _∙_}
+use borrow.Author.Needs.{needs}
+use lib.ListN.{length, take, replicate}
+use Rattle.frame.proofs.Lists.{front-of-paste}
+use Rattle.frame.proofs.reader.hold.Statement.{statement}
+use Rattle.frame.proofs.reader.hold.Tie as tie
+
+slice-aggregate-put : tie.Need-slice-aggregate-put
+slice-aggregate-put c = search needs
+
+put-requires : tie.Need-put-requires
+put-requires c κs = search needs
+
+returns : tie.Need-returns
+returns c =
+    let s = c .before .before .before .before .args .s .now in
+    record {
+      framing = refl;
+      count = refl;
+      bytes = ap (take (length s)) (c .before .put .ensures) ∙ front-of-paste (replicate 517 0) s;
+    }
+
+pub hold-spec : {M : Type 1} → statement M
+hold-spec = tie.close (tie.spec slice-aggregate-put put-requires returns)

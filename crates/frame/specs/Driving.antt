@@ -1,0 +1,68 @@
+-- That lists of calls exist and end: however a segment is cut into chunks, a caller gets through it, and no call refuses the reader's own
+-- state. Document 01, "The leftmost rule and the line reader" and last section.
+use Prim.Native.Nat.{ℕ, suc, _+_, _≤_}
+use mathlib.Core.Path.{_≡_}
+use mathlib.Core.List.{List, [], _∷_}
+use lib.ListN.{length, drop}
+use Rattle.frame.specs.Rule.{Output}
+use Rattle.frame.specs.Reader.{newReader, feedValuesOf, quietValuesOf}
+use Rattle.frame.specs.Calls.{Phase, offering, Calls, fed, taken, quieted, emptied, feedRefused, quietRefused, done}
+use Rattle.frame.specs.Recovery.{concat, All}
+use Rattle.frame.specs.declared.framing.Framing.{Framing}
+use Rattle.frame.specs.declared.reader.Reader.{Reader}
+use Rattle.frame.specs.declared.reader.FeedAnswer.{FeedAnswer}
+use Rattle.frame.specs.declared.reader.FeedAnswer.the-variants.{Frame as FeedFrame, NeedsMore, Refused as FeedRefused}
+
+-- The number of calls in a list.
+abbrev pub countOf : {phase : Phase} {r : Reader} {todo : List ℕ} {out : Output (List ℕ)} → Calls phase r todo out → ℕ
+countOf (fed chunk more buf buf′ a p n e later) = suc (countOf later)
+countOf (taken later) = countOf later
+countOf (quieted buf buf′ a p n later) = suc (countOf later)
+countOf (emptied buf buf′ a p n later) = suc (countOf later)
+countOf (feedRefused chunk buf buf′ a p n later) = suc (countOf later)
+countOf (quietRefused buf buf′ a p n later) = suc (countOf later)
+countOf done = 0
+
+-- The numbers of its refusals, in order.
+abbrev pub refusalsOf : {phase : Phase} {r : Reader} {todo : List ℕ} {out : Output (List ℕ)} → Calls phase r todo out → List ℕ
+refusalsOf (fed chunk more buf buf′ a p n e later) = refusalsOf later
+refusalsOf (taken later) = refusalsOf later
+refusalsOf (quieted buf buf′ a p n later) = refusalsOf later
+refusalsOf (emptied buf buf′ a p n later) = refusalsOf later
+refusalsOf (feedRefused chunk buf buf′ a p n later) = feedValuesOf (a .answer) .number ∷ refusalsOf later
+refusalsOf (quietRefused buf buf′ a p n later) = quietValuesOf (a .answer) .number ∷ refusalsOf later
+refusalsOf done = []
+
+-- The chunks still to be offered after an answer to the first: its rest again, until "needs more".
+abbrev pub chunksAfter : FeedAnswer → List ℕ → List (List ℕ) → List (List ℕ)
+chunksAfter (FeedFrame k noise len) chunk chunks = drop k chunk ∷ chunks
+chunksAfter (NeedsMore k noise) chunk chunks = chunks
+chunksAfter (FeedRefused r) chunk chunks = chunk ∷ chunks
+
+-- The calls offer these chunks in order, each one's rest again until "needs more"; then come the quiet calls, up to "empty". None is
+-- refused.
+abbrev pub Offers : {phase : Phase} {r : Reader} {todo : List ℕ} {out : Output (List ℕ)} → Calls phase r todo out → List (List ℕ) → Type 0
+Offers (fed offered more buf buf′ a p n e later) [] = ⊥
+Offers (fed offered more buf buf′ a p n e later) (chunk ∷ chunks) = (offered ≡ chunk) × Offers later (chunksAfter (a .answer) chunk chunks)
+Offers (taken later) [] = Offers later []
+Offers (taken later) (chunk ∷ chunks) = ⊥
+Offers (quieted buf buf′ a p n later) chunks = Offers later chunks
+Offers (emptied buf buf′ a p n later) chunks = Offers later chunks
+Offers (feedRefused offered buf buf′ a p n later) chunks = ⊥
+Offers (quietRefused buf buf′ a p n later) chunks = ⊥
+Offers done chunks = chunks ≡ []
+
+-- A caller gets a segment through a new reader in these chunks, with no more calls than chunks and bytes, and one.
+pub record Driven (f : Framing) (chunks : List (List ℕ)) : Type 0 where
+  pub out : Output (List ℕ)
+  pub calls : Calls offering (newReader f) (concat chunks) out
+  pub offers : Offers calls chunks
+  pub few : countOf calls ≤ length chunks + length (concat chunks) + 1
+
+abbrev pub CanDrive : Framing → Type 0
+CanDrive f = (chunks : List (List ℕ)) → All (λ chunk. length chunk ≤ 65536) chunks → Driven f chunks
+
+-- No call in a list from a new reader refuses the state that it gets.
+abbrev pub StateNeverRefused : Framing → Type 0
+StateNeverRefused f =
+    (segment : List ℕ) (out : Output (List ℕ)) (calls : Calls offering (newReader f) segment out) → All (λ n. n ≡ 16 → ⊥) (refusalsOf calls)

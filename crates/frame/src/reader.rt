@@ -1,0 +1,305 @@
+// The line reader: frames out of chunks of a serial line, as they come.
+use crate::copy::put;
+use crate::framing::Framing;
+use crate::framing::unpack;
+use crate::refusal::Refusal;
+use crate::scan::ScanEnd;
+use crate::scan::ScanResult;
+use crate::scan::scan;
+use crate::scan::smaller;
+ghost use mathlib.Core.Path.{_≡_};
+ghost use Prim.Native.Nat.{_≤_};
+ghost use lib.ListN.{length};
+ghost use Rattle.frame.specs.Framing.{limit, inFront};
+ghost use Rattle.frame.specs.Judged.{payloadAt, payloadEnd};
+ghost use Rattle.frame.specs.Reader.{newReader, heldIn, quiet, Holds, Feeds, Quiets};
+ghost use Rattle.frame.specs.Scan.{scanned, calledBy, scanChunk, scanLine, Joins, Answerable, ChunkFed, HeldFed, Answered, QuietAnswered};
+
+// A reader's state, by value: its framing and the bytes that it holds, the first `count` of `held`.
+pub struct Reader {
+    pub framing: Framing,
+    pub held: [u8; 517],
+    pub count: usize,
+}
+
+pub enum FeedAnswer {
+    // A frame: `taken` bytes of the chunk were taken, `noise` bytes were settled as noise, and the payload of `len` bytes is in the buffer.
+    Frame {
+        taken: usize,
+        noise: usize,
+        len: usize,
+    },
+    // The whole chunk was taken, and more bytes are needed.
+    NeedsMore {
+        taken: usize,
+        noise: usize,
+    },
+    Refused(Refusal),
+}
+
+// The answer to a chunk, with the state that follows.
+pub struct Fed {
+    pub reader: Reader,
+    pub answer: FeedAnswer,
+}
+
+pub enum QuietAnswer {
+    // A frame among the held bytes.
+    Frame { noise: usize, len: usize },
+    // No frame is left, and the state is a new reader's.
+    Empty { noise: usize },
+    Refused(Refusal),
+}
+
+// The answer to a quiet, with the state that follows.
+pub struct Quieted {
+    pub reader: Reader,
+    pub answer: QuietAnswer,
+}
+
+// The held bytes of a state, and as much of a chunk as a frame that begins in them can have: the first `size` of `bytes`.
+struct Joined {
+    bytes: [u8; 1034],
+    size: usize,
+}
+
+// What was there before a scan: held bytes in front of the chunk, noise bytes settled, and the chunk's length.
+struct Before {
+    base: usize,
+    noise: usize,
+    size: usize,
+}
+
+// The longest frame of a framing.
+fn limit_of(framing: Framing) -> usize
+    ensures { λ r. ⌜ r ≡ limit framing ⌝ }
+{
+    match framing {
+        Framing::Binary => Reader::MAX_BINARY,
+        Framing::Ascii => Reader::MAX_ASCII,
+    }
+}
+
+// A state that holds the bytes of s.
+fn hold(framing: Framing, s: &[u8]) -> Reader
+    requires { ⌜ length (now s) ≤ 517 ⌝ }
+    ensures { λ r. ⌜ Holds framing (now (s .entry)) r ⌝ }
+{
+    let mut held = [0u8; 517];
+    put(&mut held, 0, s);
+    let count = s.len();
+    Reader {
+        framing,
+        held,
+        count,
+    }
+}
+
+// Puts the payload of the frame at the front of s into the front of buf, and gives a state that holds the bytes of rest.
+fn hand_out(framing: Framing, s: &[u8], len: usize, rest: &[u8], buf: &mut [u8]) -> Reader
+    requires { ⌜ (payloadEnd framing len ≤ length (now s)) × (len ≤ length (now buf)) × (length (now rest) ≤ 517) ⌝ }
+    ensures { λ r. ⌜ (Holds framing (now (rest .entry)) r) × (now (buf .exit) ≡ inFront (payloadAt framing (now (s .entry)) len) (now (buf .entry))) ⌝ }
+{
+    unpack(framing, s, len, buf);
+    hold(framing, rest)
+}
+
+// Joins the held bytes and the chunk's front.
+fn join(reader: Reader, chunk: &[u8]) -> Joined
+    requires { ⌜ reader .count ≤ limit (reader .framing) ⌝ }
+    ensures { λ r. ⌜ Joins (reader .framing) (heldIn reader) (now (chunk .entry)) r ⌝ }
+{
+    let framing = reader.framing;
+    let count = reader.count;
+    let held = reader.held;
+    let whole = &held[..];
+    let more = smaller(chunk.len(), limit_of(framing));
+    let mut bytes = [0u8; 1034];
+    put(&mut bytes, 0, &whole[..count]);
+    put(&mut bytes, count, &chunk[..more]);
+    let size = count + more;
+    Joined { bytes, size }
+}
+
+// The answer to a scan of w, and the state that follows.
+fn answer(framing: Framing, w: &[u8], found: ScanResult, before: Before, buf: &mut [u8]) -> Fed
+    requires { ⌜ Answerable framing (now w) (scanned framing (now w) found) before (now buf) ⌝ }
+    ensures { λ r. ⌜ Answered framing (calledBy before (now (w .entry)) (scanned framing (now (w .entry)) found)) (now (buf .entry)) r (now (buf .exit)) ⌝ }
+{
+    let place = found.place;
+    let far = found.reach;
+    let end = found.end;
+    let noise = before.noise + place;
+    let taken = before.size;
+    match end {
+        ScanEnd::Frame { used, len } => {
+            let next = place + used;
+            let taken = far - before.base;
+            let reader = hand_out(framing, &w[place..], len, &w[next..far], buf);
+            Fed {
+                reader: reader,
+                answer: FeedAnswer::Frame { taken, noise, len },
+            }
+        }
+        ScanEnd::Undecided => {
+            let reader = hold(framing, &w[place..]);
+            Fed {
+                reader: reader,
+                answer: FeedAnswer::NeedsMore { taken, noise },
+            }
+        }
+        ScanEnd::Passed => Fed {
+            reader: Reader::new(framing),
+            answer: FeedAnswer::NeedsMore { taken, noise },
+        },
+    }
+}
+
+// Finds the next frame in a chunk of which the first `reach` bytes were judged before, where `noise` bytes before the chunk were settled and
+// none is held.
+fn feed_chunk(framing: Framing, chunk: &[u8], reach: usize, noise: usize, buf: &mut [u8]) -> Fed
+    requires { ⌜ ChunkFed framing (now chunk) reach noise (now buf) ⌝ }
+    ensures { λ r. ⌜ Answered framing (scanChunk framing noise reach (now (chunk .entry))) (now (buf .entry)) r (now (buf .exit)) ⌝ }
+{
+    let size = chunk.len();
+    let found = scan(framing, chunk, size, reach, false);
+    let before = Before {
+        base: 0,
+        noise: noise,
+        size: size,
+    };
+    answer(framing, chunk, found, before, buf)
+}
+
+// Finds the next frame where bytes are held: at the places among them first, then in the chunk.
+fn feed_held(reader: Reader, chunk: &[u8], buf: &mut [u8]) -> Fed
+    requires { ⌜ HeldFed reader (now chunk) (now buf) ⌝ }
+    ensures { λ r. ⌜ Answered (reader .framing) (scanLine (reader .framing) (heldIn reader) (now (chunk .entry))) (now (buf .entry)) r (now (buf .exit)) ⌝ }
+{
+    let framing = reader.framing;
+    let count = reader.count;
+    let joined = join(reader, chunk);
+    let size = joined.size;
+    let bytes = joined.bytes;
+    let whole = &bytes[..];
+    let w = &whole[..size];
+    let found = scan(framing, w, count, count, false);
+    let far = found.reach;
+    let end = found.end;
+    if let ScanEnd::Passed = end {
+        return feed_chunk(framing, chunk, far - count, count, buf);
+    }
+    let before = Before {
+        base: count,
+        noise: 0,
+        size: chunk.len(),
+    };
+    answer(framing, w, found, before, buf)
+}
+
+// The next frame in the bytes that end a segment.
+fn quiet_held(framing: Framing, s: &[u8], buf: &mut [u8]) -> Quieted
+    requires { ⌜ (length (now s) ≤ limit framing) × (256 ≤ length (now buf)) ⌝ }
+    ensures { λ r. ⌜ QuietAnswered framing (quiet framing (now (s .entry))) (now (buf .entry)) r (now (buf .exit)) ⌝ }
+{
+    let found = scan(framing, s, s.len(), 0, true);
+    let place = found.place;
+    let end = found.end;
+    match end {
+        ScanEnd::Frame { used, len } => {
+            let next = place + used;
+            let reader = hand_out(framing, &s[place..], len, &s[next..], buf);
+            Quieted {
+                reader: reader,
+                answer: QuietAnswer::Frame {
+                    noise: place,
+                    len: len,
+                },
+            }
+        }
+        ScanEnd::Undecided => Quieted {
+            reader: Reader::new(framing),
+            answer: QuietAnswer::Empty { noise: place },
+        },
+        ScanEnd::Passed => Quieted {
+            reader: Reader::new(framing),
+            answer: QuietAnswer::Empty { noise: place },
+        },
+    }
+}
+
+impl Reader {
+    // The longest payload.
+    pub const MAX_PAYLOAD: usize = 256;
+    // The longest frame in binary framing.
+    pub const MAX_BINARY: usize = 262;
+    // The longest frame in ASCII framing.
+    pub const MAX_ASCII: usize = 517;
+
+    // A new reader for a framing.
+    pub fn new(framing: Framing) -> Self
+        ensures { λ r. ⌜ r ≡ newReader framing ⌝ }
+    {
+        Reader {
+            framing: framing,
+            held: [0u8; Reader::MAX_ASCII],
+            count: 0,
+        }
+    }
+
+    // Takes bytes of a chunk up to the end of the next frame, whose payload goes to the front of buf; the rest of buf stays. Call it again with the
+    // chunk's rest, even an empty one, until more bytes are needed. Refused with 16 where the state holds more bytes than a frame has, 13 where
+    // buf has under 256 bytes, 15 where the chunk has over 65,536; a refusal leaves state and buffer.
+    pub fn feed(self, chunk: &[u8], buf: &mut [u8]) -> Fed
+        ensures { λ r. ⌜ Feeds self (now (chunk .entry)) (now (buf .entry)) r (now (buf .exit)) ⌝ }
+    {
+        let framing = self.framing;
+        let count = self.count;
+        if limit_of(framing) < count {
+            return Fed {
+                reader: self,
+                answer: FeedAnswer::Refused(Refusal::State),
+            };
+        }
+        if buf.len() < Reader::MAX_PAYLOAD {
+            return Fed {
+                reader: self,
+                answer: FeedAnswer::Refused(Refusal::Buffer),
+            };
+        }
+        if 65536 < chunk.len() {
+            return Fed {
+                reader: self,
+                answer: FeedAnswer::Refused(Refusal::Chunk),
+            };
+        }
+        if count == 0 {
+            return feed_chunk(framing, chunk, 0, 0, buf);
+        }
+        feed_held(self, chunk, buf)
+    }
+
+    // The line was quiet: the held bytes end their segment. Gives the next frame in them, as `feed` does, or a new reader's state. Call it
+    // again until it is empty. Refused with 16, 13 as `feed` is.
+    pub fn quiet(self, buf: &mut [u8]) -> Quieted
+        ensures { λ r. ⌜ Quiets self (now (buf .entry)) r (now (buf .exit)) ⌝ }
+    {
+        let framing = self.framing;
+        let count = self.count;
+        if limit_of(framing) < count {
+            return Quieted {
+                reader: self,
+                answer: QuietAnswer::Refused(Refusal::State),
+            };
+        }
+        if buf.len() < Reader::MAX_PAYLOAD {
+            return Quieted {
+                reader: self,
+                answer: QuietAnswer::Refused(Refusal::Buffer),
+            };
+        }
+        let held = self.held;
+        let whole = &held[..];
+        quiet_held(framing, &whole[..count], buf)
+    }
+}
