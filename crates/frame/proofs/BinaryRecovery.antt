@@ -14,9 +14,9 @@ use lib.ListN.{length, getD, drop, length-append, length-drop}
 use lib.Seq.{drop-append-le, drop-append-add, getD-append-add, getD-drop}
 use Rattle.frame.specs.Checks.{Verdict, cut, refused, frame}
 use Rattle.frame.specs.Framing.{read}
-use Rattle.frame.specs.Rule.{Output, join, Found, outAt, passAfter, ruleFrom}
+use Rattle.frame.specs.Rule.{Output, join, Found, outAt, passAfter, ruleFrom, rule}
 use Rattle.frame.specs.Recovery.{Stretch, none, another, concat, payloadIn, foundsFrom, starts, PairsBegin, select, All, reaches}
-use Rattle.frame.specs.Recovery.{inNone, Recovered, BinaryRecovers, LateFramesComeBack}
+use Rattle.frame.specs.Recovery.{inNone, clearOf, earlyOf, Recovered, BinaryRecovers, LateFramesComeBack}
 use Rattle.frame.specs.declared.framing.Framing.{Framing}
 use Rattle.frame.specs.declared.framing.Framing.the-variants.{Binary}
 use Rattle.frame.proofs.Numbers.{le-or-lt}
@@ -348,6 +348,34 @@ pairs-from : (place : ℕ) (gs : List (List ℕ)) → PairsBegin gs → PairsFro
 pairs-from place gs pairs i k =
     subst (λ (q : ℕ). List·Memᴰ (place + i) (starts q gs)) (add-zero place) (starts-shift place 0 gs i (pairs i (k .0) (k .1) (k .2)))
 
+-- A test that the first of two lists passes and the second fails selects the first.
+select-first :
+    (q : Found → Bool) (xs ys : List Found) → All (λ x. q x ≡ true) xs → select q ys ≡ [] → select q (xs ++ ys) ≡ xs
+select-first q [] ys h e = e
+select-first q (x ∷ xs) ys h e =
+    ap₂ (λ (t : Bool) (zs : List Found). cond t (x ∷ zs) zs) (h .0) (select-first q xs ys (h .1) e)
+
+-- Frames that begin before a bound pass the test for it.
+before-bound : (bound : ℕ) (xs : List Found) → All (λ x. x .place < bound) xs → All (λ x. ltb (x .place) bound ≡ true) xs
+before-bound bound [] h = tt
+before-bound bound (x ∷ xs) h = (lt-ltb (x .place) bound (h .0), before-bound bound xs (h .1))
+
+-- No frame of a stretch begins before it, whichever are selected.
+none-before :
+    (q : Found → Bool) (place bound : ℕ) (gs : List (List ℕ)) → bound ≤ place →
+    select (λ x. ltb (x .place) bound) (select q (foundsFrom Binary place gs)) ≡ []
+none-before q place bound [] l = refl
+none-before q place bound (g ∷ gs) l = with-first (q (foundAt Binary place g)) (none-before q (place + length g) bound gs (omega arith))
+  where
+    later : List Found
+    later = select q (foundsFrom Binary (place + length g) gs)
+
+    with-first :
+        (t : Bool) → select (λ x. ltb (x .place) bound) later ≡ [] →
+        select (λ x. ltb (x .place) bound) (cond t (foundAt Binary place g ∷ later) later) ≡ []
+    with-first true e = ap₂ (λ (t : Bool) (zs : List Found). cond t (foundAt Binary place g ∷ zs) zs) (le-ltb place bound l) e
+    with-first false e = e
+
 -- Behind damage: the frames that begin in it, then the good frames whose first byte lies in none of them.
 pub binary-recovers : BinaryRecovers
 binary-recovers damage gs st pairs =
@@ -358,17 +386,21 @@ binary-recovers damage gs st pairs =
     sym (w .clear (x .place) l)
     ∙ ap (λ (t : Bool). inNone (x .place) (w .early) && t) (le-leb 0 (x .place) zero-le)
     ∙ and-true (inNone (x .place) (w .early)) in
+    let frames : rule Binary (damage ++ concat gs) .frames ≡ w .early ++ clearOf (w .early) damage gs =
+    w .frames
+    ∙ ap
+    (λ (xs : List Found). w .early ++ xs)
+    (rule-into end (w .left) st (pairs-from end gs pairs)
+    ∙ select-same Binary end gs (λ x. leb (end + w .left) (x .place)) (λ x. inNone (x .place) (w .early)) same) in
+    let early : w .early ≡ earlyOf damage gs =
+    sym
+    (ap (select (λ x. ltb (x .place) end)) frames
+    ∙ select-first (λ x. ltb (x .place) end) (w .early) (clearOf (w .early) damage gs) (before-bound end (w .early) (w .begin))
+    (none-before (λ x. inNone (x .place) (w .early)) end end gs (le-refl end))) in
     record {
-      early = w .early;
-      begin = w .begin;
-      one = w .one;
-      reach = w .reach;
-      frames =
-          w .frames
-          ∙ ap
-          (λ (xs : List Found). w .early ++ xs)
-          (rule-into end (w .left) st (pairs-from end gs pairs)
-          ∙ select-same Binary end gs (λ x. leb (end + w .left) (x .place)) (λ x. inNone (x .place) (w .early)) same);
+      one = subst (λ (xs : List Found). length (select (reaches end) xs) ≤ 1) early (w .one);
+      reach = subst (All (λ x. x .place + x .used ≤ end + 260)) early (w .reach);
+      frames = frames ∙ ap (λ (xs : List Found). xs ++ clearOf xs damage gs) early;
     }
 
 -- A place behind all that frames reach lies in none of them.
@@ -394,18 +426,24 @@ mem-select q (y ∷ ys) x t m =
     mem-cond true k = List·Memᴰ·tail k
     mem-cond false k = k
 
--- Every good frame that begins 260 or more bytes into the stretch is handed out.
+-- A good frame that begins 260 or more bytes into the stretch is clear of the frames that begin in the damage.
+pub late-clear :
+    (damage : List ℕ) (gs : List (List ℕ)) → Recovered damage gs → (x : Found) → List·Memᴰ x (foundsFrom Binary (length damage) gs) →
+    length damage + 260 ≤ x .place → List·Memᴰ x (clearOf (earlyOf damage gs) damage gs)
+late-clear damage gs r x m l =
+    let early : List Found = earlyOf damage gs in
+    mem-select
+    (λ y. inNone (y .place) early)
+    (foundsFrom Binary (length damage) gs)
+    x
+    (far (length damage + 260) (x .place) early (r .reach) l)
+    m
+
+-- So it is handed out.
 pub late-frames-come-back : LateFramesComeBack
 late-frames-come-back damage gs st pairs x m l =
     let r : Recovered damage gs = binary-recovers damage gs st pairs in
     subst
     (λ (xs : List Found). List·Memᴰ x xs)
     (sym (r .frames))
-    (Memᴰ·append-right
-    (r .early)
-    (mem-select
-    (λ y. inNone (y .place) (r .early))
-    (foundsFrom Binary (length damage) gs)
-    x
-    (far (length damage + 260) (x .place) (r .early) (r .reach) l)
-    m))
+    (Memᴰ·append-right (earlyOf damage gs) (late-clear damage gs r x m l))

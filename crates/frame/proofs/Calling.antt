@@ -11,10 +11,11 @@ use lib.Seq.{take-append-seam}
 use Rattle.frame.specs.Refusal.{numberOf}
 use Rattle.frame.specs.Rule.{Output, nothing, join}
 use Rattle.frame.specs.Reader.{Called, line, quiet, heldIn, Holds, Values, refusalValues, feedValuesOf, quietValuesOf, calledValues}
-use Rattle.frame.specs.Reader.{valuesAt, bufferAt, Promise, Feeds, AfterQuiet, Quiets}
+use Rattle.frame.specs.Reader.{valuesAt, bufferAt, Promise, Feeds, AfterQuiet, Quiets, newReader}
 use Rattle.frame.specs.Calls.{FeedIsRefused, QuietIsRefused, takenIn, feedOut, quietOut, IsEmpty, IsQuietFrame, Phase, offering}
 use Rattle.frame.specs.Calls.{ending, over, Calls, fed, taken, quieted, emptied, feedRefused, quietRefused, done}
 use Rattle.frame.specs.Recovery.{CallsFollowRule}
+use Rattle.frame.specs.Driving.{lastState, EndsFresh}
 use Rattle.frame.specs.declared.framing.Framing.{Framing}
 use Rattle.frame.specs.declared.refusal.Refusal.{Refusal}
 use Rattle.frame.specs.declared.refusal.Refusal.the-variants.{Start, Cut, Length, Checksum, Footer, Character, Buffer, Payload, Chunk}
@@ -185,6 +186,25 @@ quiet-empty (QuietFrame n l) h = absurd h
 quiet-empty (Empty n) h = (refl, refl)
 quiet-empty (QuietRefused r) h = absurd h
 
+-- The state that a quiet call with a frame gives back.
+frame-holds :
+    {r : Reader} (buf buf′ : List ℕ) (a : Quieted) → Quiets r buf a buf′ → IsQuietFrame (a .answer) →
+    Holds (r .framing) (quiet (r .framing) (heldIn r) .held) (a .reader)
+frame-holds {r} buf buf′ a p n =
+    let c : Called = quiet (r .framing) (heldIn r) in
+    let k = quiet-frame (a .answer) n in
+    let h = answered p (k .0) in
+    after-frame (r .framing) c (c .out .frames) (a .reader) (ap (λ (v : Values). v .isFrame) (sym (h .0)) ∙ k .1) (h .1)
+
+-- A quiet call that answers "empty" hands out no payload.
+empty-none :
+    {r : Reader} (buf buf′ : List ℕ) (a : Quieted) → Quiets r buf a buf′ → IsEmpty (a .answer) →
+    quiet (r .framing) (heldIn r) .out .frames ≡ []
+empty-none {r} buf buf′ a p n =
+    let c : Called = quiet (r .framing) (heldIn r) in
+    let k = quiet-empty (a .answer) n in
+    no-frames c (c .out .frames) (ap (λ (v : Values). v .isFrame) (sym (answered p (k .0) .0)) ∙ k .1)
+
 -- A quiet call with a frame hands out the first part of what is left.
 quieted-gives :
     {r : Reader} {out : Output (List ℕ)} (buf buf′ : List ℕ) (a : Quieted) → Quiets r buf a buf′ → IsQuietFrame (a .answer) →
@@ -192,11 +212,8 @@ quieted-gives :
 quieted-gives {r} buf buf′ a p n g =
     let f : Framing = r .framing in
     let c : Called = quiet f (heldIn r) in
-    let k = quiet-frame (a .answer) n in
-    let h = answered p (k .0) in
-    let after : Holds f (c .held) (a .reader) =
-    after-frame f c (c .out .frames) (a .reader) (ap (λ (v : Values). v .isFrame) (sym (h .0)) ∙ k .1) (h .1) in
-    quiet-out buf buf′ a p (k .0) (g ∙ holds-given after [] ∙ ap (given f) (append-nil (c .held)))
+    let after : Holds f (c .held) (a .reader) = frame-holds buf buf′ a p n in
+    quiet-out buf buf′ a p (quiet-frame (a .answer) n .0) (g ∙ holds-given after [] ∙ ap (given f) (append-nil (c .held)))
 
 -- A quiet call that answers "empty" hands out the rest, which is noise.
 emptied-gives :
@@ -204,11 +221,8 @@ emptied-gives :
     Gives over (a .reader) [] out → Gives ending r [] (join (quietOut (a .answer) buf′) out)
 emptied-gives {r} buf buf′ a p n g =
     let f : Framing = r .framing in
-    let c : Called = quiet f (heldIn r) in
-    let k = quiet-empty (a .answer) n in
-    let h = answered p (k .0) in
-    let none : c .out .frames ≡ [] = no-frames c (c .out .frames) (ap (λ (v : Values). v .isFrame) (sym (h .0)) ∙ k .1) in
-    quiet-out buf buf′ a p (k .0) (g ∙ sym (given-nil f) ∙ ap (given f) (sym (quiet-left f (heldIn r) none)))
+    let none : quiet f (heldIn r) .out .frames ≡ [] = empty-none buf buf′ a p n in
+    quiet-out buf buf′ a p (quiet-empty (a .answer) n .0) (g ∙ sym (given-nil f) ∙ ap (given f) (sym (quiet-left f (heldIn r) none)))
 
 -- Whatever the calls, they hand out what the rule gives over the held bytes and those still to be taken.
 calls-give : {phase : Phase} {r : Reader} {todo : List ℕ} {out : Output (List ℕ)} → Calls phase r todo out → Gives phase r todo out
@@ -225,3 +239,34 @@ calls-give done = refl
 -- Any list of calls hands out what the rule gives over the whole segment.
 pub calls-follow-rule : (f : Framing) → CallsFollowRule f
 calls-follow-rule f segment out k = calls-give k
+
+-- The state in which a list of calls from r ends: a new reader's; behind "empty" the same.
+abbrev endOf : Phase → Reader → Reader
+endOf offering r = newReader (r .framing)
+endOf ending r = newReader (r .framing)
+endOf over r = r
+
+-- Behind "empty" stands a new reader's state.
+emptied-fresh :
+    {r : Reader} (buf buf′ : List ℕ) (a : Quieted) → Quiets r buf a buf′ → IsEmpty (a .answer) → a .reader ≡ newReader (r .framing)
+emptied-fresh {r} buf buf′ a p n =
+    let c : Called = quiet (r .framing) (heldIn r) in
+    subst
+    (λ (fs : List (List ℕ)). AfterQuiet (r .framing) c fs (a .reader))
+    (empty-none buf buf′ a p n)
+    (answered p (quiet-empty (a .answer) n .0) .1)
+
+-- Whatever the calls, they end so.
+ends-so :
+    {phase : Phase} {r : Reader} {todo : List ℕ} {out : Output (List ℕ)} (calls : Calls phase r todo out) → lastState calls ≡ endOf phase r
+ends-so (fed chunk more buf buf′ a p n e k) = ends-so k ∙ ap newReader (answered p (feed-answered (a .answer) n) .1 .framing)
+ends-so (taken k) = ends-so k
+ends-so (quieted buf buf′ a p n k) = ends-so k ∙ ap newReader (frame-holds buf buf′ a p n .framing)
+ends-so (emptied buf buf′ a p n k) = ends-so k ∙ emptied-fresh buf buf′ a p n
+ends-so (feedRefused {phase} chunk buf buf′ a p n k) = ends-so k ∙ ap (endOf phase) (refusing p (feed-refused (a .answer) n) .1)
+ends-so (quietRefused {phase} buf buf′ a p n k) = ends-so k ∙ ap (endOf phase) (refusing p (quiet-refused (a .answer) n) .1)
+ends-so done = refl
+
+-- A list of calls from a new reader ends in a new reader's state.
+pub ends-fresh : (f : Framing) → EndsFresh f
+ends-fresh f segment out calls = ends-so calls

@@ -1,8 +1,8 @@
 -- Good frames behind damage, by any list of calls.
 -- Assumes nothing.
 use Prim.Native.Nat.{ℕ, _+_}
-use mathlib.Core.Path.{_≡_, refl, sym, ap, _∙_, subst}
-use mathlib.Core.List.{List, [], _∷_, _++_, map, List·Memᴰ, List·Memᴰ·head, List·Memᴰ·tail}
+use mathlib.Core.Path.{_≡_, refl, ap, _∙_}
+use mathlib.Core.List.{List, [], _∷_, _++_, map}
 use lib.ListN.{length}
 use Rattle.frame.specs.Framing.{read}
 use Rattle.frame.specs.Rule.{Output, join, Found, rule, payloads}
@@ -13,17 +13,12 @@ use Rattle.frame.proofs.Rules.{payloads-join}
 use Rattle.frame.proofs.Calling.{calls-follow-rule}
 use Rattle.frame.proofs.Stretches.{clean-line}
 use Rattle.frame.proofs.AsciiRecovery.{ascii-recovers}
-use Rattle.frame.proofs.BinaryRecovery.{binary-recovers, late-frames-come-back}
+use Rattle.frame.proofs.BinaryRecovery.{binary-recovers, late-clear}
 
 -- The payloads of a stretch's frames, wherever it begins.
 founds-payloads : (f : Framing) (place : ℕ) (gs : List (List ℕ)) → map (λ (x : Found). x .payload) (foundsFrom f place gs) ≡ payloadsOf f gs
 founds-payloads f place [] = refl
 founds-payloads f place (g ∷ gs) = ap (λ (ps : List (List ℕ)). payloadIn (read f g) ∷ ps) (founds-payloads f (place + length g) gs)
-
--- A frame's payload is among the payloads.
-mem-payload : {x : Found} {xs : List Found} → List·Memᴰ x xs → List·Memᴰ (x .payload) (map (λ (y : Found). y .payload) xs)
-mem-payload (List·Memᴰ·head e) = List·Memᴰ·head (ap (λ (y : Found). y .payload) e)
-mem-payload (List·Memᴰ·tail m) = List·Memᴰ·tail (mem-payload m)
 
 -- In ASCII framing: what the damage alone gives, then every good frame's payload.
 pub ascii-calls-recover : AsciiCallsRecover
@@ -45,11 +40,7 @@ binary-calls-recover damage gs out st pairs calls =
     record {
       found = r;
       frames = frames ∙ ap (map (λ (x : Found). x .payload)) (r .frames);
-      late = λ x m l.
-          subst
-          (λ (ps : List (List ℕ)). List·Memᴰ (x .payload) ps)
-          (sym frames)
-          (mem-payload (late-frames-come-back damage gs st pairs x m l));
+      late = λ x m l. late-clear damage gs r x m l;
       noise = ap (λ (o : Output (List ℕ)). o .noise) e;
     }
 

@@ -14,18 +14,22 @@ use Rattle.frame.specs.Framing.{limit, inFront}
 use Rattle.frame.specs.Rule.{Output, nothing, join, Found, rule}
 use Rattle.frame.specs.Reader.{Called, line, quiet, newReader, heldIn, Holds, calledValues, bufferAt, quietRefusal, feedRefusal}
 use Rattle.frame.specs.Reader.{Promise, Feeds, AfterQuiet, Quiets}
-use Rattle.frame.specs.Calls.{quietOut, feedOut, offering, ending, Calls, fed, taken, quieted, emptied, done}
+use Rattle.frame.specs.Calls.{FeedIsRefused, IsQuietFrame, quietOut, feedOut, Phase, offering, ending, over}
+use Rattle.frame.specs.Calls.{Calls, fed, taken, quieted, emptied, feedRefused, quietRefused, done}
 use Rattle.frame.specs.Recovery.{concat, All}
-use Rattle.frame.specs.Driving.{countOf, Offers, CanDrive}
+use Rattle.frame.specs.Driving.{countOf, chunksAfter, Offers, CanDrive, DrivesAreShort}
 use Rattle.frame.specs.declared.framing.Framing.{Framing}
 use Rattle.frame.specs.declared.reader.Reader.{Reader}
 use Rattle.frame.specs.declared.reader.Fed.{Fed}
-use Rattle.frame.specs.declared.reader.FeedAnswer.the-variants.{Frame as FeedFrame, NeedsMore}
+use Rattle.frame.specs.declared.reader.FeedAnswer.{FeedAnswer}
+use Rattle.frame.specs.declared.reader.FeedAnswer.the-variants.{Frame as FeedFrame, NeedsMore, Refused as FeedRefused}
 use Rattle.frame.specs.declared.reader.Quieted.{Quieted}
-use Rattle.frame.specs.declared.reader.QuietAnswer.the-variants.{Frame as QuietFrame, Empty}
+use Rattle.frame.specs.declared.reader.QuietAnswer.{QuietAnswer}
+use Rattle.frame.specs.declared.reader.QuietAnswer.the-variants.{Frame as QuietFrame, Empty, Refused as QuietRefused}
 use Rattle.frame.proofs.Rules.{given, given-nil, rule-few}
 use Rattle.frame.proofs.Settling.{line-rule, line-one, line-taken, line-size, quiet-rule, quiet-one, quiet-left, quiet-size}
 use Rattle.frame.proofs.Settling.{needs-more-is-true}
+use Rattle.frame.proofs.Calling.{calls-follow-rule}
 use Rattle.frame.proofs.Refusals.{StateFits, fits-held, holds-fits}
 
 -- A state with these held bytes.
@@ -267,11 +271,65 @@ goes (suc n) r todo (chunk ∷ chunks) l e short z =
     goes-on n r todo chunk chunks l e short z (λ r′ todo′ chunks′. goes n r′ todo′ chunks′)
     (line (r .framing) (heldIn r) chunk .out .frames) refl
 
+-- A segment has no more payloads than bytes.
+payloads-few : (f : Framing) (s : List ℕ) → payloadsIn f s ≤ length s
+payloads-few f s = rw (length-map (rule f s .frames) (λ (x : Found). x .payload)) (rule-few f s)
+
 -- However a segment is cut into chunks, a caller gets it through a new reader.
 pub can-drive : (f : Framing) → CanDrive f
 can-drive f chunks short =
     let n : ℕ = payloadsIn f (concat chunks) + length chunks in
     let k : Goes (newReader f) (concat chunks) chunks n = goes n (newReader f) (concat chunks) chunks zero-le refl short refl in
-    let few : payloadsIn f (concat chunks) ≤ length (concat chunks) =
-    rw (length-map (rule f (concat chunks) .frames) (λ (x : Found). x .payload)) (rule-few f (concat chunks)) in
-    record { out = k .out; calls = k .calls; offers = k .offers; few = omega (arith, k .count) }
+    record { out = k .out; calls = k .calls; offers = k .offers; few = omega (arith, k .count, payloads-few f (concat chunks)) }
+
+-- The call that says "empty" is still to come, or not.
+abbrev lastCalls : Phase → ℕ
+lastCalls offering = 1
+lastCalls ending = 1
+lastCalls over = 0
+
+-- A line call hands out a payload, or is done with the chunk.
+fed-uses :
+    (a : FeedAnswer) (after chunk : List ℕ) (chunks : List (List ℕ)) (out : Output (List ℕ)) → (FeedIsRefused a → ⊥) →
+    suc (length (out .frames) + length (chunksAfter a chunk chunks)) ≡ length (join (feedOut a after) out .frames) + length (chunk ∷ chunks)
+unfolding join
+fed-uses (FeedFrame k noise len) after chunk chunks out n = omega arith
+fed-uses (NeedsMore k noise) after chunk chunks out n = omega arith
+fed-uses (FeedRefused r) after chunk chunks out n = absurd (n tt)
+
+-- A quiet call with a frame hands out a payload.
+quieted-uses :
+    (a : QuietAnswer) (after : List ℕ) (out : Output (List ℕ)) → IsQuietFrame a →
+    length (join (quietOut a after) out .frames) ≡ suc (length (out .frames))
+unfolding join
+quieted-uses (QuietFrame noise len) after out n = refl
+quieted-uses (Empty noise) after out n = absurd n
+quieted-uses (QuietRefused r) after out n = absurd n
+
+-- No call hands out less than nothing.
+joined-more : (a out : Output (List ℕ)) → length (out .frames) ≤ length (join a out .frames)
+joined-more a out = rw (join-count (join a out) a out refl) (omega arith)
+
+-- Calls that offer these chunks are no more than the payloads that they hand out and the chunks, and one.
+few-calls :
+    {phase : Phase} {r : Reader} {todo : List ℕ} {out : Output (List ℕ)} (calls : Calls phase r todo out) (chunks : List (List ℕ)) →
+    Offers calls chunks → countOf calls ≤ length (out .frames) + length chunks + lastCalls phase
+few-calls (fed offered more buf buf′ a p n e later) [] o = absurd o
+few-calls (fed {out = out} offered more buf buf′ a p n e later) (chunk ∷ chunks) o =
+    omega (arith, few-calls later (chunksAfter (a .answer) chunk chunks) (o .1), fed-uses (a .answer) buf′ chunk chunks out n)
+few-calls (taken later) [] o = few-calls later [] o
+few-calls (taken later) (chunk ∷ chunks) o = absurd o
+few-calls (quieted {out = out} buf buf′ a p n later) chunks o =
+    omega (arith, few-calls later chunks o, quieted-uses (a .answer) buf′ out n)
+few-calls (emptied {out = out} buf buf′ a p n later) chunks o =
+    omega (arith, few-calls later chunks o, joined-more (quietOut (a .answer) buf′) out)
+few-calls (feedRefused offered buf buf′ a p n later) chunks o = absurd o
+few-calls (quietRefused buf buf′ a p n later) chunks o = absurd o
+few-calls done chunks o = zero-le
+
+-- However a caller offers a segment in chunks, the calls are no more than chunks and bytes, and one.
+pub drives-are-short : (f : Framing) → DrivesAreShort f
+drives-are-short f chunks out calls o =
+    let all : length (out .frames) ≡ payloadsIn f (concat chunks) =
+    ap (λ (x : Output (List ℕ)). length (x .frames)) (calls-follow-rule f (concat chunks) out calls) in
+    omega (arith, few-calls calls chunks o, payloads-few f (concat chunks))

@@ -3,7 +3,7 @@
 use Prim.Native.Nat.{ℕ, _≤_, zero-le}
 use native.Mathlib.Nat.{le-trans}
 use native.Mathlib.Omega.{arith}
-use mathlib.Core.Path.{_≡_, sym, ap, _∙_, subst}
+use mathlib.Core.Path.{_≡_, refl, sym, ap, _∙_, subst}
 use mathlib.Core.List.{List, [], _∷_}
 use mathlib.Core.Bool.{Bool, true, false, cond}
 use borrow.Author.Tests.{le-leb}
@@ -12,15 +12,14 @@ use lib.ListN.{length, length-take}
 use Rattle.frame.specs.Framing.{limit}
 use Rattle.frame.specs.Rule.{Output}
 use Rattle.frame.specs.Reader.{Called, quiet, heldIn, Holds, Values, feedValuesOf, quietValuesOf, quietRefusal, feedRefusal}
-use Rattle.frame.specs.Reader.{AfterQuiet, Quiets}
+use Rattle.frame.specs.Reader.{Promise, AfterQuiet}
 use Rattle.frame.specs.Calls.{Phase, Calls, fed, taken, quieted, emptied, feedRefused, quietRefused, done}
 use Rattle.frame.specs.Recovery.{All}
-use Rattle.frame.specs.Driving.{refusalsOf, StateNeverRefused}
+use Rattle.frame.specs.Driving.{refusalsOf, StateNeverRefused, FeedStaysInLimit, QuietStaysInLimit}
 use Rattle.frame.specs.declared.framing.Framing.{Framing}
 use Rattle.frame.specs.declared.reader.Reader.{Reader}
-use Rattle.frame.specs.declared.reader.Quieted.{Quieted}
 use Rattle.frame.proofs.Settling.{line-size, quiet-size}
-use Rattle.frame.proofs.Calling.{answered, refusing, feed-answered, feed-refused, quiet-refused, quiet-frame, quiet-empty}
+use Rattle.frame.proofs.Calling.{refusing, feed-refused, quiet-refused}
 
 -- A state that holds no more than a frame can have.
 abbrev pub StateFits : Reader → Type 0
@@ -30,9 +29,21 @@ StateFits r = r .count ≤ limit (r .framing)
 pub fits-held : (r : Reader) → StateFits r → length (heldIn r) ≤ limit (r .framing)
 fits-held r l = rw length-take (omega arith)
 
--- A state that holds no more than that fits.
+-- The framing is this one, and the held bytes are within its limit.
+abbrev InLimit : Framing → Reader → Type 0
+InLimit f r = (r .framing ≡ f) × (r .count ≤ limit f)
+
+-- Such a state fits.
+in-limit-fits : {f : Framing} (r : Reader) → InLimit f r → StateFits r
+in-limit-fits r h = rw (h .0) (h .1)
+
+-- A state that holds no more bytes than the limit is within it.
+holds-in-limit : {f : Framing} {h : List ℕ} {r : Reader} → Holds f h r → length h ≤ limit f → InLimit f r
+holds-in-limit k l = (k .framing, rw (k .count) l)
+
+-- A state that holds no more than a frame can have fits.
 pub holds-fits : {f : Framing} {h : List ℕ} {r : Reader} → Holds f h r → length h ≤ limit f → StateFits r
-holds-fits k l = rw (k .framing, k .count) l
+holds-fits {r = r} k l = in-limit-fits r (holds-in-limit k l)
 
 -- Such a state is not refused.
 other-refusal : (a b : Bool) → _≡_ {A = ℕ} (cond a (cond b 0 15) 13) 16 → ⊥
@@ -56,28 +67,41 @@ quiet-other r room l e =
     other-refusal (leb 256 room) true
     (sym (ap (λ (t : Bool). cond t (cond (leb 256 room) 0 13) 16) (le-leb (r .count) (limit (r .framing)) l)) ∙ e)
 
--- After a quiet call the state fits.
-after-fits : (f : Framing) (c : Called) (fs : List (List ℕ)) (r : Reader) → AfterQuiet f c fs r → length (c .held) ≤ limit f → StateFits r
-after-fits f c [] r h l = subst StateFits (sym h) zero-le
-after-fits f c (p ∷ ps) r h l = holds-fits h l
+-- A refused call leaves the state as it was; any other leaves one that follows.
+stays :
+    {number : ℕ} {c : Called} {Next : Reader → Type 0} {r : Reader} {buf : List ℕ} {values : Values} {r′ : Reader} {buf′ : List ℕ} →
+    Promise number c Next r buf values r′ buf′ → StateFits r → (Next r′ → InLimit (r .framing) r′) → InLimit (r .framing) r′
+stays {number} {r = r} {r′ = r′} p l next = by-refusal (eqb number 0) refl
+  where
+    by-refusal : (q : Bool) → eqb number 0 ≡ q → InLimit (r .framing) r′
+    by-refusal true e = next (p .answers e .1)
+    by-refusal false e = subst (InLimit (r .framing)) (sym (p .refuses e .1)) (refl, l)
 
--- So does the state that an answered quiet call gives back.
-quieted-fits :
-    {r : Reader} (buf buf′ : List ℕ) (a : Quieted) → Quiets r buf a buf′ → eqb (quietValuesOf (a .answer) .number) 0 ≡ true → StateFits r →
-    StateFits (a .reader)
-quieted-fits {r} buf buf′ a p z l =
+-- The state after a quiet call is within the limit, where its held bytes are.
+after-in-limit :
+    (f : Framing) (c : Called) (fs : List (List ℕ)) (r : Reader) → AfterQuiet f c fs r → length (c .held) ≤ limit f → InLimit f r
+after-in-limit f c [] r h l = subst (InLimit f) (sym h) (refl, zero-le)
+after-in-limit f c (p ∷ ps) r h l = holds-in-limit h l
+
+-- A line call keeps held bytes within the limit, whatever state it gets.
+pub feed-stays-in-limit : FeedStaysInLimit
+feed-stays-in-limit r chunk buf a buf′ p l = stays p l (λ k. holds-in-limit k (line-size (r .framing) (heldIn r) chunk (fits-held r l)))
+
+-- So does a quiet call.
+pub quiet-stays-in-limit : QuietStaysInLimit
+quiet-stays-in-limit r buf a buf′ p l =
     let c : Called = quiet (r .framing) (heldIn r) in
-    after-fits (r .framing) c (c .out .frames) (a .reader) (answered p z .1) (le-trans (quiet-size (r .framing) (heldIn r)) (fits-held r l))
+    stays p l (λ k.
+    after-in-limit (r .framing) c (c .out .frames) (a .reader) k (le-trans (quiet-size (r .framing) (heldIn r)) (fits-held r l)))
 
 -- Whatever the calls, from a state that fits on.
 never :
     {phase : Phase} {r : Reader} {todo : List ℕ} {out : Output (List ℕ)} (calls : Calls phase r todo out) → StateFits r →
     All (λ n. n ≡ 16 → ⊥) (refusalsOf calls)
-never (fed {r} chunk more buf buf′ a p n e later) l =
-    never later (holds-fits (answered p (feed-answered (a .answer) n) .1) (line-size (r .framing) (heldIn r) chunk (fits-held r l)))
+never (fed {r} chunk more buf buf′ a p n e later) l = never later (in-limit-fits (a .reader) (feed-stays-in-limit r chunk buf a buf′ p l))
 never (taken later) l = never later l
-never (quieted buf buf′ a p n later) l = never later (quieted-fits buf buf′ a p (quiet-frame (a .answer) n .0) l)
-never (emptied buf buf′ a p n later) l = never later (quieted-fits buf buf′ a p (quiet-empty (a .answer) n .0) l)
+never (quieted {r} buf buf′ a p n later) l = never later (in-limit-fits (a .reader) (quiet-stays-in-limit r buf a buf′ p l))
+never (emptied {r} buf buf′ a p n later) l = never later (in-limit-fits (a .reader) (quiet-stays-in-limit r buf a buf′ p l))
 never (feedRefused {r = r} chunk buf buf′ a p n later) l =
     let h = refusing p (feed-refused (a .answer) n) in
     let number : feedValuesOf (a .answer) .number ≡ feedRefusal r (length buf) (length chunk) = ap (λ (v : Values). v .number) (h .0) in

@@ -1,17 +1,18 @@
 -- How a line call takes bytes, by what the checks say of all bytes that it may take.
 -- Assumes nothing.
-use Prim.Native.Nat.{ℕ, zero, suc, _+_, _-_, _≤_, _<_, max}
+use Prim.Native.Nat.{ℕ, zero, suc, _+_, _-_, _≤_, _<_, max, zero-le}
 use native.Mathlib.Nat.{add-zero, zero-add, add-assoc, sub-zero, zero-sub, suc-sub-suc, not-suc-le-zero, le-refl, le-trans}
 use native.Mathlib.Numerals.{one-add}
 use native.Mathlib.Omega.{arith}
-use mathlib.Core.Path.{_≡_, refl, sym, ap, _∙_}
+use mathlib.Core.Path.{_≡_, refl, sym, ap, ap₂, _∙_}
 use mathlib.Core.List.{List, [], _∷_, _++_}
-use lib.ListN.{length, getD, take, drop}
-use lib.Seq.{drop-cons, drop-length, take-suc, take-nil, take-length}
-use Rattle.frame.specs.Checks.{cut, refused, frame}
+use lib.ListN.{length, getD, take, drop, length-append}
+use lib.Seq.{drop-cons, drop-length, take-suc, take-nil, take-length, take-append-seam, drop-append-seam}
+use Rattle.frame.specs.Checks.{Verdict, cut, refused, frame}
 use Rattle.frame.specs.Framing.{checks, read}
 use Rattle.frame.specs.Rule.{nothing, noiseByte, handed, join}
-use Rattle.frame.specs.Reader.{Settled, settle, Called, stopped, oneMore, ifFrame, lineFrom, line}
+use Rattle.frame.specs.Reader.{Settled, settleAs, settle, Called, stopped, oneMore, ifFrame, lineFrom, line}
+use Rattle.frame.specs.Recovery.{HeldIsHeard}
 use Rattle.frame.specs.Scan.{judgedBytes}
 use Rattle.frame.specs.declared.framing.Framing.{Framing}
 use Rattle.frame.proofs.Framings.{frame-sized}
@@ -143,3 +144,33 @@ module _ (f : Framing) where
       let there : read f (take (suc m) (b ∷ s)) ≡ refused judged n = enough (checks f) (b ∷ s) (suc m) (rw q tt) (rw q l) ∙ q in
       let less : suc m - 1 ≡ m = omega arith in
       rw less (line-refused b (take m s) (drop m s) judged n there)
+
+  -- One place of what a call hands out, whichever bytes of s were held.
+  hears-at :
+      (b m : ℕ) (s : List ℕ) (v : Verdict) → read f (b ∷ s) ≡ v → m ≤ length (b ∷ s) →
+      ((k : ℕ) → k ≤ length s → lineAt s k .out ≡ settle (read f) s .out) →
+      lineAt (b ∷ s) m .out ≡ settleAs v (b ∷ s) (settle (read f) s) .out
+  unfolding join
+  hears-at b m s cut q l later = ap (λ (c : Called). c .out) (line-cut (b ∷ s) m l q)
+  hears-at b m s (refused judged n) q l later =
+      let far : ℕ = max m judged in
+      let size = refused-sized f (b ∷ s) judged n q in
+      ap (λ (c : Called). c .out) (rw q at (line-decided (b ∷ s) m l))
+      ∙ ap (λ (c : Called). c .out) (line-failed (b ∷ s) far judged n q (omega arith))
+      ∙ ap (join noiseByte) (later (far - 1) (omega (arith, size .there)))
+  hears-at b m s (frame used p) q l later = ap (λ (c : Called). c .out) (line-found (b ∷ s) m used p l q)
+
+  -- What a call hands out is what all its bytes give when judged at once.
+  hears : (s : List ℕ) (m : ℕ) → m ≤ length s → lineAt s m .out ≡ settle (read f) s .out
+  unfolding line lineFrom settle
+  hears [] zero l = refl
+  hears [] (suc m) l = absurd (not-suc-le-zero l)
+  hears (b ∷ s) m l = hears-at b m s (read f (b ∷ s)) refl l (hears s)
+
+  -- The held bytes count as if the chunk began with them.
+  pub held-is-heard : HeldIsHeard f
+  held-is-heard held chunk =
+      let s : List ℕ = held ++ chunk in
+      ap₂ (λ (h c : List ℕ). line f h c .out) (sym (take-append-seam held chunk)) (sym (drop-append-seam held chunk))
+      ∙ hears s (length held) (rw length-append (omega arith))
+      ∙ sym (hears s 0 zero-le)

@@ -9,9 +9,9 @@ use Rattle.frame.specs.Framing.{checks}
 use Rattle.frame.specs.Rule.{join}
 use Rattle.frame.specs.Reader.{settle, lineFrom, line, quiet}
 use Rattle.frame.specs.Claims.{LayoutReads, OneSpelling, DecisionStands, UndecidedIsShort, FrameIsSized}
-use Rattle.frame.specs.Recovery.{BytesAddUp, NeedsMoreIsTrue, CallsFollowRule, CleanLine, AsciiRecovers, BinaryRecovers}
+use Rattle.frame.specs.Recovery.{BytesAddUp, NeedsMoreIsTrue, HeldIsHeard, CallsFollowRule, CleanLine, AsciiRecovers, BinaryRecovers}
 use Rattle.frame.specs.Recovery.{LateFramesComeBack, AsciiCallsRecover, BinaryCallsRecover, CleanCalls}
-use Rattle.frame.specs.Driving.{CanDrive, StateNeverRefused}
+use Rattle.frame.specs.Driving.{CanDrive, DrivesAreShort, StateNeverRefused, FeedStaysInLimit, QuietStaysInLimit, EndsFresh}
 use Rattle.frame.specs.RecoveryExamples.{LostAndBack, ProvisoNeeded}
 use Rattle.frame.specs.Examples.{Examples}
 use Rattle.frame.specs.declared.framing.Framing.{Framing}
@@ -29,6 +29,7 @@ use Rattle.frame.proofs.BinaryRecovery as binary-recovery
 use Rattle.frame.proofs.CallsRecovery as calls-recovery
 use Rattle.frame.proofs.Driving as driving
 use Rattle.frame.proofs.Refusals as refusals
+use Rattle.frame.proofs.Taking as taking
 use Rattle.frame.proofs.RecoveryExamples as recovery-examples
 
 pub layout-reads : (f : Framing) → LayoutReads f
@@ -53,6 +54,9 @@ bytes-add-up = rules.bytes-add-up
 
 pub needs-more-is-true : (f : Framing) → NeedsMoreIsTrue f
 needs-more-is-true = settling.needs-more-is-true
+
+pub held-is-heard : (f : Framing) → HeldIsHeard f
+held-is-heard = taking.held-is-heard
 
 pub calls-follow-rule : (f : Framing) → CallsFollowRule f
 calls-follow-rule = calling.calls-follow-rule
@@ -81,8 +85,20 @@ clean-calls = calls-recovery.clean-calls
 pub can-drive : (f : Framing) → CanDrive f
 can-drive = driving.can-drive
 
+pub drives-are-short : (f : Framing) → DrivesAreShort f
+drives-are-short = driving.drives-are-short
+
 pub state-never-refused : (f : Framing) → StateNeverRefused f
 state-never-refused = refusals.state-never-refused
+
+pub feed-stays-in-limit : FeedStaysInLimit
+feed-stays-in-limit = refusals.feed-stays-in-limit
+
+pub quiet-stays-in-limit : QuietStaysInLimit
+quiet-stays-in-limit = refusals.quiet-stays-in-limit
+
+pub ends-fresh : (f : Framing) → EndsFresh f
+ends-fresh = calling.ends-fresh
 
 pub lost-and-back : LostAndBack
 lost-and-back = recovery-examples.lost-and-back

@@ -4,14 +4,17 @@ use Prim.Native.Nat.{ℕ, suc, _+_, _≤_}
 use mathlib.Core.Path.{_≡_}
 use mathlib.Core.List.{List, [], _∷_}
 use lib.ListN.{length, drop}
+use Rattle.frame.specs.Framing.{limit}
 use Rattle.frame.specs.Rule.{Output}
-use Rattle.frame.specs.Reader.{newReader, feedValuesOf, quietValuesOf}
+use Rattle.frame.specs.Reader.{newReader, feedValuesOf, quietValuesOf, Feeds, Quiets}
 use Rattle.frame.specs.Calls.{Phase, offering, Calls, fed, taken, quieted, emptied, feedRefused, quietRefused, done}
 use Rattle.frame.specs.Recovery.{concat, All}
 use Rattle.frame.specs.declared.framing.Framing.{Framing}
 use Rattle.frame.specs.declared.reader.Reader.{Reader}
+use Rattle.frame.specs.declared.reader.Fed.{Fed}
 use Rattle.frame.specs.declared.reader.FeedAnswer.{FeedAnswer}
 use Rattle.frame.specs.declared.reader.FeedAnswer.the-variants.{Frame as FeedFrame, NeedsMore, Refused as FeedRefused}
+use Rattle.frame.specs.declared.reader.Quieted.{Quieted}
 
 -- The number of calls in a list.
 abbrev pub countOf : {phase : Phase} {r : Reader} {todo : List ℕ} {out : Output (List ℕ)} → Calls phase r todo out → ℕ
@@ -32,6 +35,16 @@ refusalsOf (emptied buf buf′ a p n later) = refusalsOf later
 refusalsOf (feedRefused chunk buf buf′ a p n later) = feedValuesOf (a .answer) .number ∷ refusalsOf later
 refusalsOf (quietRefused buf buf′ a p n later) = quietValuesOf (a .answer) .number ∷ refusalsOf later
 refusalsOf done = []
+
+-- The state at its end.
+abbrev pub lastState : {phase : Phase} {r : Reader} {todo : List ℕ} {out : Output (List ℕ)} → Calls phase r todo out → Reader
+lastState (fed chunk more buf buf′ a p n e later) = lastState later
+lastState (taken later) = lastState later
+lastState (quieted buf buf′ a p n later) = lastState later
+lastState (emptied buf buf′ a p n later) = lastState later
+lastState (feedRefused chunk buf buf′ a p n later) = lastState later
+lastState (quietRefused buf buf′ a p n later) = lastState later
+lastState (done {r}) = r
 
 -- The chunks still to be offered after an answer to the first: its rest again, until "needs more".
 abbrev pub chunksAfter : FeedAnswer → List ℕ → List (List ℕ) → List (List ℕ)
@@ -62,7 +75,30 @@ pub record Driven (f : Framing) (chunks : List (List ℕ)) : Type 0 where
 abbrev pub CanDrive : Framing → Type 0
 CanDrive f = (chunks : List (List ℕ)) → All (λ chunk. length chunk ≤ 65536) chunks → Driven f chunks
 
+-- However a caller offers a segment in chunks, the calls are no more than chunks and bytes, and one.
+abbrev pub DrivesAreShort : Framing → Type 0
+DrivesAreShort f =
+    (chunks : List (List ℕ)) (out : Output (List ℕ)) (calls : Calls offering (newReader f) (concat chunks) out) → Offers calls chunks →
+    countOf calls ≤ length chunks + length (concat chunks) + 1
+
 -- No call in a list from a new reader refuses the state that it gets.
 abbrev pub StateNeverRefused : Framing → Type 0
 StateNeverRefused f =
     (segment : List ℕ) (out : Output (List ℕ)) (calls : Calls offering (newReader f) segment out) → All (λ n. n ≡ 16 → ⊥) (refusalsOf calls)
+
+-- Whatever state a line call gets: held bytes within the limit stay within it, and the framing stays.
+abbrev pub FeedStaysInLimit : Type 0
+FeedStaysInLimit =
+    (r : Reader) (chunk buf : List ℕ) (a : Fed) (buf′ : List ℕ) → Feeds r chunk buf a buf′ → r .count ≤ limit (r .framing) →
+    (a .reader .framing ≡ r .framing) × (a .reader .count ≤ limit (r .framing))
+
+-- The same of a quiet call.
+abbrev pub QuietStaysInLimit : Type 0
+QuietStaysInLimit =
+    (r : Reader) (buf : List ℕ) (a : Quieted) (buf′ : List ℕ) → Quiets r buf a buf′ → r .count ≤ limit (r .framing) →
+    (a .reader .framing ≡ r .framing) × (a .reader .count ≤ limit (r .framing))
+
+-- A list of calls from a new reader ends in a new reader's state.
+abbrev pub EndsFresh : Framing → Type 0
+EndsFresh f =
+    (segment : List ℕ) (out : Output (List ℕ)) (calls : Calls offering (newReader f) segment out) → lastState calls ≡ newReader f

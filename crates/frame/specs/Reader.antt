@@ -63,7 +63,7 @@ lineFrom f st (b ∷ chunk) =
 unfoldable pub line : Framing → List ℕ → List ℕ → Called
 line f held chunk = lineFrom f (settle (read f) held) chunk
 
--- At a quiet the held bytes end the segment: an unfinished frame fails like any other.
+-- At a quiet the held bytes end the segment: an unfinished frame fails like any other. (How many bytes were judged is of no use here.)
 abbrev pub ended : Verdict → Verdict
 ended cut = refused 0 2
 ended (refused judged n) = refused judged n
@@ -128,7 +128,8 @@ quietRefusal r room = cond (leb (r .count) (limit (r .framing))) (cond (leb 256 
 abbrev pub feedRefusal : Reader → ℕ → ℕ → ℕ
 feedRefusal r room size = cond (leb (r .count) (limit (r .framing))) (cond (leb 256 room) (cond (leb size 65536) 0 15) 13) 16
 
--- What a call promises, where its refusal is `number` and otherwise it gives c and leaves `next`: numbers, state and buffer.
+-- What a call promises, where its refusal is `number`, 0 for none, and otherwise it gives c and the state that follows has the property Next:
+-- numbers, state and buffer.
 pub record Promise (number : ℕ) (c : Called) (Next : Reader → Type 0) (r : Reader) (buf : List ℕ) (values : Values) (r′ : Reader) (buf′ : List ℕ) : Type 0 where
   pub refuses : (eqb number 0 ≡ false) → (values ≡ refusalValues number) × (r′ ≡ r) × (buf′ ≡ buf)
   pub answers : (eqb number 0 ≡ true) → (values ≡ valuesAt c) × Next r′ × (buf′ ≡ bufferAt (c .out .frames) buf)

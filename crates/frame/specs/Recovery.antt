@@ -80,14 +80,16 @@ inNone place (x ∷ xs) = not (leb (x .place) place && ltb place (x .place + x .
 abbrev pub clearOf : List Found → List ℕ → List (List ℕ) → List Found
 clearOf early damage gs = select (λ x. inNone (x .place) early) (foundsFrom Binary (length damage) gs)
 
+-- The frames that the rule over damage and a stretch in binary framing hands out and that begin in the damage.
+abbrev pub earlyOf : List ℕ → List (List ℕ) → List Found
+earlyOf damage gs = select (λ x. ltb (x .place) (length damage)) (rule Binary (damage ++ concat gs) .frames)
+
 -- The rule over damage and a stretch in binary framing: the frames that begin in the damage; at most one of them reaches into the stretch,
 -- and none further than its first 260 bytes; then, in order, exactly the good frames whose first byte lies in none of them.
 pub record Recovered (damage : List ℕ) (gs : List (List ℕ)) : Type 0 where
-  pub early : List Found
-  pub begin : All (λ x. x .place < length damage) early
-  pub one : length (select (reaches (length damage)) early) ≤ 1
-  pub reach : All (λ x. x .place + x .used ≤ length damage + 260) early
-  pub frames : rule Binary (damage ++ concat gs) .frames ≡ early ++ clearOf early damage gs
+  pub one : length (select (reaches (length damage)) (earlyOf damage gs)) ≤ 1
+  pub reach : All (λ x. x .place + x .used ≤ length damage + 260) (earlyOf damage gs)
+  pub frames : rule Binary (damage ++ concat gs) .frames ≡ earlyOf damage gs ++ clearOf (earlyOf damage gs) damage gs
 
 abbrev pub BinaryRecovers : Type 0
 BinaryRecovers = (damage : List ℕ) (gs : List (List ℕ)) → Stretch Binary gs → PairsBegin gs → Recovered damage gs
@@ -120,13 +122,13 @@ AsciiCallsRecover =
     out ≡ join (payloads (rule Ascii damage)) (record { frames = payloadsOf Ascii gs; noise = 0 })
 
 -- What calls over damage and a stretch in binary framing hand out: the payloads of the frames that begin in the damage, then those of the
--- good frames clear of them, and so of all that begin 260 or more bytes into the stretch; the noise is the rule's.
+-- good frames clear of them, among which are all that begin 260 or more bytes into the stretch; the noise is the rule's.
 pub record CallsRecovered (damage : List ℕ) (gs : List (List ℕ)) (out : Output (List ℕ)) : Type 0 where
   pub found : Recovered damage gs
-  pub frames : out .frames ≡ map (λ (x : Found). x .payload) (found .early ++ clearOf (found .early) damage gs)
+  pub frames : out .frames ≡ map (λ (x : Found). x .payload) (earlyOf damage gs ++ clearOf (earlyOf damage gs) damage gs)
   pub late :
       (x : Found) → List·Memᴰ x (foundsFrom Binary (length damage) gs) → length damage + 260 ≤ x .place →
-      List·Memᴰ (x .payload) (out .frames)
+      List·Memᴰ x (clearOf (earlyOf damage gs) damage gs)
   pub noise : out .noise ≡ rule Binary (damage ++ concat gs) .noise
 
 abbrev pub BinaryCallsRecover : Type 0
@@ -153,3 +155,7 @@ abbrev pub NeedsMoreIsTrue : Framing → Type 0
 NeedsMoreIsTrue f =
     (held chunk : List ℕ) → line f held chunk .out .frames ≡ [] →
     (line f held chunk .taken ≡ length chunk) × ((line f held chunk .held ≡ []) ⊎ (read f (line f held chunk .held) ≡ cut))
+
+-- A line call that holds nothing hands out the same, noise too, over the held bytes followed by the chunk.
+abbrev pub HeldIsHeard : Framing → Type 0
+HeldIsHeard f = (held chunk : List ℕ) → line f held chunk .out ≡ line f [] (held ++ chunk) .out

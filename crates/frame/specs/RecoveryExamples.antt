@@ -12,7 +12,7 @@ use Rattle.frame.specs.declared.framing.Framing.the-variants.{Binary}
 abbrev pub response : List ℕ
 response = 0xA5 ∷ 0x5A ∷ 0x80 ∷ 0x04 ∷ 0xDB ∷ 0xA1 ∷ 0x80 ∷ 0x01 ∷ 0xFB ∷ 0x04 ∷ []
 
--- A frame whose payload is n times 00, for n below 256.
+-- A frame whose payload is n times 00, for n from 1 to 255.
 abbrev pub blank : ℕ → List ℕ
 blank n = 0xA5 ∷ 0x5A ∷ 0x80 ∷ n ∷ (replicate n 0 ++ (0x00 ∷ 0x04 ∷ []))
 

@@ -229,11 +229,11 @@ fn quiet_held(framing: Framing, s: &[u8], buf: &mut [u8]) -> Quieted
 }
 
 impl Reader {
-    // The longest payload.
+    // The longest payload, 256 bytes as in `Payload` of specs/Checks.antt.
     pub const MAX_PAYLOAD: usize = 256;
-    // The longest frame in binary framing.
+    // The longest frame in binary framing, `limit Binary` of specs/Framing.antt.
     pub const MAX_BINARY: usize = 262;
-    // The longest frame in ASCII framing.
+    // The longest frame in ASCII framing, `limit Ascii`, which is also the length of a state's array.
     pub const MAX_ASCII: usize = 517;
 
     // A new reader for a framing.
@@ -247,9 +247,10 @@ impl Reader {
         }
     }
 
-    // Takes bytes of a chunk up to the end of the next frame, whose payload goes to the front of buf; the rest of buf stays. Call it again with the
-    // chunk's rest, even an empty one, until more bytes are needed. Refused with 16 where the state holds more bytes than a frame has, 13 where
-    // buf has under 256 bytes, 15 where the chunk has over 65,536; a refusal leaves state and buffer.
+    // Takes bytes of a chunk until the next frame is settled, whose payload goes to the front of buf; the rest of buf stays. Bytes that were taken
+    // behind the frame, where an earlier start failed late, are held. Call it again with the chunk's rest, even an empty one, until more bytes are
+    // needed. Refused with 16 where the state holds more bytes than a frame can have, 13 where buf has under 256 bytes, 15 where the chunk has over
+    // 65,536; a refusal leaves state and buffer.
     pub fn feed(self, chunk: &[u8], buf: &mut [u8]) -> Fed
         ensures { λ r. ⌜ Feeds self (now (chunk .entry)) (now (buf .entry)) r (now (buf .exit)) ⌝ }
     {

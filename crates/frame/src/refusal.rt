@@ -13,7 +13,7 @@ pub enum Refusal {
     Checksum,
     // 5: the frame's end is another one.
     Footer,
-    // 6: a character that is no digit.
+    // 6: a character that is neither a digit nor CR.
     Character,
     // 13: the buffer is too short.
     Buffer,
