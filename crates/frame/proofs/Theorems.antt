@@ -1,19 +1,12 @@
--- The claims of specs/, each proved: specs/Claims.antt and the claims on calls and damage for both framings, and the examples.
+-- The claims of specs/, each proved: specs/Claims.antt and the claims on calls and damage for both framings.
 -- Every export has its statement in specs/; a crate above this one names this module alone.
 -- Assumes nothing.
-use mathlib.Core.Path.{refl}
-use Rattle.frame.specs.Checks.{byte, test, word, bytes}
-use Rattle.frame.specs.Binary.{footer, body, binary}
-use Rattle.frame.specs.Ascii.{isDigit, digitValue, digits, lineEnd, afterDigits, ascii}
 use Rattle.frame.specs.Framing.{checks}
-use Rattle.frame.specs.Rule.{join}
-use Rattle.frame.specs.Reader.{settle, lineFrom, line, quiet}
 use Rattle.frame.specs.Claims.{LayoutReads, OneSpelling, DecisionStands, UndecidedIsShort, FrameIsSized}
 use Rattle.frame.specs.Recovery.{BytesAddUp, NeedsMoreIsTrue, HeldIsHeard, CallsFollowRule, CleanLine, AsciiRecovers, BinaryRecovers}
 use Rattle.frame.specs.Recovery.{LateFramesComeBack, AsciiCallsRecover, BinaryCallsRecover, CleanCalls}
 use Rattle.frame.specs.Driving.{CanDrive, DrivesAreShort, StateNeverRefused, FeedStaysInLimit, QuietStaysInLimit, EndsFresh}
 use Rattle.frame.specs.RecoveryExamples.{LostAndBack, ProvisoNeeded}
-use Rattle.frame.specs.Examples.{Examples}
 use Rattle.frame.specs.declared.framing.Framing.{Framing}
 use Rattle.frame.specs.declared.framing.Framing.the-variants.{Binary, Ascii}
 use Rattle.frame.proofs.Trees.{stands}
@@ -105,7 +98,3 @@ lost-and-back = recovery-examples.lost-and-back
 
 pub proviso-needed : ProvisoNeeded
 proviso-needed = recovery-examples.proviso-needed
-
-pub examples : Examples
-unfolding byte test word bytes footer body binary isDigit digitValue digits lineEnd afterDigits ascii join settle lineFrom line quiet
-examples = refl

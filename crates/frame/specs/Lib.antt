@@ -16,4 +16,3 @@ pub mod RecoveryExamples
 -- Behind the public calls: what the functions that they are made of answer. Nothing here has to be believed.
 pub mod Judged
 pub mod Scan
-pub mod Examples

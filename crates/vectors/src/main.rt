@@ -1,26 +1,32 @@
-// Runs frames through the public calls of the crate frame and prints what each gives.
+// Runs frames and payloads through the public calls of the crates frame and message and prints what each gives.
 //
 // Standard input, of which 65,536 bytes are read, has a row to a line, and empty lines are passed over:
 // - `# ..`: a heading, printed as it is. The rows under one that ends in `not counted` stay out of the totals.
 // - `:..`: an ASCII frame without its CR LF, which is added.
 // - `ascii ..`: bytes in ASCII framing, as hex pairs with a space between; `ascii` alone is the empty slice.
 // - `binary ..`, or the pairs alone: bytes in binary framing.
+// - `payload ..`: a payload, as hex pairs.
 //
-// A row prints `frame`, the bytes used, the payload and whether it is written back as the bytes that were read; or `refused` and
-// the number. The last line has the totals.
+// A frame's row prints `frame`, the bytes used, the payload and whether it is written back as the bytes that were read, and what
+// the payload means to the module and from it; or `refused` and the number. A payload's row prints itself and both meanings. The
+// last line has the totals of the frames' rows.
+mod meaning;
+mod show;
+
 use frame::Framing;
 use frame::ReadAnswer;
 use frame::Refusal;
 use frame::WriteAnswer;
 use libc::STDIN_FILENO;
 use libc::STDOUT_FILENO;
-ghost use Prim.Native.Nat.{_+_, _*_, _≤_, _<_};
+ghost use Prim.Native.Nat.{_+_, _≤_, _<_};
 ghost use lib.ListN.{length};
 ghost use Rattle.io.specs.Counts.{Counts};
 
 // What became of a line.
 enum Row {
-    Blank,
+    // An empty line or a payload.
+    Uncounted,
     Heading { counted: bool },
     Frame,
     Refused,
@@ -83,7 +89,7 @@ fn count(totals: Totals, row: Row) -> Totals
 {
     let mut after = totals;
     match row {
-        Row::Blank => {}
+        Row::Uncounted => {}
         Row::Heading { counted } => {
             after.counted = counted;
         }
@@ -104,7 +110,7 @@ fn count(totals: Totals, row: Row) -> Totals
 // Runs one line.
 fn run_row(line: &[u8]) -> Row {
     if line.len() == 0 {
-        return Row::Blank;
+        return Row::Uncounted;
     }
     let first = line[0];
     if first == b'#' {
@@ -116,6 +122,9 @@ fn run_row(line: &[u8]) -> Row {
         return run_frame(Framing::Ascii, &bytes[..n]);
     }
     let n = hex_bytes(line, pairs_from(first), &mut bytes);
+    if first == b'p' {
+        return run_payload(line, &bytes[..n]);
+    }
     if first == b'a' {
         return run_frame(Framing::Ascii, &bytes[..n]);
     }
@@ -173,20 +182,21 @@ fn text_bytes(line: &[u8], bytes: &mut [u8]) -> usize
     n + 2
 }
 
-// Where the hex pairs of a line with this first character begin: behind the word `ascii` or `binary`, or at once.
+// Where the hex pairs of a line with this first character begin: behind the word `ascii`, `binary` or `payload`, or at once.
 fn pairs_from(first: u8) -> usize
-    ensures { λ r. ⌜ r ≤ 7 ⌝ }
+    ensures { λ r. ⌜ r ≤ 8 ⌝ }
 {
     match first {
         b'a' => 6,
         b'b' => 7,
+        b'p' => 8,
         _ => 0,
     }
 }
 
 // Puts the bytes that a line's hex pairs stand for into the front of bytes, as many as fit, and answers how many there are.
 fn hex_bytes(line: &[u8], from: usize, bytes: &mut [u8]) -> usize
-    requires { ⌜ from ≤ 7 ⌝ }
+    requires { ⌜ from ≤ 8 ⌝ }
     ensures { λ r. ⌜ Counts r (now (bytes .exit)) ⌝ }
 {
     let mut n: usize = 0;
@@ -213,6 +223,25 @@ fn digit_value(c: u8) -> u8
     }
 }
 
+// Prints the row of a payload and what the payload means. It counts as the payload of an ASCII frame.
+fn run_payload(line: &[u8], payload: &[u8]) -> Row {
+    io::write_all(STDOUT_FILENO, line);
+    io::write_all(STDOUT_FILENO, b"\n");
+    let mut whole = [0u8; 517];
+    let answer = frame::write_frame(Framing::Ascii, payload, &mut whole);
+    let used = written_length(answer);
+    meaning::show_meanings(Framing::Ascii, payload, &whole, used);
+    Row::Uncounted
+}
+
+// The length of a written frame, or 0 where none was written.
+fn written_length(answer: WriteAnswer) -> usize {
+    match answer {
+        WriteAnswer::Written(n) => n,
+        WriteAnswer::Refused(_) => 0,
+    }
+}
+
 // Reads a frame from the front of s, writes its payload again and prints what both gave.
 fn run_frame(framing: Framing, s: &[u8]) -> Row {
     let mut buf = [0u8; 256];
@@ -222,6 +251,7 @@ fn run_frame(framing: Framing, s: &[u8]) -> Row {
             let payload = &buf[..len];
             show_frame(used, payload);
             show_ending(written_back(framing, payload, s) == used);
+            meaning::show_meanings(framing, payload, s, used);
             Row::Frame
         }
         ReadAnswer::Refused(refusal) => {
@@ -232,15 +262,11 @@ fn run_frame(framing: Framing, s: &[u8]) -> Row {
 }
 
 // Prints `frame`, the count of bytes used and the payload.
-fn show_frame(used: usize, payload: &[u8])
-    requires { ⌜ length (now payload) ≤ 256 ⌝ }
-{
+fn show_frame(used: usize, payload: &[u8]) {
     io::write_all(STDOUT_FILENO, b"frame ");
     io::print_decimal(STDOUT_FILENO, used as u64);
     io::write_all(STDOUT_FILENO, b" ");
-    let mut digits = [0u8; 512];
-    let n = hex_digits(payload, &mut digits);
-    io::write_all(STDOUT_FILENO, &digits[..n]);
+    show::show_bytes(payload);
 }
 
 // Prints whether the frame was written back as it was read.
@@ -250,28 +276,6 @@ fn show_ending(same: bool) {
     } else {
         io::write_all(STDOUT_FILENO, b" differs\n");
     }
-}
-
-// Puts the digits of a payload into the front of digits and answers how many there are.
-fn hex_digits(payload: &[u8], digits: &mut [u8]) -> usize
-    requires { ⌜ 2 * length (now payload) ≤ length (now digits) ⌝ }
-    ensures { λ r. ⌜ Counts r (now (digits .exit)) ⌝ }
-{
-    let mut i: usize = 0;
-    while i < payload.len() {
-        let b = payload[i];
-        digits[2 * i] = hex_digit(b / 16);
-        digits[2 * i + 1] = hex_digit(b % 16);
-        i += 1;
-    }
-    2 * i
-}
-
-// The capital hex digit of a number below 16.
-fn hex_digit(x: u8) -> u8
-    requires { ⌜ x < 16 ⌝ }
-{
-    if x < 10 { b'0' + x } else { b'A' + (x - 10) }
 }
 
 // The length of the frame that is written for the payload, where s begins with that frame, and 0 where not.

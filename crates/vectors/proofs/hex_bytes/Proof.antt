@@ -1,4 +1,4 @@
--- `vectors::hex_bytes` meets its contract. The invariant: `n` bytes are within `bytes`, whose length stays, and `at` is less than 8 past
+-- `vectors::hex_bytes` meets its contract. The invariant: `n` bytes are within `bytes`, whose length stays, and `at` is at most 8 past
 -- the line. Assumes nothing.
 use Prim.Native.Nat.{_≤_, _+_, _-_}
 use native.Mathlib.Omega.{arith}
@@ -10,7 +10,7 @@ use Rattle.vectors.proofs.hex_bytes.Statement.{statement}
 use Rattle.vectors.proofs.hex_bytes.Tie as tie
 
 abbrev Inv-loop : tie.InvT-loop
-Inv-loop line from bytes₀ n₀ at₀ bytes n at = (n ≤ length bytes₀) × (at ≤ length line + 7) × (length bytes ≡ length bytes₀)
+Inv-loop line from bytes₀ n₀ at₀ bytes n at = (n ≤ length bytes₀) × (at ≤ length line + 8) × (length bytes ≡ length bytes₀)
 
 abbrev μ-loop : tie.MeasureT-loop
 μ-loop line from bytes₀ n₀ at₀ bytes n at = length bytes₀ - n

@@ -1,7 +1,5 @@
 -- `vectors::run_frame` is safe and ends. The payload is within the buffer by what a read promises. Assumes nothing.
-use native.Mathlib.Omega.{arith}
 use borrow.Author.Needs.{needs}
-use lib.ListN.{length-take}
 use Rattle.io.specs.Counts.{Counts}
 use Rattle.vectors.proofs.Answers.{read-counts}
 use Rattle.vectors.proofs.run_frame.Statement.{statement}
@@ -27,13 +25,16 @@ slice-aggregate-payload : tie.Need-slice-aggregate-payload
 slice-aggregate-payload c = counted (c .before .before) .1
 
 show-frame-requires : tie.Need-show-frame-requires
-show-frame-requires c κs = simp length-take (omega (arith, c .before .before .before .before .before .read-frame .kept .1 .1 .0))
+show-frame-requires c κs = search needs
 
 written-back-requires : tie.Need-written-back-requires
 written-back-requires c κs = search needs
 
 show-ending-requires : tie.Need-show-ending-requires
 show-ending-requires c κs = search needs
+
+show-meanings-requires : tie.Need-show-meanings-requires
+show-meanings-requires c κs = search needs
 
 enum-known-answer-2 : tie.Need-enum-known-answer-2
 enum-known-answer-2 c = search needs
@@ -59,6 +60,7 @@ run-frame-spec =
     show-frame-requires
     written-back-requires
     show-ending-requires
+    show-meanings-requires
     enum-known-answer-2
     show-refusal-requires
     returns

@@ -1,0 +1,182 @@
+-- The frame of every message reads back as the message's payload, in either framing.
+-- Assumes nothing.
+use Prim.Native.Nat.{ℕ, zero, suc, _/_, _%_, _≤_, _<_}
+use mathlib.Core.Path.{_≡_, ap, _∙_}
+use mathlib.Core.List.{List, [], _∷_, _++_, append-nil}
+use mathlib.Core.Bool.{Bool, true, false}
+use native.Mathlib.Omega.{arith}
+use lib.Dec.{lit<, lit≤}
+use lib.ListN.{length, replicate}
+use Rattle.frame.specs.Checks.{frame, Bytes, Payload}
+use Rattle.frame.specs.Framing.{read, layout}
+use Rattle.frame.specs.Recovery.{none, another, payloadIn}
+use Rattle.frame.specs.declared.framing.Framing.{Framing}
+use Rattle.frame.proofs.Theorems.{layout-reads, clean-calls}
+use Rattle.message.specs.Number.{bytes2, bytes4}
+use Rattle.message.specs.Simple.{simpleLayout}
+use Rattle.message.specs.ToModule.{requestLayout, changeLayout, addressBytes, transmissionLayout}
+use Rattle.message.specs.Options.{flagBytes, retryBytes, wordBytes, optionBytes}
+use Rattle.message.specs.Status.{standardLayout, remoteLayout}
+use Rattle.message.specs.FromModule.{outcomeByte, receptionLayout, deliveryLayout, noticeLayout}
+use Rattle.message.specs.Claims.{ByteFits, OptionsFit, AddressFits, SimpleFits, RequestFits, ChangeFits, DeliveryFits, NoticeFits}
+use Rattle.message.specs.Claims.{FrameReadsBack}
+use Rattle.message.specs.declared.options.MaybeByte.{MaybeByte}
+use Rattle.message.specs.declared.options.MaybeByte.the-variants.{NotGiven as NoByte, Given as Byte}
+use Rattle.message.specs.declared.options.MaybeWord.{MaybeWord}
+use Rattle.message.specs.declared.options.MaybeWord.the-variants.{NotGiven as NoWord, Given as Word}
+use Rattle.message.specs.declared.options.Options.{Options}
+use Rattle.message.specs.declared.to_module.Address.{Address}
+use Rattle.message.specs.declared.to_module.Address.the-variants.{Plain, Extended as Far}
+use Rattle.message.specs.declared.to_module.Request.{Request}
+use Rattle.message.specs.declared.to_module.Simple.{Simple}
+use Rattle.message.specs.declared.to_module.OutputChange.{OutputChange}
+use Rattle.message.specs.declared.to_module.Request.the-variants.{Simple as SimpleRequest, Extended as ExtendedRequest}
+use Rattle.message.specs.declared.from_module.Delivery.{Delivery}
+use Rattle.message.specs.declared.from_module.Delivery.the-variants.{Simple as SimpleDelivery, Extended as ExtendedDelivery}
+use Rattle.message.specs.declared.from_module.Outcome.{Outcome}
+use Rattle.message.specs.declared.from_module.Outcome.the-variants.{Failure, Success}
+use Rattle.message.specs.declared.from_module.Notice.{Notice}
+use Rattle.message.specs.declared.from_module.Notice.the-variants.{Response as IsResponse, Standard, Remote}
+
+infixr 20 _then_
+-- A list of bytes, field by field.
+data Fits : List ℕ → Type 0 where
+  end : Fits []
+  byte : {b : ℕ} {s : List ℕ} → b < 256 → Fits s → Fits (b ∷ s)
+
+-- A remainder by 256 is a byte.
+low : (v : ℕ) → v % 256 < 256
+low v = omega arith
+
+-- Numbers of 16 and 32 bits.
+word : (v : ℕ) {s : List ℕ} → Fits s → Fits (bytes2 v ++ s)
+word v h = byte (low (v / 256)) (byte (low v) h)
+
+long : (v : ℕ) {s : List ℕ} → Fits s → Fits (bytes4 v ++ s)
+long v h = byte (low (v / 16777216)) (byte (low (v / 65536)) (byte (low (v / 256)) (byte (low v) h)))
+
+-- Data, and zeros.
+rest : (s : List ℕ) → Bytes s → Fits s
+rest [] h = end
+rest (b ∷ s) h = byte (h .0) (rest s (h .1))
+
+zeros : (n : ℕ) → Fits (replicate n 0)
+zeros zero = end
+zeros (suc n) = byte (lit< tt) (zeros n)
+
+-- Two of them in a row.
+_then_ : {s t : List ℕ} → Fits s → Fits t → Fits (s ++ t)
+end then h = h
+byte b r then h = byte b (r then h)
+
+all-bytes : {s : List ℕ} → Fits s → Bytes s
+all-bytes end = tt
+all-bytes (byte h r) = (h, all-bytes r)
+
+-- The bytes of each option.
+flag-fits : (id : ℕ) → id < 256 → (b : Bool) → Fits (flagBytes id b)
+flag-fits id h true = byte h end
+flag-fits id h false = end
+
+retry-fits : (r : MaybeByte) → ByteFits r → Fits (retryBytes r)
+retry-fits NoByte h = end
+retry-fits (Byte b) h = byte (lit< tt) (byte h end)
+
+word-fits : (id : ℕ) → id < 256 → (w : MaybeWord) → Fits (wordBytes id w)
+word-fits id h NoWord = end
+word-fits id h (Word v) = byte h (word v end)
+
+option-fits : (o : Options) → OptionsFit o → Fits (optionBytes o)
+unfolding optionBytes
+option-fits o fits =
+    flag-fits 0x01 (lit< tt) (o .«mac_ack»)
+    then (retry-fits (o .retries) (fits .0)
+    then (word-fits 0x03 (lit< tt) (o .«lower_delay»)
+    then (word-fits 0x04 (lit< tt) (o .«upper_delay»)
+    then (word-fits 0x05 (lit< tt) (o .interval)
+    then (flag-fits 0x06 (lit< tt) (o .parallel)
+    then (flag-fits 0x07 (lit< tt) (o .«no_response»)
+    then (flag-fits 0x08 (lit< tt) (o .sleep)
+    then byte (lit< tt) end)))))))
+
+address-fits : (a : Address) (id : ℕ) → AddressFits a → id < 256 → Fits (addressBytes a id)
+address-fits (Plain a) id fits h = byte fits (byte (lit< tt) (byte h end))
+address-fits (Far w) id fits h = byte (lit< tt) (byte (lit< tt) (byte h (long w end)))
+
+-- The frame of a payload reads back as that payload.
+module _ (p : List ℕ) (fits : Fits p) (some : 1 ≤ length p) (most : length p ≤ 256) (f : Framing) where
+  payload : Payload p
+  payload = record { bytes = all-bytes fits; some = some; most = most }
+
+  frame-back : FrameReadsBack f p
+  frame-back =
+      let alone : read f (layout f p) ≡ frame (length (layout f p)) p = rw append-nil at (layout-reads f p [] payload) in
+      record {
+        single = λ more. layout-reads f p more payload;
+        calls = λ out c.
+            clean-calls f (layout f p ∷ []) out (another (record { payload = p; reads = alone }) none) (rw append-nil c)
+            ∙ ap (λ v. record { frames = payloadIn v ∷ []; noise = 0 }) alone;
+      }
+
+-- And so of each layout.
+simple-frame : (m : Simple) (dat : List ℕ) → SimpleFits m → Bytes dat → length (simpleLayout m dat) ≤ 256 → (f : Framing) →
+    FrameReadsBack f (simpleLayout m dat)
+simple-frame m dat fits h = frame-back (simpleLayout m dat) (byte (fits .0) (byte (fits .1) (rest dat h))) (omega arith)
+
+address-some : (a : Address) (id : ℕ) (s : List ℕ) → 1 ≤ length (addressBytes a id ++ s)
+address-some (Plain a) id s = omega arith
+address-some (Far w) id s = omega arith
+
+pub request-frame : (m : Request) (dat : List ℕ) → RequestFits m → Bytes dat → length (requestLayout m dat) ≤ 256 → (f : Framing) →
+    FrameReadsBack f (requestLayout m dat)
+request-frame (SimpleRequest m) dat fits h = simple-frame m dat fits h
+request-frame (ExtendedRequest m) dat fits h =
+    frame-back
+    (transmissionLayout m dat)
+    (address-fits (m .address) (m .«response_id») (fits .0) (fits .1) then (option-fits (m .options) (fits .2) then rest dat h))
+    (address-some (m .address) (m .«response_id») (optionBytes (m .options) ++ dat))
+
+pub change-frame : (m : OutputChange) → ChangeFits m → (f : Framing) → FrameReadsBack f (changeLayout m)
+change-frame m fits =
+    frame-back
+    (changeLayout m)
+    (byte (fits .0) (byte (lit< tt) (byte (lit< tt) (word (m .signals) (word (m .mask) (zeros 8))))))
+    (lit≤ tt)
+    (lit≤ tt)
+
+pub delivery-frame : (m : Delivery) (dat : List ℕ) → DeliveryFits m → Bytes dat → length (deliveryLayout m dat) ≤ 256 → (f : Framing) →
+    FrameReadsBack f (deliveryLayout m dat)
+delivery-frame (SimpleDelivery m) dat fits h = simple-frame m dat fits h
+delivery-frame (ExtendedDelivery m) dat fits h =
+    frame-back
+    (receptionLayout m dat)
+    (byte (fits .0) (byte (lit< tt) (byte (fits .1) (long (m .source) (long (m .destination) (byte (fits .4)
+    (word (length dat) (rest dat h))))))))
+    (omega arith)
+
+outcome-fits : (o : Outcome) → outcomeByte o < 256
+outcome-fits Failure = lit< tt
+outcome-fits Success = lit< tt
+
+pub notice-frame : (m : Notice) → NoticeFits m → (f : Framing) → FrameReadsBack f (noticeLayout m)
+notice-frame (IsResponse m) fits =
+    frame-back
+    (noticeLayout (IsResponse m))
+    (byte (lit< tt) (byte (lit< tt) (byte fits (byte (outcome-fits (m .outcome)) end))))
+    (lit≤ tt)
+    (lit≤ tt)
+notice-frame (Standard m) fits =
+    frame-back
+    (standardLayout m)
+    (byte (fits .0) (byte (lit< tt) (byte (fits .1) (byte (lit< tt) (byte (fits .2) (long (m .serial) (byte (fits .4)
+    (word (m .time) (byte (fits .6) (word (m .supply) (byte (fits .8) (byte (fits .9) (byte (fits .10) (byte (fits .11)
+    (byte (fits .12) (byte (fits .13) (byte (fits .14) (byte (fits .15) end))))))))))))))))))
+    (lit≤ tt)
+    (lit≤ tt)
+notice-frame (Remote m) fits =
+    frame-back
+    (remoteLayout m)
+    (byte (fits .0) (byte (lit< tt) (byte (lit< tt) (byte (lit< tt) (byte (fits .1) (long (m .serial) (byte (fits .3)
+    (word (m .time) (byte (fits .5) (word (m .signals) (word (m .mask) (word (m .interrupts) (byte (fits .9) end)))))))))))))
+    (lit≤ tt)
+    (lit≤ tt)

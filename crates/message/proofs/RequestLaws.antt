@@ -1,0 +1,123 @@
+-- The meaning of a payload to the module at each way out of its readers.
+-- Assumes nothing.
+use Prim.Native.Nat.{ℕ, _≤_, _<_}
+use mathlib.Core.Path.{_≡_}
+use mathlib.Core.List.{List}
+use mathlib.Core.Bool.{true, false}
+use borrow.Author.Tests.{eq-eqb, ne-eqb, le-leb, lt-leb, lt-ltb, le-ltb}
+use lib.ListN.{length}
+use Rattle.message.specs.Number.{byteAt, wordAt, longAt}
+use Rattle.message.specs.Field.{isPlain, isExtended}
+use Rattle.message.specs.Meaning.{refused, carrying, bare}
+use Rattle.message.specs.ToModule.{requestAt, farRequest, outputChangeAt, nearRequest, readToModule}
+use Rattle.message.specs.declared.to_module.Address.the-variants.{Plain, Extended as Far}
+use Rattle.message.specs.declared.to_module.Request.the-variants.{Simple as SimpleRequest}
+
+-- Reading a change of outputs: each way out.
+module _ (p : List ℕ) where
+  -- The length (7).
+  pub change-length : (length p ≡ 15 → ⊥) → refused 7 ≡ outputChangeAt p
+  unfolding outputChangeAt
+  change-length h = simp (ne-eqb (length p) 15 h)
+
+  module _ (l : length p ≡ 15) where
+    -- The fixed field (11).
+    pub change-fixed : (byteAt p 2 ≡ 1 → ⊥) → refused 11 ≡ outputChangeAt p
+    unfolding outputChangeAt
+    change-fixed h = simp (eq-eqb (length p) 15 l, ne-eqb (byteAt p 2) 1 h)
+
+    module _ (one : byteAt p 2 ≡ 1) where
+      -- The first pair of zero words (11).
+      pub change-first : (longAt p 7 ≡ 0 → ⊥) → refused 11 ≡ outputChangeAt p
+      unfolding outputChangeAt
+      change-first h = simp (eq-eqb (length p) 15 l, eq-eqb (byteAt p 2) 1 one, ne-eqb (longAt p 7) 0 h)
+
+      -- The second pair (11).
+      pub change-second : longAt p 7 ≡ 0 → (longAt p 11 ≡ 0 → ⊥) → refused 11 ≡ outputChangeAt p
+      unfolding outputChangeAt
+      change-second z h = simp (eq-eqb (length p) 15 l, eq-eqb (byteAt p 2) 1 one, eq-eqb (longAt p 7) 0 z, ne-eqb (longAt p 11) 0 h)
+
+      -- The message.
+      pub change-read : longAt p 7 ≡ 0 → longAt p 11 ≡ 0
+          → bare (record { address = byteAt p 0; signals = wordAt p 3; mask = wordAt p 5 }) ≡ outputChangeAt p
+      unfolding outputChangeAt
+      change-read z y = simp (eq-eqb (length p) 15 l, eq-eqb (byteAt p 2) 1 one, eq-eqb (longAt p 7) 0 z, eq-eqb (longAt p 11) 0 y)
+
+-- Reading a message with an extended address: each way out.
+module _ (p : List ℕ) where
+  -- The command (9).
+  pub far-command : (byteAt p 1 ≡ 0xA0 → ⊥) → refused 9 ≡ farRequest p
+  unfolding farRequest
+  far-command h = simp (ne-eqb (byteAt p 1) 0xA0 h)
+
+  module _ (e : byteAt p 1 ≡ 0xA0) where
+    -- The length (7).
+    pub far-length : length p < 7 → refused 7 ≡ farRequest p
+    unfolding farRequest
+    far-length h = simp (eq-eqb (byteAt p 1) 0xA0 e, lt-leb 7 (length p) h)
+
+    -- The extended address (8).
+    pub far-address : 7 ≤ length p → isExtended (longAt p 3) ≡ false → refused 8 ≡ farRequest p
+    unfolding farRequest
+    far-address h x = simp (eq-eqb (byteAt p 1) 0xA0 e, le-leb 7 (length p) h, x)
+
+    -- The options and the data follow.
+    pub far-read : 7 ≤ length p → isExtended (longAt p 3) ≡ true → requestAt p (Far (longAt p 3)) 7 ≡ farRequest p
+    unfolding farRequest
+    far-read h x = simp (eq-eqb (byteAt p 1) 0xA0 e, le-leb 7 (length p) h, x)
+
+-- Reading a message to the module: each way out.
+module _ (p : List ℕ) where
+  -- Under 2 bytes (7).
+  pub read-short : length p < 2 → refused 7 ≡ readToModule p
+  unfolding readToModule
+  read-short h = simp (lt-leb 2 (length p) h)
+
+  -- Over 256 bytes (7).
+  pub read-long : 2 ≤ length p → 256 < length p → refused 7 ≡ readToModule p
+  unfolding readToModule
+  read-long some h = simp (le-leb 2 (length p) some, lt-leb (length p) 256 h)
+
+  module _ (some : 2 ≤ length p) (most : length p ≤ 256) where
+    -- An extended address.
+    pub read-far : byteAt p 0 ≡ 0x80 → farRequest p ≡ readToModule p
+    unfolding readToModule
+    read-far e = simp (le-leb 2 (length p) some, le-leb (length p) 256 most, eq-eqb (byteAt p 0) 0x80 e)
+
+    module _ (near : byteAt p 0 ≡ 0x80 → ⊥) where
+      -- The address (8).
+      pub read-address : isPlain (byteAt p 0) ≡ false → refused 8 ≡ readToModule p
+      unfolding readToModule
+      read-address x = simp (le-leb 2 (length p) some, le-leb (length p) 256 most, ne-eqb (byteAt p 0) 0x80 near, x)
+
+      -- A plain address.
+      pub read-near : isPlain (byteAt p 0) ≡ true → nearRequest p ≡ readToModule p
+      unfolding readToModule
+      read-near x = simp (le-leb 2 (length p) some, le-leb (length p) 256 most, ne-eqb (byteAt p 0) 0x80 near, x)
+
+  -- A simple message.
+  pub near-simple : byteAt p 1 < 0x80 → carrying (SimpleRequest (record { address = byteAt p 0; command = byteAt p 1 })) 2 ≡ nearRequest p
+  unfolding nearRequest
+  near-simple h = simp (lt-ltb (byteAt p 1) 0x80 h)
+
+  module _ (h : 0x80 ≤ byteAt p 1) where
+    -- A change of outputs.
+    pub near-change : byteAt p 1 ≡ 0x80 → outputChangeAt p ≡ nearRequest p
+    unfolding nearRequest
+    near-change e = simp (le-ltb (byteAt p 1) 0x80 h, eq-eqb (byteAt p 1) 0x80 e)
+
+    module _ (other : byteAt p 1 ≡ 0x80 → ⊥) where
+      -- The command (9).
+      pub near-command : (byteAt p 1 ≡ 0xA0 → ⊥) → refused 9 ≡ nearRequest p
+      unfolding nearRequest
+      near-command n = simp (le-ltb (byteAt p 1) 0x80 h, ne-eqb (byteAt p 1) 0x80 other, ne-eqb (byteAt p 1) 0xA0 n)
+
+      -- The length (7).
+      pub near-length : byteAt p 1 ≡ 0xA0 → length p < 3 → refused 7 ≡ nearRequest p
+      unfolding nearRequest
+      near-length e l = simp (le-ltb (byteAt p 1) 0x80 h, ne-eqb (byteAt p 1) 0x80 other, eq-eqb (byteAt p 1) 0xA0 e, lt-leb 3 (length p) l)
+
+      -- The options and the data follow.
+      pub near-read : byteAt p 1 ≡ 0xA0 → 3 ≤ length p → requestAt p (Plain (byteAt p 0)) 3 ≡ nearRequest p
+      unfolding nearRequest
+      near-read e l = simp (le-ltb (byteAt p 1) 0x80 h, ne-eqb (byteAt p 1) 0x80 other, eq-eqb (byteAt p 1) 0xA0 e, le-leb 3 (length p) l)

@@ -1,0 +1,31 @@
+-- The claims of specs/Claims.antt and specs/AnyOrder.antt and the table of specs/Examples.antt, proved; a crate above this one names this module alone.
+-- Assumes nothing.
+use Rattle.message.specs.Claims.{RoundTrip, CanWrite, WhatIsReadIsWritten, RefusesNoMore, ReadingIsExact}
+use Rattle.message.specs.AnyOrder.{AnyOrderIsRead}
+use Rattle.message.specs.Examples.{Examples}
+use Rattle.message.proofs.MessageRoundTrip as message-round-trip
+use Rattle.message.proofs.Written as written
+use Rattle.message.proofs.Exact as exact
+use Rattle.message.proofs.AnyOrder as any-order
+use Rattle.message.proofs.Examples as table
+
+pub round-trip : RoundTrip
+round-trip = message-round-trip.round-trip
+
+pub can-write : CanWrite
+can-write = written.can-write
+
+pub what-is-read-is-written : WhatIsReadIsWritten
+what-is-read-is-written = exact.what-is-read-is-written
+
+pub refuses-no-more : RefusesNoMore
+refuses-no-more = exact.refuses-no-more
+
+pub reading-is-exact : ReadingIsExact
+reading-is-exact = exact.reading-is-exact
+
+pub any-order-is-read : AnyOrderIsRead
+any-order-is-read = any-order.any-order-is-read
+
+pub examples : Examples
+examples = table.examples

@@ -1,0 +1,246 @@
+-- All starred rows of document 01, "Frames to check against", and payloads of each kind and refusal: one table, and one statement that is computed.
+use Prim.Native.Nat.{ℕ}
+use Prim.Native.Char.{code}
+use Prim.Native.String.{String}
+use mathlib.Core.Path.{_≡_}
+use mathlib.Core.List.{List, [], _∷_, _++_, map}
+use mathlib.Core.Bool.{Bool, true, false}
+use lib.Dec.{leb}
+use lib.ListN.{length, take, drop, replicate}
+use Rattle.frame.specs.Checks.{Verdict}
+use Rattle.frame.specs.Framing.{read}
+use Rattle.frame.specs.Single.{Reading, reading, readInto}
+use Rattle.frame.specs.Reader.{Called, Values, valuesAt, bufferAt, line, quiet, newReader, heldIn, feedRefusal, quietRefusal}
+use Rattle.frame.specs.declared.framing.Framing.{Framing}
+use Rattle.frame.specs.declared.framing.Framing.the-variants.{Binary, Ascii}
+use Rattle.frame.specs.declared.reader.Reader.{Reader}
+use Rattle.message.specs.Meaning.{Meaning, refused, carrying, bare}
+use Rattle.message.specs.Options.{noOptions}
+use Rattle.message.specs.ToModule.{readToModule}
+use Rattle.message.specs.FromModule.{readFromModule}
+use Rattle.message.specs.AnyOrder.{sheetOptions}
+use Rattle.message.specs.declared.to_module.Address.the-variants.{Plain}
+use Rattle.message.specs.declared.to_module.Request.{Request}
+use Rattle.message.specs.declared.to_module.Request.the-variants.{Simple as SimpleRequest, Extended as ExtendedRequest}
+use Rattle.message.specs.declared.to_module.OutputChange.{OutputChange}
+use Rattle.message.specs.declared.from_module.Delivery.{Delivery}
+use Rattle.message.specs.declared.from_module.Delivery.the-variants.{Simple as SimpleDelivery, Extended as ExtendedDelivery}
+use Rattle.message.specs.declared.from_module.Notice.{Notice}
+use Rattle.message.specs.declared.from_module.Notice.the-variants.{Response as IsResponse, Standard, Remote}
+use Rattle.message.specs.declared.from_module.Outcome.the-variants.{Success}
+
+-- The characters of a text as bytes.
+abbrev pub text : String → List ℕ
+text String.[] = []
+text (String._∷_ c s) = code c ∷ text s
+
+-- What a row says of a call or of a payload: a call's refusal number, 0 for none, the bytes used or taken, the noise and the payloads handed out;
+-- or a message with its data, in a direction.
+pub data Said : Type 0 where
+  call : (number bytes noise : ℕ) → List (List ℕ) → Said
+  to : Meaning Request OutputChange → List ℕ → Said
+  from : Meaning Delivery Notice → List ℕ → Said
+
+-- A lent buffer.
+abbrev room : List ℕ
+room = replicate 256 0
+
+-- The payload of this length in the front of a buffer, none where there is none.
+abbrev handedOut : Bool → ℕ → List ℕ → List (List ℕ)
+handedOut false len buf = []
+handedOut true len buf = take len buf ∷ []
+
+-- A single read, by the definitions that its contract cites.
+abbrev pub told : Verdict → Said
+told v =
+    let r : Reading = reading v 256 in
+    call (r .number) (r .used) 0 (handedOut (leb 1 (r .len)) (r .len) (readInto v room))
+
+-- A state that holds these bytes.
+abbrev holding : Framing → List ℕ → Reader
+holding f h = record { framing = f; held = h; count = length h }
+
+-- A line or a quiet call with this refusal number, by the definitions that their contracts cite.
+abbrev pub heard : ℕ → Called → Said
+heard number c =
+    let v : Values = valuesAt c in
+    call number (v .taken) (v .noise) (handedOut (v .isFrame) (v .len) (bufferAt (c .out .frames) room))
+
+-- The data of a message in the payload p.
+module _ {A B : Type 0} where
+  abbrev pub dataIn : Meaning A B → List ℕ → List ℕ
+  dataIn (refused n) p = []
+  dataIn (carrying m start) p = drop start p
+  dataIn (bare m) p = []
+
+-- What a row asks: a single read; a line call of a new reader over the whole segment and then two quiet calls; the meaning of a payload.
+pub data Ask : Type 0 where
+  single : Framing → List ℕ → Ask
+  segment : Framing → List ℕ → Ask
+  toModule : List ℕ → Ask
+  fromModule : List ℕ → Ask
+
+abbrev pub answers : Ask → List Said
+answers (single f s) = told (read f s) ∷ []
+answers (segment f s) =
+    let first : Called = line f (heldIn (newReader f)) s in
+    let second : Called = quiet f (first .held) in
+    heard (feedRefusal (newReader f) (length room) (length s)) first
+    ∷ heard (quietRefusal (holding f (first .held)) (length room)) second
+    ∷ heard (quietRefusal (holding f (second .held)) (length room)) (quiet f (second .held))
+    ∷ []
+answers (toModule p) = to (readToModule p) (dataIn (readToModule p) p) ∷ []
+answers (fromModule p) = from (readFromModule p) (dataIn (readFromModule p) p) ∷ []
+
+-- A row: what is asked, and what is answered.
+pub record Row : Type 0 where
+  pub ask : Ask
+  pub says : List Said
+
+abbrev row : Ask → List Said → Row
+row ask says = record { ask = ask; says = says }
+
+abbrev reads : Framing → List ℕ → ℕ → List ℕ → Row
+reads f s used p = row (single f s) (call 0 used 0 (p ∷ []) ∷ [])
+
+abbrev refuses : Framing → List ℕ → ℕ → Row
+refuses f s n = row (single f s) (call n 0 0 [] ∷ [])
+
+abbrev response : ℕ → Meaning Delivery Notice
+response id = bare (IsResponse (record { id = id; outcome = Success }))
+
+abbrev toRefused : List ℕ → ℕ → Row
+toRefused p n = row (toModule p) (to (refused n) [] ∷ [])
+
+abbrev fromRefused : List ℕ → ℕ → Row
+fromRefused p n = row (fromModule p) (from (refused n) [] ∷ [])
+
+-- The starred rows.
+abbrev pub rows : List Row
+rows =
+    reads Ascii (text ":00010203FA\r\n") 13 (0x00 ∷ 0x01 ∷ 0x02 ∷ 0x03 ∷ [])
+    ∷ row (toModule (0x00 ∷ 0x01 ∷ 0x02 ∷ 0x03 ∷ [])) (to (carrying (SimpleRequest (record { address = 0x00; command = 0x01 })) 2) (0x02 ∷ 0x03 ∷ []) ∷ [])
+    ∷ row (fromModule (0x00 ∷ 0x01 ∷ 0x02 ∷ 0x03 ∷ [])) (from (carrying (SimpleDelivery (record { address = 0x00; command = 0x01 })) 2) (0x02 ∷ 0x03 ∷ []) ∷ [])
+    ∷ refuses Ascii (text ":00010203FB\r\n") 4
+    ∷ refuses Ascii (text ":00010203fa\r\n") 6
+    ∷ reads Binary (0xA5 ∷ 0x5A ∷ 0x80 ∷ 0x04 ∷ 0xDB ∷ 0xA1 ∷ 0x80 ∷ 0x01 ∷ 0xFB ∷ 0x04 ∷ []) 10 (0xDB ∷ 0xA1 ∷ 0x80 ∷ 0x01 ∷ [])
+    ∷ row (fromModule (0xDB ∷ 0xA1 ∷ 0x80 ∷ 0x01 ∷ [])) (from (response 0x80) [] ∷ [])
+    ∷ refuses Binary (0xA5 ∷ 0x5A ∷ 0x80 ∷ 0x04 ∷ 0xDB ∷ 0xA1 ∷ 0x80 ∷ 0x01 ∷ 0xFB ∷ []) 2
+    ∷ refuses Binary (0xA5 ∷ 0x5A ∷ 0x80 ∷ 0x04 ∷ 0xDB ∷ 0xA1 ∷ 0x80 ∷ 0x01 ∷ 0xFB ∷ 0x05 ∷ []) 5
+    ∷ refuses Binary (0xA5 ∷ 0x5A ∷ 0x80 ∷ 0x00 ∷ 0x00 ∷ 0x04 ∷ []) 3
+    ∷ refuses Binary (0xA5 ∷ 0x5A ∷ 0x81 ∷ 0x01 ∷ []) 3
+    ∷ reads Binary (0xA5 ∷ 0x5A ∷ 0x81 ∷ 0x00 ∷ (replicate 256 0x11 ++ (0x00 ∷ 0x04 ∷ []))) 262 (replicate 256 0x11)
+    ∷ row
+    (segment Binary
+    (0xA5 ∷ 0x5A ∷ 0x80 ∷ 0x10 ∷ 0xA5 ∷ 0x5A ∷ 0x80 ∷ 0x04 ∷ 0xDB ∷ 0xA1 ∷ 0x80 ∷ 0x01 ∷ 0xFB ∷ 0x04 ∷ []))
+    (call 0 14 0 [] ∷ call 0 0 4 ((0xDB ∷ 0xA1 ∷ 0x80 ∷ 0x01 ∷ []) ∷ []) ∷ call 0 0 0 [] ∷ [])
+    ∷ row
+    (segment Binary (0xA5 ∷ 0x5A ∷ 0xA5 ∷ 0x5A ∷ 0x80 ∷ 0x04 ∷ 0xDB ∷ 0xA1 ∷ 0x01 ∷ 0x01 ∷ 0x7A ∷ 0x04 ∷ []))
+    (call 0 12 2 ((0xDB ∷ 0xA1 ∷ 0x01 ∷ 0x01 ∷ []) ∷ []) ∷ call 0 0 0 [] ∷ call 0 0 0 [] ∷ [])
+    ∷ row (fromModule (0xDB ∷ 0xA1 ∷ 0x01 ∷ 0x01 ∷ [])) (from (response 0x01) [] ∷ [])
+    ∷ reads Ascii (text ":DBA1120171\r\n") 13 (0xDB ∷ 0xA1 ∷ 0x12 ∷ 0x01 ∷ [])
+    ∷ row (fromModule (0xDB ∷ 0xA1 ∷ 0x12 ∷ 0x01 ∷ [])) (from (response 0x12) [] ∷ [])
+    ∷ reads Ascii (text ":00A012FF123456B3\r\n") 19 (0x00 ∷ 0xA0 ∷ 0x12 ∷ 0xFF ∷ 0x12 ∷ 0x34 ∷ 0x56 ∷ [])
+    ∷ row (toModule (0x00 ∷ 0xA0 ∷ 0x12 ∷ 0xFF ∷ 0x12 ∷ 0x34 ∷ 0x56 ∷ []))
+    (to
+    (carrying (ExtendedRequest (record { address = Plain 0x00; «response_id» = 0x12; options = noOptions })) 4)
+    (0x12 ∷ 0x34 ∷ 0x56 ∷ [])
+    ∷ [])
+    ∷ refuses Binary [] 2
+    ∷ refuses Ascii [] 2
+    ∷ row (toModule (0x01 ∷ 0x00 ∷ 0x00 ∷ [])) (to (carrying (SimpleRequest (record { address = 0x01; command = 0x00 })) 2) (0x00 ∷ []) ∷ [])
+    ∷ row (fromModule (0x01 ∷ 0x00 ∷ 0x00 ∷ [])) (from (carrying (SimpleDelivery (record { address = 0x01; command = 0x00 })) 2) (0x00 ∷ []) ∷ [])
+    ∷ toRefused (0x01 ∷ []) 7
+    ∷ fromRefused (0x01 ∷ []) 7
+    ∷ []
+
+-- The first row is a frame of sheet 001 whose options do not ascend.
+abbrev pub toRows : List Row
+toRows =
+    row
+    (toModule (0x00 ∷ 0xA0 ∷ 0x12 ∷ 0x01 ∷ 0x04 ∷ 0x08 ∷ 0x00 ∷ 0x06 ∷ 0x02 ∷ 0x85 ∷ 0x05 ∷ 0x06 ∷ 0x00 ∷ 0xFF ∷ 0xAB ∷ 0xCD ∷ 0xEF ∷ []))
+    (to
+    (carrying (ExtendedRequest (record { address = Plain 0x00; «response_id» = 0x12; options = sheetOptions })) 14)
+    (0xAB ∷ 0xCD ∷ 0xEF ∷ [])
+    ∷ [])
+    ∷ row (toModule (0x78 ∷ 0x80 ∷ 0x01 ∷ 0x00 ∷ 0x0F ∷ 0x01 ∷ 0x03 ∷ replicate 8 0x00))
+    (to (bare (record { address = 0x78; signals = 0x000F; mask = 0x0103 })) [] ∷ [])
+    ∷ toRefused (0x00 ∷ 0xA0 ∷ []) 7
+    ∷ toRefused (0x80 ∷ 0xA0 ∷ 0x01 ∷ 0x00 ∷ 0x00 ∷ 0x00 ∷ []) 7
+    ∷ toRefused (0xDB ∷ 0xA1 ∷ 0x12 ∷ 0x01 ∷ []) 8
+    ∷ toRefused (0x80 ∷ 0xA0 ∷ 0x01 ∷ 0x00 ∷ 0x01 ∷ 0x00 ∷ 0x00 ∷ []) 8
+    ∷ toRefused (0x80 ∷ 0x80 ∷ []) 9
+    ∷ toRefused (0x80 ∷ 0xA0 ∷ 0x01 ∷ 0x00 ∷ 0x00 ∷ 0xFF ∷ 0xFF ∷ []) 10
+    ∷ toRefused (0x00 ∷ 0xA0 ∷ 0x12 ∷ []) 10
+    ∷ toRefused (0x78 ∷ 0x80 ∷ 0x01 ∷ 0x00 ∷ 0x0F ∷ 0x01 ∷ 0x03 ∷ replicate 8 0x01) 11
+    ∷ []
+
+-- The statuses are those that sheets 004 and 003 print.
+abbrev pub fromRows : List Row
+fromRows =
+    row
+    (fromModule
+    (0x78 ∷ 0x81 ∷ 0x15 ∷ 0x01 ∷ 0x75 ∷ 0x81 ∷ 0x00 ∷ 0x00 ∷ 0x38 ∷ 0x00 ∷ 0x26 ∷ 0xC9 ∷ 0x00 ∷ 0x0C ∷ 0x04 ∷ 0x22 ∷ 0x00 ∷ 0x00 ∷ replicate 5 0xFF))
+    (from
+    (bare
+    (Standard
+    (record {
+      sender = 0x78;
+      identifier = 0x15;
+      lqi = 0x75;
+      serial = 0x81000038;
+      destination = 0x00;
+      time = 0x26C9;
+      relays = 0x00;
+      supply = 0x0C04;
+      unused = 0x22;
+      di = 0x00;
+      «di_changed» = 0x00;
+      ad1 = 0xFF;
+      ad2 = 0xFF;
+      ad3 = 0xFF;
+      ad4 = 0xFF;
+      correction = 0xFF;
+    })))
+    []
+    ∷ [])
+    ∷ row
+    (fromModule
+    (0x01 ∷ 0x81 ∷ 0x0F ∷ 0x01 ∷ 0xDB ∷ 0x86 ∷ 0x30 ∷ 0x00 ∷ 0x02 ∷ 0x00 ∷ 0x64 ∷ 0x5F ∷ 0x00 ∷ 0x00 ∷ 0x40 ∷ 0x00 ∷ 0x4F ∷ 0x00 ∷ 0x40 ∷ 0x00 ∷ []))
+    (from
+    (bare
+    (Remote
+    (record {
+      sender = 0x01;
+      lqi = 0xDB;
+      serial = 0x86300002;
+      destination = 0x00;
+      time = 0x645F;
+      relays = 0x00;
+      signals = 0x0040;
+      mask = 0x004F;
+      interrupts = 0x0040;
+      unused = 0x00;
+    })))
+    []
+    ∷ [])
+    ∷ row
+    (fromModule
+    (0x01 ∷ 0xA0 ∷ 0x02 ∷ 0x81 ∷ 0x00 ∷ 0x00 ∷ 0x38 ∷ 0x80 ∷ 0x00 ∷ 0x00 ∷ 0x01 ∷ 0x75 ∷ 0x00 ∷ 0x02 ∷ 0xAB ∷ 0xCD ∷ []))
+    (from
+    (carrying
+    (ExtendedDelivery (record { sender = 0x01; «response_id» = 0x02; source = 0x81000038; destination = 0x80000001; lqi = 0x75 }))
+    14)
+    (0xAB ∷ 0xCD ∷ [])
+    ∷ [])
+    ∷ fromRefused (0x78 ∷ 0x81 ∷ []) 7
+    ∷ fromRefused (0x80 ∷ 0x00 ∷ []) 8
+    ∷ fromRefused (0xDB ∷ 0xA0 ∷ []) 9
+    ∷ fromRefused (0x78 ∷ 0xA1 ∷ []) 9
+    ∷ fromRefused (0xDB ∷ 0xA1 ∷ 0x12 ∷ 0x02 ∷ []) 11
+    ∷ fromRefused (0x01 ∷ 0xA0 ∷ 0x02 ∷ (replicate 10 0x00 ++ (0x01 ∷ []))) 12
+    ∷ []
+
+-- Each row is answered as document 01 says.
+abbrev pub Examples : Type 0
+Examples = let all : List Row = rows ++ (toRows ++ fromRows) in map (λ (r : Row). answers (r .ask)) all ≡ map (λ (r : Row). r .says) all

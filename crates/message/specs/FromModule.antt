@@ -1,0 +1,111 @@
+-- Messages from the module. Document 01, "Payloads" and "Refusal numbers".
+use Prim.Native.Nat.{ℕ, _-_}
+use mathlib.Core.List.{List, [], _∷_, _++_}
+use mathlib.Core.Bool.{cond, _&&_}
+use lib.Dec.{leb, ltb, eqb}
+use lib.ListN.{length}
+use Rattle.message.specs.Number.{byteAt, wordAt, longAt, bytes2, bytes4}
+use Rattle.message.specs.Field.{isPlain, plainRefusal}
+use Rattle.message.specs.Meaning.{Meaning, refused, carrying, bare}
+use Rattle.message.specs.Refusal.{numberOf}
+use Rattle.message.specs.Simple.{simpleLayout, simpleRefusal}
+use Rattle.message.specs.Status.{standardLayout, standardAt, remoteLayout, remoteAt}
+use Rattle.message.specs.declared.from_module.Reception.{Reception}
+use Rattle.message.specs.declared.from_module.Delivery.{Delivery}
+use Rattle.message.specs.declared.from_module.Delivery.the-variants.{Simple as SimpleDelivery, Extended as ExtendedDelivery}
+use Rattle.message.specs.declared.from_module.Outcome.{Outcome}
+use Rattle.message.specs.declared.from_module.Outcome.the-variants.{Failure, Success}
+use Rattle.message.specs.declared.from_module.Notice.{Notice}
+use Rattle.message.specs.declared.from_module.Notice.the-variants.{Response as IsResponse, Standard, Remote}
+use Rattle.message.specs.declared.from_module.FromModule.{FromModule}
+use Rattle.message.specs.declared.from_module.FromModule.the-variants.{Delivery as IsDelivery, Notice as IsNotice, Refused}
+
+-- Extended, 14 + M bytes: sender, A0, response ID, source address (4), destination address (4), LQI, M (2), M data bytes.
+abbrev pub receptionLayout : Reception → List ℕ → List ℕ
+receptionLayout m dat =
+    m .sender ∷ 0xA0 ∷ m .«response_id»
+    ∷ (bytes4 (m .source) ++ (bytes4 (m .destination) ++ (m .lqi ∷ (bytes2 (length dat) ++ dat))))
+
+-- The layout of a message with its data.
+abbrev pub deliveryLayout : Delivery → List ℕ → List ℕ
+deliveryLayout (SimpleDelivery m) dat = simpleLayout m dat
+deliveryLayout (ExtendedDelivery m) dat = receptionLayout m dat
+
+-- The result of a response: 0 or 1.
+abbrev pub outcomeByte : Outcome → ℕ
+outcomeByte Failure = 0
+outcomeByte Success = 1
+
+-- The layout of a message without data. Response, 4 bytes: DB, A1, ID (any), result 0 or 1.
+abbrev pub noticeLayout : Notice → List ℕ
+noticeLayout (IsResponse m) = 0xDB ∷ 0xA1 ∷ m .id ∷ outcomeByte (m .outcome) ∷ []
+noticeLayout (Standard m) = standardLayout m
+noticeLayout (Remote m) = remoteLayout m
+
+-- Behind DB the command is A1 (9); then the length (7) and the result (11).
+unfoldable pub responseMeaning : List ℕ → Meaning Delivery Notice
+responseMeaning p =
+    cond (eqb (byteAt p 1) 0xA1)
+    (cond (eqb (length p) 4)
+    (cond (eqb (byteAt p 3) 0)
+    (bare (IsResponse (record { id = byteAt p 2; outcome = Failure })))
+    (cond (eqb (byteAt p 3) 1) (bare (IsResponse (record { id = byteAt p 2; outcome = Success }))) (refused 11)))
+    (refused 7))
+    (refused 9)
+
+-- An extended message: at least 14 bytes (7); then M (12). Both addresses are carried unjudged.
+unfoldable pub receptionMeaning : List ℕ → Meaning Delivery Notice
+receptionMeaning p =
+    cond (leb 14 (length p))
+    (cond (eqb (wordAt p 12) (length p - 14))
+    (carrying
+    (ExtendedDelivery
+    (record { sender = byteAt p 0; «response_id» = byteAt p 2; source = longAt p 3; destination = longAt p 7; lqi = byteAt p 11 }))
+    14)
+    (refused 12))
+    (refused 7)
+
+-- The fixed fields of the statuses (11): the fourth byte of a standard status; the third and the fourth of a remote one.
+unfoldable pub standardMeaning : List ℕ → Meaning Delivery Notice
+standardMeaning p = cond (eqb (byteAt p 3) 0x01) (bare (Standard (standardAt p))) (refused 11)
+
+unfoldable pub remoteMeaning : List ℕ → Meaning Delivery Notice
+remoteMeaning p = cond (eqb (byteAt p 2) 0x0F && eqb (byteAt p 3) 0x01) (bare (Remote (remoteAt p))) (refused 11)
+
+-- Statuses are told apart by length; any other length is 7.
+unfoldable pub statusMeaning : List ℕ → Meaning Delivery Notice
+statusMeaning p = cond (eqb (length p) 23) (standardMeaning p) (cond (eqb (length p) 20) (remoteMeaning p) (refused 7))
+
+-- A plain address: a command below 0x80 is a simple message, 81 a status, A0 an extended message; any other is 9.
+unfoldable pub senderMeaning : List ℕ → Meaning Delivery Notice
+senderMeaning p =
+    cond (ltb (byteAt p 1) 0x80)
+    (carrying (SimpleDelivery (record { address = byteAt p 0; command = byteAt p 1 })) 2)
+    (cond (eqb (byteAt p 1) 0x81) (statusMeaning p) (cond (eqb (byteAt p 1) 0xA0) (receptionMeaning p) (refused 9)))
+
+-- Reading: fewer than 2 or over 256 bytes 7; the address 8, where DB goes on to its command; then by the address.
+unfoldable pub readFromModule : List ℕ → Meaning Delivery Notice
+readFromModule p =
+    cond (leb 2 (length p) && leb (length p) 256)
+    (cond (eqb (byteAt p 0) 0xDB) (responseMeaning p) (cond (isPlain (byteAt p 0)) (senderMeaning p) (refused 8)))
+    (refused 7)
+
+-- The number and the message of each answer.
+abbrev pub fromModuleOf : FromModule → Meaning Delivery Notice
+fromModuleOf (IsDelivery m start) = carrying m start
+fromModuleOf (IsNotice m) = bare m
+fromModuleOf (Refused r) = refused (numberOf r)
+
+-- Why a message is not written: 8, 9; 0 where none of these applies, and 14 and 13 follow (Write.antt). A response has no refusal of its own: its
+-- result is a type of two values (11).
+abbrev pub receptionRefusal : Reception → ℕ
+receptionRefusal m = plainRefusal (m .sender)
+
+abbrev pub deliveryRefusal : Delivery → ℕ
+deliveryRefusal (SimpleDelivery m) = simpleRefusal m
+deliveryRefusal (ExtendedDelivery m) = receptionRefusal m
+
+abbrev pub noticeRefusal : Notice → ℕ
+noticeRefusal (IsResponse m) = 0
+noticeRefusal (Standard m) = plainRefusal (m .sender)
+noticeRefusal (Remote m) = plainRefusal (m .sender)

@@ -1,0 +1,15 @@
+-- Document 01, "Refusal numbers".
+use Prim.Native.Nat.{ℕ}
+use Rattle.message.specs.declared.refusal.Refusal.{Refusal}
+use Rattle.message.specs.declared.refusal.Refusal.the-variants.{Length, Address, Command, Option, Field, Count, Buffer, Payload}
+
+-- The number of each refusal.
+abbrev pub numberOf : Refusal → ℕ
+numberOf Length = 7
+numberOf Address = 8
+numberOf Command = 9
+numberOf Option = 10
+numberOf Field = 11
+numberOf Count = 12
+numberOf Buffer = 13
+numberOf Payload = 14

@@ -1,0 +1,356 @@
+// Prints what a payload means to the module and from the module, a line for each direction. Fields are hex capitals, the channels
+// in mV decimal; data that are empty are `-`. Behind `to`:
+// - `simple ADDRESS COMMAND DATA`
+// - `extended ADDRESS ID OPTIONS DATA`, the address with two digits or, an extended one, with eight
+// - `output ADDRESS SIGNALS MASK`
+//
+// Behind `from`:
+// - `simple SENDER COMMAND DATA`
+// - `extended SENDER ID SOURCE DESTINATION LQI DATA`
+// - `response ID ok` or `fail`
+// - `standard SENDER IDENTIFIER LQI SERIAL DESTINATION TIME RELAYS SUPPLY UNUSED DI CHANGED AD1 AD2 AD3 AD4 CORRECTION` and the
+//   four channels in mV
+// - `remote SENDER LQI SERIAL DESTINATION TIME RELAYS SIGNALS MASK INTERRUPTS UNUSED`
+//
+// Such a line ends in `same` where the message, written with its data by the crate message, is the frame that was read, and in
+// `other` where it is not, as with options that do not stand in ascending order. Behind either: `refused` and the number.
+use crate::begins;
+use crate::show::byte_field;
+use crate::show::data_field;
+use crate::show::decimal_field;
+use crate::show::long_field;
+use crate::show::show_byte;
+use crate::show::show_word;
+use crate::show::word_field;
+use frame::Framing;
+use libc::STDOUT_FILENO;
+use message::Address;
+use message::Channel;
+use message::Delivery;
+use message::FromModule;
+use message::MaybeByte;
+use message::MaybeWord;
+use message::Notice;
+use message::Options;
+use message::Outcome;
+use message::OutputChange;
+use message::Reception;
+use message::Refusal;
+use message::RemoteStatus;
+use message::Request;
+use message::Response;
+use message::Simple;
+use message::StandardStatus;
+use message::ToModule;
+use message::Transmission;
+use message::WriteAnswer;
+
+// Prints both meanings of the payload of a frame, the first `used` bytes of s.
+pub fn show_meanings(framing: Framing, payload: &[u8], s: &[u8], used: usize) {
+    io::write_all(STDOUT_FILENO, b"  to ");
+    show_to_module(framing, payload, s, used);
+    io::write_all(STDOUT_FILENO, b"  from ");
+    show_from_module(framing, payload, s, used);
+}
+
+// Prints what the payload means to the module.
+fn show_to_module(framing: Framing, payload: &[u8], s: &[u8], used: usize) {
+    let meaning = message::read_to_module(payload);
+    match meaning {
+        ToModule::Request { request, start } => {
+            let tail = part_from(payload, start);
+            show_request(request, tail);
+            show_ending(request_back(framing, request, tail, s) == used);
+        }
+        ToModule::OutputChange(change) => {
+            show_output_change(change);
+            show_ending(change_back(framing, change, s) == used);
+        }
+        ToModule::Refused(refusal) => {
+            show_refusal(refusal);
+        }
+    }
+}
+
+// Prints what the payload means from the module.
+fn show_from_module(framing: Framing, payload: &[u8], s: &[u8], used: usize) {
+    let meaning = message::read_from_module(payload);
+    match meaning {
+        FromModule::Delivery { delivery, start } => {
+            let tail = part_from(payload, start);
+            show_delivery(delivery, tail);
+            show_ending(delivery_back(framing, delivery, tail, s) == used);
+        }
+        FromModule::Notice(notice) => {
+            show_notice(notice);
+            show_ending(notice_back(framing, notice, s) == used);
+        }
+        FromModule::Refused(refusal) => {
+            show_refusal(refusal);
+        }
+    }
+}
+
+// The data of a message: the bytes of its payload from `start` on. A read gives no start past the end; the test shows it here
+// again.
+fn part_from(payload: &[u8], start: usize) -> &[u8] {
+    if payload.len() < start {
+        return payload;
+    }
+    &payload[start..]
+}
+
+// Prints a message with data to the module.
+fn show_request(request: Request, tail: &[u8]) {
+    match request {
+        Request::Simple(simple) => {
+            show_simple(simple);
+        }
+        Request::Extended(transmission) => {
+            show_transmission(transmission);
+        }
+    }
+    data_field(tail);
+}
+
+// Prints a message with data from the module.
+fn show_delivery(delivery: Delivery, tail: &[u8]) {
+    match delivery {
+        Delivery::Simple(simple) => {
+            show_simple(simple);
+        }
+        Delivery::Extended(reception) => {
+            show_reception(reception);
+        }
+    }
+    data_field(tail);
+}
+
+// Prints a message without data from the module.
+fn show_notice(notice: Notice) {
+    match notice {
+        Notice::Response(response) => {
+            show_response(response);
+        }
+        Notice::Standard(status) => {
+            show_standard(status);
+        }
+        Notice::Remote(status) => {
+            show_remote(status);
+        }
+    }
+}
+
+// Prints the address and the command of a simple message.
+fn show_simple(simple: Simple) {
+    io::write_all(STDOUT_FILENO, b"simple");
+    byte_field(simple.address);
+    byte_field(simple.command);
+}
+
+// Prints the head of an extended message to the module.
+fn show_transmission(transmission: Transmission) {
+    io::write_all(STDOUT_FILENO, b"extended");
+    let address = transmission.address;
+    match address {
+        Address::Plain(plain) => {
+            byte_field(plain);
+        }
+        Address::Extended(long) => {
+            long_field(long);
+        }
+    }
+    byte_field(transmission.response_id);
+    let options = transmission.options;
+    show_options(options);
+}
+
+// Prints the options that are given, with commas between, or `none`.
+fn show_options(options: Options) {
+    let retries = options.retries;
+    let lower = options.lower_delay;
+    let upper = options.upper_delay;
+    let interval = options.interval;
+    let mut given = show_flag(false, 1, options.mac_ack);
+    given = show_maybe_byte(given, 2, retries);
+    given = show_maybe_word(given, 3, lower);
+    given = show_maybe_word(given, 4, upper);
+    given = show_maybe_word(given, 5, interval);
+    given = show_flag(given, 6, options.parallel);
+    given = show_flag(given, 7, options.no_response);
+    given = show_flag(given, 8, options.sleep);
+    if !given {
+        io::write_all(STDOUT_FILENO, b" none");
+    }
+}
+
+// Prints an option without an argument where it is given, and answers whether one was printed so far; `before`: whether one was
+// printed before it.
+fn show_flag(before: bool, number: u8, given: bool) -> bool {
+    if given {
+        show_option(before, number);
+        return true;
+    }
+    before
+}
+
+// The same for an option with a byte.
+fn show_maybe_byte(before: bool, number: u8, option: MaybeByte) -> bool {
+    let MaybeByte::Given(argument) = option else {
+        return before;
+    };
+    show_option(before, number);
+    io::write_all(STDOUT_FILENO, b"=");
+    show_byte(argument);
+    true
+}
+
+// The same for an option with two bytes.
+fn show_maybe_word(before: bool, number: u8, option: MaybeWord) -> bool {
+    let MaybeWord::Given(argument) = option else {
+        return before;
+    };
+    show_option(before, number);
+    io::write_all(STDOUT_FILENO, b"=");
+    show_word(argument);
+    true
+}
+
+// Prints the number of an option, behind a comma where one was printed before it.
+fn show_option(before: bool, number: u8) {
+    if before {
+        io::write_all(STDOUT_FILENO, b",");
+        show_byte(number);
+    } else {
+        byte_field(number);
+    }
+}
+
+// Prints an output change.
+fn show_output_change(change: OutputChange) {
+    io::write_all(STDOUT_FILENO, b"output");
+    byte_field(change.address);
+    word_field(change.signals);
+    word_field(change.mask);
+}
+
+// Prints the head of an extended message from the module.
+fn show_reception(reception: Reception) {
+    io::write_all(STDOUT_FILENO, b"extended");
+    byte_field(reception.sender);
+    byte_field(reception.response_id);
+    long_field(reception.source);
+    long_field(reception.destination);
+    byte_field(reception.lqi);
+}
+
+// Prints a response.
+fn show_response(response: Response) {
+    io::write_all(STDOUT_FILENO, b"response");
+    byte_field(response.id);
+    let outcome = response.outcome;
+    match outcome {
+        Outcome::Failure => {
+            io::write_all(STDOUT_FILENO, b" fail");
+        }
+        Outcome::Success => {
+            io::write_all(STDOUT_FILENO, b" ok");
+        }
+    }
+}
+
+// Prints a standard status: its fields, then the four channels in mV, in decimal.
+fn show_standard(status: StandardStatus) {
+    io::write_all(STDOUT_FILENO, b"standard");
+    byte_field(status.sender);
+    byte_field(status.identifier);
+    byte_field(status.lqi);
+    long_field(status.serial);
+    byte_field(status.destination);
+    word_field(status.time);
+    byte_field(status.relays);
+    word_field(status.supply);
+    byte_field(status.unused);
+    byte_field(status.di);
+    byte_field(status.di_changed);
+    byte_field(status.ad1);
+    byte_field(status.ad2);
+    byte_field(status.ad3);
+    byte_field(status.ad4);
+    byte_field(status.correction);
+    decimal_field(status.millivolts(Channel::One));
+    decimal_field(status.millivolts(Channel::Two));
+    decimal_field(status.millivolts(Channel::Three));
+    decimal_field(status.millivolts(Channel::Four));
+}
+
+// Prints a remote status.
+fn show_remote(status: RemoteStatus) {
+    io::write_all(STDOUT_FILENO, b"remote");
+    byte_field(status.sender);
+    byte_field(status.lqi);
+    long_field(status.serial);
+    byte_field(status.destination);
+    word_field(status.time);
+    byte_field(status.relays);
+    word_field(status.signals);
+    word_field(status.mask);
+    word_field(status.interrupts);
+    byte_field(status.unused);
+}
+
+// Prints the number of a refusal and ends the line.
+fn show_refusal(refusal: Refusal) {
+    io::write_all(STDOUT_FILENO, b"refused ");
+    io::print_decimal(STDOUT_FILENO, refusal.number() as u64);
+    io::write_all(STDOUT_FILENO, b"\n");
+}
+
+// Prints whether the message was written as the frame that was read, and ends the line.
+fn show_ending(same: bool) {
+    if same {
+        io::write_all(STDOUT_FILENO, b" same\n");
+    } else {
+        io::write_all(STDOUT_FILENO, b" other\n");
+    }
+}
+
+// The length of the frame that is written for a message to the module with its data, where s begins with it, and 0 where not.
+fn request_back(framing: Framing, request: Request, tail: &[u8], s: &[u8]) -> usize {
+    let mut back = [0u8; 517];
+    let answer = message::write_request(framing, request, tail, &mut back);
+    begun_by(s, &back, answer)
+}
+
+// The same for an output change.
+fn change_back(framing: Framing, change: OutputChange, s: &[u8]) -> usize {
+    let mut back = [0u8; 517];
+    let answer = message::write_output_change(framing, change, &mut back);
+    begun_by(s, &back, answer)
+}
+
+// The same for a message from the module with its data.
+fn delivery_back(framing: Framing, delivery: Delivery, tail: &[u8], s: &[u8]) -> usize {
+    let mut back = [0u8; 517];
+    let answer = message::write_delivery(framing, delivery, tail, &mut back);
+    begun_by(s, &back, answer)
+}
+
+// The same for a message from the module without data.
+fn notice_back(framing: Framing, notice: Notice, s: &[u8]) -> usize {
+    let mut back = [0u8; 517];
+    let answer = message::write_notice(framing, notice, &mut back);
+    begun_by(s, &back, answer)
+}
+
+// The length of the frame that a write put into the front of back, where s begins with it, and 0 where not. A frame is no longer
+// than back; the test shows it here again.
+fn begun_by(s: &[u8], back: &[u8], answer: WriteAnswer) -> usize {
+    let WriteAnswer::Written(n) = answer else {
+        return 0;
+    };
+    if back.len() < n {
+        return 0;
+    }
+    if begins(s, &back[..n]) { n } else { 0 }
+}
