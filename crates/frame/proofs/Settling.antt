@@ -12,7 +12,7 @@ use Rattle.frame.specs.Checks.{Verdict, cut, refused, frame}
 use Rattle.frame.specs.Framing.{read, limit}
 use Rattle.frame.specs.Rule.{Output, noiseByte, handed, join}
 use Rattle.frame.specs.Reader.{Settled, settleAs, settle, Called, stopped, oneMore, ifFrame, lineFrom, line, ended, quiet}
-use Rattle.frame.specs.Recovery.{NeedsMoreIsTrue}
+use Rattle.frame.specs.Recovery.{TakenIsInside, NeedsMoreIsTrue}
 use Rattle.frame.specs.declared.framing.Framing.{Framing}
 use Rattle.frame.specs.declared.framing.Framing.the-variants.{Binary, Ascii}
 use Rattle.frame.proofs.Shapes.{NoFrame, read-stands}
@@ -217,7 +217,7 @@ module _ (f : Framing) where
   line-one held chunk = line-sound held chunk .sound .one
 
   -- A line call takes no more than the chunk.
-  pub line-taken : (held chunk : List ℕ) → line f held chunk .taken ≤ length chunk
+  pub line-taken : TakenIsInside f
   line-taken held chunk = line-sound held chunk .most
 
   -- The held bytes stay within the limit.

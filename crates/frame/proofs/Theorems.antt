@@ -3,7 +3,7 @@
 -- Assumes nothing.
 use Rattle.frame.specs.Framing.{checks}
 use Rattle.frame.specs.Claims.{LayoutReads, OneSpelling, DecisionStands, UndecidedIsShort, FrameIsSized}
-use Rattle.frame.specs.Recovery.{BytesAddUp, NeedsMoreIsTrue, HeldIsHeard, CallsFollowRule, CleanLine, AsciiRecovers, BinaryRecovers}
+use Rattle.frame.specs.Recovery.{BytesAddUp, TakenIsInside, NeedsMoreIsTrue, HeldIsHeard, CallsFollowRule, CleanLine, AsciiRecovers, BinaryRecovers}
 use Rattle.frame.specs.Recovery.{LateFramesComeBack, AsciiCallsRecover, BinaryCallsRecover, CleanCalls}
 use Rattle.frame.specs.Driving.{CanDrive, DrivesAreShort, StateNeverRefused, FeedStaysInLimit, QuietStaysInLimit, EndsFresh}
 use Rattle.frame.specs.RecoveryExamples.{LostAndBack, ProvisoNeeded}
@@ -44,6 +44,9 @@ frame-is-sized = frame-sized
 
 pub bytes-add-up : (f : Framing) → BytesAddUp f
 bytes-add-up = rules.bytes-add-up
+
+pub taken-is-inside : (f : Framing) → TakenIsInside f
+taken-is-inside = settling.line-taken
 
 pub needs-more-is-true : (f : Framing) → NeedsMoreIsTrue f
 needs-more-is-true = settling.needs-more-is-true

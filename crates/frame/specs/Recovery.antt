@@ -150,6 +150,10 @@ usedBytes (x ∷ xs) = x .used + usedBytes xs
 abbrev pub BytesAddUp : Framing → Type 0
 BytesAddUp f = (s : List ℕ) → usedBytes (rule f s .frames) + rule f s .noise ≡ length s
 
+-- A line call takes no more bytes than the chunk has.
+abbrev pub TakenIsInside : Framing → Type 0
+TakenIsInside f = (held chunk : List ℕ) → line f held chunk .taken ≤ length chunk
+
 -- A line call that hands out nothing has taken the whole chunk, and holds nothing or undecided bytes.
 abbrev pub NeedsMoreIsTrue : Framing → Type 0
 NeedsMoreIsTrue f =

@@ -6,7 +6,7 @@ use borrow.Author.Needs.{needs}
 use lib.ListN.{length}
 use Rattle.io.proofs.Counting.{front}
 use Rattle.frame.specs.Reader.{feedValuesOf}
-use Rattle.frame.proofs.Settling.{line-taken}
+use Rattle.frame.proofs.Theorems.{taken-is-inside}
 use Rattle.segments.proofs.Answers.{len-within, taken-within}
 use Rattle.segments.proofs.feed_call.Statement.{statement}
 use Rattle.segments.proofs.feed_call.Tie as tie
@@ -91,7 +91,7 @@ same-length c = search needs
 
 -- no more bytes are taken than the chunk has
 taken-in : (f : tie.After-feed) → feedValuesOf (f .feed .result .answer) .taken ≤ length (f .before .before .before .before .before .args .chunk .now)
-taken-in f = taken-within (f .feed .ensures) (line-taken _ _ _)
+taken-in f = taken-within (f .feed .ensures) (taken-is-inside _ _ _)
 
 returns : tie.Need-returns
 returns c =
