@@ -7,7 +7,7 @@ ghost use Prim.Native.Nat.{_≤_, _<_, _+_, _*_, _/_, _%_};
 ghost use lib.ListN.{length, getD, take, drop, set};
 ghost use lib.Seq.{paste};
 ghost use Rattle.frame.specs.declared.framing.Framing.the-variants.{Ascii};
-ghost use Rattle.frame.specs.Ascii.{isDigit, digitValue, digitOf, sum, hex, digits, afterDigits, asciiLayout};
+ghost use Rattle.frame.specs.Ascii.{isDigit, digitValue, digitOf, sum, hex, digits, afterDigits, asciiLayout, carriageReturn};
 ghost use Rattle.frame.specs.Checks.{run, behind};
 ghost use Rattle.frame.specs.Framing.{read, inFront};
 ghost use Rattle.frame.specs.Judged.{verdictOf, decoded, digitRun};
@@ -94,6 +94,35 @@ fn pair_sum(s: &[u8]) -> u32
     sum
 }
 
+// Judges the sum of the `count` digits behind the colon, and what stands behind their CR.
+fn judge_sum(s: &[u8], count: usize) -> Judged
+    requires { ⌜ (count ≡ digitRun 515 (drop 1 (now s))) × ((4 ≤ count) × (count ≤ 514)) × (count % 2 ≡ 0) ⌝ }
+    requires { ⌜ (1 + count < length (now s)) × (getD (now s) (1 + count) 0 ≡ carriageReturn) ⌝ }
+    ensures { λ r. ⌜ behind 1 (run (digits 514 afterDigits) (drop 1 (now (s .entry)))) ≡ verdictOf Ascii (now (s .entry)) r ⌝ }
+{
+    let n = s.len();
+    let end = 1 + count;
+    if pair_sum(&s[1..end]) % 256 != 0 {
+        return Judged::Failed {
+            refusal: Refusal::Checksum,
+            judged: end + 1,
+        };
+    }
+    if n <= end + 1 {
+        return Judged::Undecided;
+    }
+    if s[end + 1] != 0x0A {
+        return Judged::Failed {
+            refusal: Refusal::Footer,
+            judged: end + 2,
+        };
+    }
+    Judged::Frame {
+        used: end + 2,
+        len: count / 2 - 1,
+    }
+}
+
 // Judges what stands behind the colon, where `count` digits do.
 fn judge_digits(s: &[u8], count: usize) -> Judged
     requires { ⌜ (1 ≤ length (now s)) × (count ≡ digitRun 515 (drop 1 (now s))) ⌝ }
@@ -128,25 +157,7 @@ fn judge_digits(s: &[u8], count: usize) -> Judged
             judged: end + 1,
         };
     }
-    if pair_sum(&s[1..end]) % 256 != 0 {
-        return Judged::Failed {
-            refusal: Refusal::Checksum,
-            judged: end + 1,
-        };
-    }
-    if n <= end + 1 {
-        return Judged::Undecided;
-    }
-    if s[end + 1] != 0x0A {
-        return Judged::Failed {
-            refusal: Refusal::Footer,
-            judged: end + 2,
-        };
-    }
-    Judged::Frame {
-        used: end + 2,
-        len: count / 2 - 1,
-    }
+    judge_sum(s, count)
 }
 
 // Judges the front of s.

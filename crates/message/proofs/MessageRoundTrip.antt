@@ -26,7 +26,7 @@ use Rattle.message.specs.declared.to_module.Address.{Address}
 use Rattle.message.specs.declared.to_module.Address.the-variants.{Plain, Extended as Far}
 use Rattle.message.specs.declared.to_module.Transmission.{Transmission}
 use Rattle.message.specs.declared.to_module.Request.{Request}
-use Rattle.message.specs.declared.to_module.Simple.{Simple}
+use Rattle.message.specs.declared.simple.Simple.{Simple}
 use Rattle.message.specs.declared.to_module.OutputChange.{OutputChange}
 use Rattle.message.specs.declared.to_module.Request.the-variants.{Simple as SimpleRequest, Extended as ExtendedRequest}
 use Rattle.message.specs.declared.from_module.Reception.{Reception}

@@ -32,7 +32,7 @@ use Rattle.message.specs.declared.refusal.Refusal.the-variants.{Length, 
 use Rattle.message.specs.declared.refusal.Refusal.the-variants.{Field, Count, Buffer, Payload}
 use Rattle.message.specs.declared.to_module.Address.{Address}
 use Rattle.message.specs.declared.to_module.Address.the-variants.{Plain, Extended as Far}
-use Rattle.message.specs.declared.to_module.Simple.{Simple}
+use Rattle.message.specs.declared.simple.Simple.{Simple}
 use Rattle.message.specs.declared.to_module.Transmission.{Transmission}
 use Rattle.message.specs.declared.write.WriteAnswer.{WriteAnswer}
 use Rattle.message.specs.declared.write.WriteAnswer.the-variants.{Refused}

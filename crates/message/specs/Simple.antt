@@ -4,7 +4,7 @@ use mathlib.Core.List.{List, _∷_}
 use mathlib.Core.Bool.{cond}
 use lib.Dec.{ltb}
 use Rattle.message.specs.Field.{isPlain}
-use Rattle.message.specs.declared.to_module.Simple.{Simple}
+use Rattle.message.specs.declared.simple.Simple.{Simple}
 
 -- The layout of a message with its data.
 abbrev pub simpleLayout : Simple → List ℕ → List ℕ

@@ -9,6 +9,8 @@ use crate::options::put_options;
 use crate::options::read_options;
 use crate::options::retry_allowed;
 use crate::refusal::Refusal;
+use crate::simple::Simple;
+use crate::simple::write_simple;
 use crate::write::WriteAnswer;
 use crate::write::send;
 use crate::write::write_parts;
@@ -19,14 +21,7 @@ ghost use lib.ListN.{length};
 ghost use Rattle.message.specs.ToModule.{toModuleOf, readToModule, farRequest, requestAt, outputChangeAt, requestRefusal, requestLayout};
 ghost use Rattle.message.specs.ToModule.{addressAllowed, addressBytes, transmissionRefusal, transmissionLayout, changeRefusal, changeLayout};
 ghost use Rattle.message.specs.Parts.{Puts};
-ghost use Rattle.message.specs.Simple.{simpleRefusal, simpleLayout};
 ghost use Rattle.message.specs.Write.{Writes};
-
-// A simple message, in either direction: the other side's address and a command below 80.
-pub struct Simple {
-    pub address: u8,
-    pub command: u8,
-}
 
 // The destination of an extended message to the module.
 pub enum Address {
@@ -159,25 +154,6 @@ pub fn read_to_module(payload: &[u8]) -> ToModule
         return ToModule::Refused(Refusal::Length);
     }
     read_request(payload, Address::Plain(address), 3)
-}
-
-// Writes a simple message with its data.
-pub(crate) fn write_simple(
-    framing: Framing,
-    message: Simple,
-    data: &[u8],
-    buf: &mut [u8],
-) -> WriteAnswer
-    ensures { λ r. ⌜ Writes framing (simpleRefusal message) (simpleLayout message (now («data» .entry))) (now (buf .entry)) r (now (buf .exit)) ⌝ }
-{
-    if !is_plain(message.address) {
-        return WriteAnswer::Refused(Refusal::Address);
-    }
-    if 0x80 <= message.command {
-        return WriteAnswer::Refused(Refusal::Command);
-    }
-    let head = [message.address, message.command];
-    write_parts(framing, &head, data, buf)
 }
 
 fn address_allowed(address: Address) -> bool

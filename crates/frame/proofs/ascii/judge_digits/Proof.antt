@@ -5,20 +5,13 @@ use mathlib.Core.Logic.{inl, inr}
 use borrow.Author.Needs.{needs}
 use lib.ListN.{drop}
 use Rattle.frame.proofs.AsciiLeaves.{counted}
-use Rattle.frame.proofs.AsciiJudge.{line-many, line-short, Stopped, line-character, line-count, Summed, line-checksum, line-cut}
-use Rattle.frame.proofs.AsciiJudge.{line-footer, line-frame}
+use Rattle.frame.proofs.AsciiJudge.{line-many, line-short, Stopped, line-character, line-count}
 use Rattle.frame.proofs.ascii.judge_digits.Statement.{statement}
 use Rattle.frame.proofs.ascii.judge_digits.Tie as tie
 
 -- A character stands behind the digits.
 stopped : (c : tie.Else2) → let a = c .before .before .before .args in Stopped (a .s .now) (a .count)
 stopped c = search needs
-
--- The sum of their bytes is made.
-summed : (c : tie.After-pair-sum) →
-    let a = c .before .before .before .before .before .before .before .before .before .args in
-    Summed (a .s .now) (a .count) (c .pair-sum .result)
-summed c = search needs
 
 add-end : tie.Need-add-end
 add-end c = omega (arith, counted 515 (drop 1 (c .before .args .s .now)) .room)
@@ -54,54 +47,11 @@ add-t15 c = search needs
 returns-5 : tie.Need-returns-5
 returns-5 c = line-count (stopped (c .before .before .before .before)) (c .before .before .if3 .left) (inr (c .if5 .taken))
 
-sub-pair-sum : tie.Need-sub-pair-sum
-sub-pair-sum c = search needs
-
-part-pair-sum-start : tie.Need-part-pair-sum-start
-part-pair-sum-start c = search needs
-
-part-pair-sum-end : tie.Need-part-pair-sum-end
-part-pair-sum-end c = search needs
-
-pair-sum-requires : tie.Need-pair-sum-requires
-pair-sum-requires c κs = search needs
-
-add-t22 : tie.Need-add-t22
-add-t22 c = search needs
+judge-sum-requires : tie.Need-judge-sum-requires
+judge-sum-requires c κs = search needs
 
 returns-6 : tie.Need-returns-6
-returns-6 c = line-checksum (summed (c .before)) (c .if6 .taken)
-
-add-if7 : tie.Need-add-if7
-add-if7 c = search needs
-
-returns-7 : tie.Need-returns-7
-returns-7 c = line-cut (summed (c .before .before)) (c .before .if6 .left) (c .if7 .taken)
-
-add-if8 : tie.Need-add-if8
-add-if8 c = search needs
-
-shared-slice-read-if8 : tie.Need-shared-slice-read-if8
-shared-slice-read-if8 c = search needs
-
-add-t25 : tie.Need-add-t25
-add-t25 c = search needs
-
-returns-8 : tie.Need-returns-8
-returns-8 c =
-    line-footer (summed (c .before .before .before .before)) (c .before .before .before .if6 .left) (c .before .before .if7 .left)
-    (c .if8 .taken)
-
-add-t13 : tie.Need-add-t13
-add-t13 c = search needs
-
-sub-t27 : tie.Need-sub-t27
-sub-t27 c = search needs
-
-returns-9 : tie.Need-returns-9
-returns-9 c =
-    line-frame (summed (c .before .before .before .before)) (c .before .before .before .if6 .left) (c .before .before .if7 .left)
-    (c .if8 .left)
+returns-6 c = search needs
 
 pub judge-digits-spec : {M : Type 1} → statement M
 judge-digits-spec =
@@ -117,18 +67,5 @@ judge-digits-spec =
     returns-4
     add-t15
     returns-5
-    sub-pair-sum
-    part-pair-sum-start
-    part-pair-sum-end
-    pair-sum-requires
-    add-t22
-    returns-6
-    add-if7
-    returns-7
-    add-if8
-    shared-slice-read-if8
-    add-t25
-    returns-8
-    add-t13
-    sub-t27
-    returns-9)
+    judge-sum-requires
+    returns-6)

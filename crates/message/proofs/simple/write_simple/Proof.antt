@@ -1,4 +1,4 @@
--- `message::to_module::write_simple` meets its contract: each refusal is the message's, and the payload sent is its layout.
+-- `message::simple::write_simple` meets its contract: each refusal is the message's, and the payload sent is its layout.
 -- Assumes nothing.
 use mathlib.Core.Path.{sym, _∙_}
 use borrow.Author.Needs.{needs}
@@ -6,8 +6,8 @@ use borrow.Author.Tests.{not-true, not-false}
 use Rattle.message.specs.Simple.{simpleRefusal, simpleLayout}
 use Rattle.message.specs.declared.refusal.Refusal.the-variants.{Address, Command}
 use Rattle.message.proofs.WriteLaws.{writes-refused, writes-allowed, simple-address, simple-command, simple-allowed}
-use Rattle.message.proofs.to_module.write_simple.Statement.{statement}
-use Rattle.message.proofs.to_module.write_simple.Tie as tie
+use Rattle.message.proofs.simple.write_simple.Statement.{statement}
+use Rattle.message.proofs.simple.write_simple.Tie as tie
 
 is-plain-requires : tie.Need-is-plain-requires
 is-plain-requires c κs = search needs
