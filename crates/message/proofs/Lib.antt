@@ -1,6 +1,7 @@
 -- Laws that belong to no one function, and the claims.
 pub mod Numbers
 pub mod Lists
+pub mod Putting
 pub mod OptionLaws
 pub mod WriteLaws
 pub mod RequestLaws

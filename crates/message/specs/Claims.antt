@@ -1,4 +1,5 @@
--- What is claimed of messages; proofs/Theorems.antt proves each claim.
+-- What is claimed of messages: that they read back as they were written. Document 00, demand 2, and document 01, "Payloads" and "Refusal numbers".
+-- proofs/Theorems.antt proves each claim.
 use Prim.Native.Nat.{ℕ, _+_, _≤_, _<_}
 use mathlib.Core.Path.{_≡_}
 use mathlib.Core.List.{List, [], _∷_, _++_}
@@ -9,7 +10,7 @@ use Rattle.frame.specs.Rule.{Output}
 use Rattle.frame.specs.Reader.{newReader}
 use Rattle.frame.specs.Calls.{Calls, offering}
 use Rattle.frame.specs.declared.framing.Framing.{Framing}
-use Rattle.message.specs.Meaning.{Meaning, refused, carrying, bare}
+use Rattle.message.specs.Meaning.{Meaning, carrying, bare}
 use Rattle.message.specs.Options.{optionBytes, option, optionsFrom, opted, noOptions}
 use Rattle.message.specs.ToModule.{readToModule, requestLayout, requestRefusal, addressBytes, changeLayout, changeRefusal}
 use Rattle.message.specs.FromModule.{readFromModule, deliveryLayout, deliveryRefusal, noticeLayout, noticeRefusal}

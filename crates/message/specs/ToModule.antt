@@ -1,7 +1,7 @@
 -- Messages to the module. Document 01, "Payloads" and "Refusal numbers".
 use Prim.Native.Nat.{ℕ}
 use mathlib.Core.List.{List, [], _∷_, _++_}
-use mathlib.Core.Bool.{Bool, cond, _&&_, _||_}
+use mathlib.Core.Bool.{Bool, cond, _&&_}
 use lib.Dec.{leb, ltb, eqb}
 use lib.ListN.{length, drop, replicate}
 use Rattle.message.specs.Number.{byteAt, wordAt, longAt, bytes2, bytes4}

@@ -2,7 +2,7 @@
 -- Assumes nothing.
 use native.Mathlib.Omega.{arith}
 use borrow.Author.Needs.{needs}
-use Rattle.message.proofs.OptionLaws.{puts-none, puts-one}
+use Rattle.message.proofs.Putting.{puts-none, puts-one}
 use Rattle.message.proofs.options.put_flag.Statement.{statement}
 use Rattle.message.proofs.options.put_flag.Tie as tie
 

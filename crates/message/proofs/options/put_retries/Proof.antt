@@ -2,7 +2,7 @@
 -- Assumes nothing.
 use native.Mathlib.Omega.{arith}
 use borrow.Author.Needs.{needs}
-use Rattle.message.proofs.OptionLaws.{puts-none, puts-two}
+use Rattle.message.proofs.Putting.{puts-none, puts-two}
 use Rattle.message.proofs.options.put_retries.Statement.{statement}
 use Rattle.message.proofs.options.put_retries.Tie as tie
 

@@ -4,7 +4,7 @@ use Prim.Native.Nat.{_/_, _%_}
 use native.Mathlib.Omega.{arith}
 use borrow.Author.Needs.{needs}
 use lib.ListN.{length-set}
-use Rattle.message.proofs.OptionLaws.{puts-none, puts-three}
+use Rattle.message.proofs.Putting.{puts-none, puts-three}
 use Rattle.message.proofs.options.put_word.Statement.{statement}
 use Rattle.message.proofs.options.put_word.Tie as tie
 
