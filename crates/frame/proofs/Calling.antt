@@ -2,18 +2,21 @@
 -- Assumes nothing.
 use Prim.Native.Nat.{ℕ, _≤_}
 use native.Mathlib.Nat.{le-of-suc-le-suc, not-suc-le-zero}
+use native.Mathlib.Omega.{arith}
 use mathlib.Core.Path.{_≡_, refl, sym, ap, ap₂, _∙_, subst}
 use mathlib.Core.List.{List, [], _∷_, _++_, append-nil}
 use mathlib.Core.Bool.{Bool, true, false, cond, true≢false, false≢true}
+use borrow.Author.Tests.{eqb-true}
 use lib.Dec.{eqb}
-use lib.ListN.{length, take, drop}
+use lib.ListN.{length, take, drop, length-append}
 use lib.Seq.{take-append-seam}
 use Rattle.frame.specs.Refusal.{numberOf}
 use Rattle.frame.specs.Rule.{Output, nothing, join}
 use Rattle.frame.specs.Reader.{Called, line, quiet, heldIn, Holds, Values, refusalValues, feedValuesOf, quietValuesOf, calledValues}
-use Rattle.frame.specs.Reader.{valuesAt, bufferAt, Promise, Feeds, AfterQuiet, Quiets, newReader}
+use Rattle.frame.specs.Reader.{valuesAt, bufferAt, feedRefusal, quietRefusal, Promise, Feeds, AfterQuiet, Quiets, newReader}
 use Rattle.frame.specs.Calls.{FeedIsRefused, QuietIsRefused, takenIn, feedOut, quietOut, IsEmpty, IsQuietFrame, Phase, offering}
 use Rattle.frame.specs.Calls.{ending, over, Calls, fed, taken, quieted, emptied, feedRefused, quietRefused, done}
+use Rattle.frame.specs.Draining.{FeedTells, QuietTells}
 use Rattle.frame.specs.Recovery.{CallsFollowRule}
 use Rattle.frame.specs.Driving.{lastState, EndsFresh}
 use Rattle.frame.specs.declared.framing.Framing.{Framing}
@@ -61,6 +64,11 @@ quiet-refused (QuietFrame n l) h = absurd h
 quiet-refused (Empty n) h = absurd h
 quiet-refused (QuietRefused r) h = number-some r
 
+pub quiet-answered : (a : QuietAnswer) → (QuietIsRefused a → ⊥) → eqb (quietValuesOf a .number) 0 ≡ true
+quiet-answered (QuietFrame n l) h = refl
+quiet-answered (Empty n) h = refl
+quiet-answered (QuietRefused r) h = absurd (h tt)
+
 -- A call that is not refused has the number 0.
 called-number : (c : Called) (fs : List (List ℕ)) → calledValues c fs .number ≡ 0
 called-number c [] = refl
@@ -76,11 +84,33 @@ module _
         ap (λ (v : Values). eqb (v .number) 0) (p .answers e .0) ∙ ap (λ (n : ℕ). eqb n 0) (called-number c (c .out .frames))
     same-number false e = ap (λ (v : Values). eqb (v .number) 0) (p .refuses e .0) ∙ e
 
+    -- The number of a call is 0 just where that of its answer is.
+    pub numbered : (q : Bool) → eqb (values .number) 0 ≡ q → eqb number 0 ≡ q
+    numbered q z = sym (same-number (eqb number 0) refl) ∙ z
+
     pub answered : eqb (values .number) 0 ≡ true → (values ≡ valuesAt c) × Next r′ × (buf′ ≡ bufferAt (c .out .frames) buf)
-    answered z = p .answers (sym (same-number (eqb number 0) refl) ∙ z)
+    answered z = p .answers (numbered true z)
 
     pub refusing : eqb (values .number) 0 ≡ false → (values ≡ refusalValues number) × (r′ ≡ r) × (buf′ ≡ buf)
-    refusing z = p .refuses (sym (same-number (eqb number 0) refl) ∙ z)
+    refusing z = p .refuses (numbered false z)
+
+-- A payload that came out is in the buffer's front.
+len-of :
+    (c : Called) (fs : List (List ℕ)) (buf buf′ : List ℕ) (v : Values) → v ≡ calledValues c fs → buf′ ≡ bufferAt fs buf → v .len ≤ length buf′
+len-of c [] buf buf′ v e l = omega (arith, ap (λ (x : Values). x .len) e)
+len-of c (p ∷ ps) buf buf′ v e l = omega (arith, ap (λ (x : Values). x .len) e, simp length-append at (ap length l))
+
+module _
+    {number : ℕ} {c : Called} {Next : Reader → Type 0} {r : Reader} {buf : List ℕ} {values : Values} {r′ : Reader} {buf′ : List ℕ}
+    (p : Promise number c Next r buf values r′ buf′)
+  where
+    len-by : (none : Bool) → eqb number 0 ≡ none → values .len ≤ length buf′
+    len-by false e = omega (arith, ap (λ (x : Values). x .len) (p .refuses e .0))
+    len-by true e = len-of c (c .out .frames) buf buf′ values (p .answers e .0) (p .answers e .2)
+
+    -- The payload is within the buffer.
+    len-within : values .len ≤ length buf′
+    len-within = len-by (eqb number 0) refl
 
 -- What an answer with these numbers hands out, where the buffer then holds `after`.
 abbrev valuesOut : Values → List ℕ → Output (List ℕ)
@@ -128,6 +158,45 @@ values-out :
     {values : Values} (c : Called) (buf buf′ : List ℕ) → values ≡ valuesAt c → buf′ ≡ bufferAt (c .out .frames) buf →
     length (c .out .frames) ≤ 1 → valuesOut values buf′ ≡ c .out
 values-out c buf buf′ ev eb l = rw (ev, eb) (called-out c (c .out .frames) buf l)
+
+-- What the answer of a line call says.
+pub feed-tells : FeedTells
+feed-tells r chunk buf a buf′ p =
+    let c : Called = line (r .framing) (heldIn r) chunk in
+    record {
+      inside = len-within p;
+      answered = λ n.
+          let z = feed-answered (a .answer) n in
+          let h = answered p z in (
+            eqb-true (feedRefusal r (length buf) (length chunk)) 0 (numbered p true z),
+            feed-values (a .answer) buf′ ∙ values-out c buf buf′ (h .0) (h .2) (line-one (r .framing) (heldIn r) chunk),
+            feed-taken (a .answer) ∙ ap (λ (v : Values). v .taken) (h .0) ∙ called-taken c (c .out .frames),
+            h .1,
+          );
+      refused = λ n.
+          let z = feed-refused (a .answer) n in
+          let h = refusing p z in
+          (numbered p false z, ap (λ (v : Values). v .number) (h .0), h .1, h .2);
+    }
+
+-- What the answer of a quiet call says.
+pub quiet-tells : QuietTells
+quiet-tells r buf a buf′ p =
+    let c : Called = quiet (r .framing) (heldIn r) in
+    record {
+      inside = len-within p;
+      answered = λ n.
+          let z = quiet-answered (a .answer) n in
+          let h = answered p z in (
+            eqb-true (quietRefusal r (length buf)) 0 (numbered p true z),
+            quiet-values (a .answer) buf′ ∙ values-out c buf buf′ (h .0) (h .2) (quiet-one (r .framing) (heldIn r)),
+            h .1,
+          );
+      refused = λ n.
+          let z = quiet-refused (a .answer) n in
+          let h = refusing p z in
+          (numbered p false z, ap (λ (v : Values). v .number) (h .0), h .1, h .2);
+    }
 
 -- A state that holds h stands for h before what follows.
 holds-given : {f : Framing} {h : List ℕ} {r : Reader} → Holds f h r → (s : List ℕ) → given (r .framing) (heldIn r ++ s) ≡ given f (h ++ s)

@@ -12,6 +12,7 @@ pub mod Singles
 pub mod Shapes
 pub mod Rules
 pub mod Settling
+pub mod Draining
 pub mod Calling
 pub mod Stretches
 pub mod AsciiRecovery

@@ -10,7 +10,7 @@ use lib.ListN.{length, drop, length-append, length-drop}
 use lib.Seq.{drop-append-le}
 use Rattle.frame.specs.Checks.{Verdict, cut, refused, frame}
 use Rattle.frame.specs.Framing.{read, limit}
-use Rattle.frame.specs.Rule.{Output, noiseByte, handed, join}
+use Rattle.frame.specs.Rule.{Output, nothing, noiseByte, handed, join}
 use Rattle.frame.specs.Reader.{Settled, settleAs, settle, Called, stopped, oneMore, ifFrame, lineFrom, line, ended, quiet}
 use Rattle.frame.specs.Recovery.{TakenIsInside, NeedsMoreIsTrue}
 use Rattle.frame.specs.declared.framing.Framing.{Framing}
@@ -19,49 +19,89 @@ use Rattle.frame.proofs.Shapes.{NoFrame, read-stands}
 use Rattle.frame.proofs.Framings.{frame-sized, undecided-short}
 use Rattle.frame.proofs.Rules.{join-nothing, join-assoc, given, given-noise, given-frame}
 
--- The held bytes h were judged so, and what follows them does not change it.
-abbrev Agrees : Framing → List ℕ → Verdict → List ℕ → Type 0
-Agrees f more cut h = Unit {0}
-Agrees f more (refused judged n) h = NoFrame (read f (h ++ more))
-Agrees f more (frame used p) h = (read f (h ++ more) ≡ frame used p) × (used ≤ length h)
-
 -- A decision on held bytes stands whatever follows.
-agrees-as : (f : Framing) (more h : List ℕ) (v : Verdict) → read f h ≡ v → Agrees f more v h
-agrees-as f more h cut e = tt
-agrees-as f more h (refused judged n) e = subst NoFrame (sym (read-stands f h more (refused judged n) tt e)) tt
-agrees-as f more h (frame used p) e = (read-stands f h more (frame used p) tt e, frame-sized f h p used e .there)
+module _ (f : Framing) (Fails : Verdict → Type 0) where
+  -- The held bytes h were judged so, and what follows them does not change it.
+  abbrev Agrees : List ℕ → Verdict → List ℕ → Type 0
+  Agrees more cut h = Unit {0}
+  Agrees more (refused judged n) h = Fails (read f (h ++ more))
+  Agrees more (frame used p) h = (read f (h ++ more) ≡ frame used p) × (used ≤ length h)
 
-agrees : (f : Framing) (more h : List ℕ) → Agrees f more (read f h) h
-agrees f more h = agrees-as f more h (read f h) refl
+  agrees-as : ((judged n : ℕ) → Fails (refused judged n)) → (more h : List ℕ) (v : Verdict) → read f h ≡ v → Agrees more v h
+  agrees-as fails more h cut e = tt
+  agrees-as fails more h (refused judged n) e = subst Fails (sym (read-stands f h more (refused judged n) tt e)) (fails judged n)
+  agrees-as fails more h (frame used p) e = (read-stands f h more (frame used p) tt e, frame-sized f h p used e .there)
 
 -- At a quiet nothing follows, and what is undecided is no frame.
-agrees-ended : (f : Framing) (h : List ℕ) (v : Verdict) → read f h ≡ v → Agrees f [] (ended v) h
+agrees-ended : (f : Framing) (h : List ℕ) (v : Verdict) → read f h ≡ v → Agrees f NoFrame [] (ended v) h
 agrees-ended f h cut e = subst NoFrame (sym (ap (read f) (append-nil h) ∙ e)) tt
-agrees-ended f h (refused judged n) e = agrees-as f [] h (refused judged n) e
-agrees-ended f h (frame used p) e = agrees-as f [] h (frame used p) e
+agrees-ended f h (refused judged n) e = agrees-as f NoFrame (λ _ _. tt) [] h (refused judged n) e
+agrees-ended f h (frame used p) e = agrees-as f NoFrame (λ _ _. tt) [] h (frame used p) e
 
-module _ (f : Framing) (more : List ℕ) where
+-- What is worked out of a segment place by place: `over` is its value for a segment, and `onto` puts an output before a value.
+module _ (f : Framing) {A : Type 0} (Fails : Verdict → Type 0) (over : List ℕ → A) (onto : Output (List ℕ) → A → A)
+    (onto-nothing : (a : A) → onto nothing a ≡ a)
+    (onto-join : (x y : Output (List ℕ)) (a : A) → onto (join x y) a ≡ onto x (onto y a))
+    (over-noise : (b : ℕ) (s : List ℕ) → Fails (read f (b ∷ s)) → over (b ∷ s) ≡ onto noiseByte (over s))
+    (over-frame : (used : ℕ) (p s : List ℕ) → read f s ≡ frame used p → over s ≡ onto (handed p) (over (drop used s))) where
   -- One step of settling.
   settle-at :
-      (b : ℕ) (h : List ℕ) (later : Settled) (v : Verdict) → Agrees f more v (b ∷ h) →
-      given f (h ++ more) ≡ join (later .out) (given f (later .rest ++ more)) →
-      given f ((b ∷ h) ++ more) ≡ join (settleAs v (b ∷ h) later .out) (given f (settleAs v (b ∷ h) later .rest ++ more))
-  settle-at b h later cut a e = sym (join-nothing (given f ((b ∷ h) ++ more)))
-  settle-at b h later (refused judged n) a e =
-      given-noise f b (h ++ more) a
-      ∙ ap (join noiseByte) e
-      ∙ sym (join-assoc noiseByte (later .out) (given f (later .rest ++ more)))
-  settle-at b h later (frame used p) a e =
-      given-frame f used p ((b ∷ h) ++ more) (a .0)
-      ∙ ap (λ (s : List ℕ). join (handed p) (given f s)) (drop-append-le used (b ∷ h) more (a .1))
+      (more : List ℕ) (b : ℕ) (h : List ℕ) (later : Settled) (v : Verdict) → Agrees f Fails more v (b ∷ h) →
+      over (h ++ more) ≡ onto (later .out) (over (later .rest ++ more)) →
+      over ((b ∷ h) ++ more) ≡ onto (settleAs v (b ∷ h) later .out) (over (settleAs v (b ∷ h) later .rest ++ more))
+  settle-at more b h later cut a e = sym (onto-nothing (over ((b ∷ h) ++ more)))
+  settle-at more b h later (refused judged n) a e =
+      over-noise b (h ++ more) a
+      ∙ ap (onto noiseByte) e
+      ∙ sym (onto-join noiseByte (later .out) (over (later .rest ++ more)))
+  settle-at more b h later (frame used p) a e =
+      over-frame used p ((b ∷ h) ++ more) (a .0)
+      ∙ ap (λ (s : List ℕ). onto (handed p) (over s)) (drop-append-le used (b ∷ h) more (a .1))
 
-  -- Settled bytes gave what the rule gives, and the bytes still held stand for the rest of it.
-  settle-rule :
-      (judge : List ℕ → Verdict) → ((h : List ℕ) → Agrees f more (judge h) h) → (h : List ℕ) →
-      given f (h ++ more) ≡ join (settle judge h .out) (given f (settle judge h .rest ++ more))
+  -- Settled bytes gave what all of them give, and the bytes still held stand for the rest of it.
+  settle-over :
+      (more : List ℕ) (judge : List ℕ → Verdict) → ((h : List ℕ) → Agrees f Fails more (judge h) h) → (h : List ℕ) →
+      over (h ++ more) ≡ onto (settle judge h .out) (over (settle judge h .rest ++ more))
   unfolding settle
-  settle-rule judge a [] = sym (join-nothing (given f more))
-  settle-rule judge a (b ∷ h) = settle-at b h (settle judge h) (judge (b ∷ h)) (a (b ∷ h)) (settle-rule judge a h)
+  settle-over more judge a [] = sym (onto-nothing (over more))
+  settle-over more judge a (b ∷ h) =
+      settle-at more b h (settle judge h) (judge (b ∷ h)) (a (b ∷ h)) (settle-over more judge a h)
+
+  module _ (fails : (judged n : ℕ) → Fails (refused judged n)) where
+    -- The call c, begun with st and the bytes todo before it, leaves of them what they still have to give.
+    abbrev Follows : Settled → List ℕ → Called → Type 0
+    Follows st todo c = onto (st .out) (over (st .rest ++ todo)) ≡ onto (c .out) (over (c .held ++ drop (c .taken) todo))
+
+    -- A decision on held bytes stands.
+    stays : (todo h : List ℕ) → Agrees f Fails todo (read f h) h
+    stays todo h = agrees-as f Fails fails todo h (read f h) refl
+
+    -- One more byte.
+    follows-step :
+        (st : Settled) (b : ℕ) (todo : List ℕ) (c : Called) (fs : List (List ℕ)) → Follows (settle (read f) (st .rest ++ (b ∷ []))) todo c →
+        Follows st (b ∷ todo) (ifFrame fs (stopped st) (oneMore (st .out) c))
+    follows-step st b todo c [] e =
+        ap (λ (s : List ℕ). onto (st .out) (over s)) (sym (append-assoc (st .rest) (b ∷ []) todo))
+        ∙ ap (onto (st .out)) (settle-over todo (read f) (stays todo) (st .rest ++ (b ∷ [])) ∙ e)
+        ∙ sym (onto-join (st .out) (c .out) (over (c .held ++ drop (c .taken) todo)))
+    follows-step st b todo c (p ∷ ps) e = refl
+
+    -- A whole chunk.
+    line-follows : (st : Settled) (chunk more : List ℕ) → Follows st (chunk ++ more) (lineFrom f st chunk)
+    unfolding lineFrom
+    line-follows st [] more = refl
+    line-follows st (b ∷ chunk) more =
+        let st′ : Settled = settle (read f) (st .rest ++ (b ∷ [])) in
+        follows-step st b (chunk ++ more) (lineFrom f st′ chunk) (st .out .frames) (line-follows st′ chunk more)
+
+    -- What a line call handed out, and what it holds with the bytes not taken, is what all of them give.
+    pub line-over :
+        (held chunk more : List ℕ) →
+        over (held ++ (chunk ++ more))
+        ≡ onto (line f held chunk .out) (over (line f held chunk .held ++ drop (line f held chunk .taken) (chunk ++ more)))
+    unfolding line
+    line-over held chunk more =
+        settle-over (chunk ++ more) (read f) (stays (chunk ++ more)) held ∙ line-follows (settle (read f) held) chunk more
 
 -- What a call handed out and holds: at most one payload; without one, nothing or undecided bytes are left.
 pub record Sound (judge : List ℕ → Verdict) (out : Output (List ℕ)) (held : List ℕ) : Type 0 where
@@ -94,37 +134,13 @@ unfolding settle
 settle-size judge [] = zero-le
 settle-size judge (b ∷ h) = size-at (b ∷ h) (settle judge h) (judge (b ∷ h)) (le-step (settle-size judge h))
 
--- The call c, begun with st and the bytes todo before it, leaves of them what the rule still has to give.
-abbrev Follows : Framing → Settled → List ℕ → Called → Type 0
-Follows f st todo c = join (st .out) (given f (st .rest ++ todo)) ≡ join (c .out) (given f (c .held ++ drop (c .taken) todo))
-
 module _ (f : Framing) where
-  -- One more byte.
-  follows-step :
-      (st : Settled) (b : ℕ) (todo : List ℕ) (c : Called) (fs : List (List ℕ)) → Follows f (settle (read f) (st .rest ++ (b ∷ []))) todo c →
-      Follows f st (b ∷ todo) (ifFrame fs (stopped st) (oneMore (st .out) c))
-  follows-step st b todo c [] e =
-      ap (λ (s : List ℕ). join (st .out) (given f s)) (sym (append-assoc (st .rest) (b ∷ []) todo))
-      ∙ ap (join (st .out)) (settle-rule f todo (read f) (agrees f todo) (st .rest ++ (b ∷ [])) ∙ e)
-      ∙ sym (join-assoc (st .out) (c .out) (given f (c .held ++ drop (c .taken) todo)))
-  follows-step st b todo c (p ∷ ps) e = refl
-
-  -- A whole chunk.
-  line-follows : (st : Settled) (chunk more : List ℕ) → Follows f st (chunk ++ more) (lineFrom f st chunk)
-  unfolding lineFrom
-  line-follows st [] more = refl
-  line-follows st (b ∷ chunk) more =
-      let st′ : Settled = settle (read f) (st .rest ++ (b ∷ [])) in
-      follows-step st b (chunk ++ more) (lineFrom f st′ chunk) (st .out .frames) (line-follows st′ chunk more)
-
   -- What a line call handed out, and what it holds with the bytes not taken, is what the rule gives over all.
   pub line-rule :
       (held chunk more : List ℕ) →
       given f (held ++ (chunk ++ more))
       ≡ join (line f held chunk .out) (given f (line f held chunk .held ++ drop (line f held chunk .taken) (chunk ++ more)))
-  unfolding line
-  line-rule held chunk more =
-      settle-rule f (chunk ++ more) (read f) (agrees f (chunk ++ more)) held ∙ line-follows (settle (read f) held) chunk more
+  line-rule = line-over f NoFrame (given f) join join-nothing join-assoc (given-noise f) (given-frame f) (λ _ _. tt)
 
   -- A quiet call hands out what the rule gives over the held bytes alone.
   pub quiet-rule : (held : List ℕ) → given f held ≡ join (quiet f held .out) (given f (quiet f held .held))
@@ -132,7 +148,8 @@ module _ (f : Framing) where
   quiet-rule held =
       let st : Settled = settle (λ s. ended (read f s)) held in
       ap (given f) (sym (append-nil held))
-      ∙ settle-rule f [] (λ s. ended (read f s)) (λ h. agrees-ended f h (read f h) refl) held
+      ∙ settle-over f NoFrame (given f) join join-nothing join-assoc (given-noise f) (given-frame f) []
+      (λ s. ended (read f s)) (λ h. agrees-ended f h (read f h) refl) held
       ∙ ap (λ (s : List ℕ). join (st .out) (given f s)) (append-nil (st .rest))
 
   -- At a quiet nothing is undecided.

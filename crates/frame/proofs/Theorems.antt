@@ -5,6 +5,8 @@ use Rattle.frame.specs.Framing.{checks}
 use Rattle.frame.specs.Claims.{LayoutReads, OneSpelling, DecisionStands, UndecidedIsShort, FrameIsSized}
 use Rattle.frame.specs.Recovery.{BytesAddUp, TakenIsInside, NeedsMoreIsTrue, HeldIsHeard, CallsFollowRule, CleanLine, AsciiRecovers, BinaryRecovers}
 use Rattle.frame.specs.Recovery.{LateFramesComeBack, AsciiCallsRecover, BinaryCallsRecover, CleanCalls}
+use Rattle.frame.specs.Draining.{LineDrains, NeedsMoreIsDrained, DrainFollowsRule, QuietFollowsRule, EmptyIsDrained}
+use Rattle.frame.specs.Draining.{FeedTells, QuietTells, DrainIsSized, RuleIsSized}
 use Rattle.frame.specs.Driving.{CanDrive, DrivesAreShort, StateNeverRefused, FeedStaysInLimit, QuietStaysInLimit, EndsFresh}
 use Rattle.frame.specs.RecoveryExamples.{LostAndBack, ProvisoNeeded}
 use Rattle.frame.specs.declared.framing.Framing.{Framing}
@@ -15,6 +17,7 @@ use Rattle.frame.proofs.AsciiLaws.{ascii-layout-reads, ascii-one-spelli
 use Rattle.frame.proofs.Framings.{undecided-short, frame-sized}
 use Rattle.frame.proofs.Rules as rules
 use Rattle.frame.proofs.Settling as settling
+use Rattle.frame.proofs.Draining as draining
 use Rattle.frame.proofs.Calling as calling
 use Rattle.frame.proofs.Stretches as stretches
 use Rattle.frame.proofs.AsciiRecovery as ascii-recovery
@@ -53,6 +56,33 @@ needs-more-is-true = settling.needs-more-is-true
 
 pub held-is-heard : (f : Framing) → HeldIsHeard f
 held-is-heard = taking.held-is-heard
+
+pub line-drains : (f : Framing) → LineDrains f
+line-drains = draining.line-drains
+
+pub needs-more-is-drained : (f : Framing) → NeedsMoreIsDrained f
+needs-more-is-drained = draining.needs-more-is-drained
+
+pub drain-follows-rule : (f : Framing) → DrainFollowsRule f
+drain-follows-rule = draining.drain-follows-rule
+
+pub quiet-follows-rule : (f : Framing) → QuietFollowsRule f
+quiet-follows-rule = settling.quiet-rule
+
+pub empty-is-drained : (f : Framing) → EmptyIsDrained f
+empty-is-drained = settling.quiet-left
+
+pub feed-tells : FeedTells
+feed-tells = calling.feed-tells
+
+pub quiet-tells : QuietTells
+quiet-tells = calling.quiet-tells
+
+pub drain-is-sized : (f : Framing) → DrainIsSized f
+drain-is-sized = draining.drain-is-sized
+
+pub rule-is-sized : (f : Framing) → RuleIsSized f
+rule-is-sized = draining.rule-is-sized
 
 pub calls-follow-rule : (f : Framing) → CallsFollowRule f
 calls-follow-rule = calling.calls-follow-rule

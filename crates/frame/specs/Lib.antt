@@ -10,6 +10,7 @@ pub mod Claims
 pub mod Rule
 pub mod Reader
 pub mod Calls
+pub mod Draining
 pub mod Recovery
 pub mod Driving
 pub mod RecoveryExamples
