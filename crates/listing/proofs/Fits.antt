@@ -1,0 +1,183 @@
+-- Laws on the room that lines take: a line has no more than two bytes for each of its payload's, and twelve.
+-- Assumes nothing.
+use Prim.Native.Nat.{ℕ, _+_, _-_, _*_, _≤_}
+use native.Mathlib.Omega.{arith}
+use mathlib.Core.Path.{_≡_, refl, ap, _∙_, sym, subst}
+use mathlib.Core.List.{List, [], _∷_, _++_}
+use mathlib.Core.Bool.{Bool, true, false, cond, _&&_}
+use borrow.Author.Tests.{eqb-true, leb-true}
+use lib.Dec.{leb, ltb, eqb}
+use lib.ListN.{length, take, drop, length-append, length-drop}
+use lib.Seq.{take-length}
+use Rattle.frame.specs.Ascii.{hex, lineFeed}
+use Rattle.message.specs.Field.{isPlain}
+use Rattle.message.specs.Number.{byteAt, wordAt}
+use Rattle.message.specs.FromModule.{readFromModule, responseMeaning, receptionMeaning, standardMeaning, remoteMeaning, statusMeaning, senderMeaning}
+use Rattle.message.specs.Meaning.{Meaning, refused, carrying, bare}
+use Rattle.message.specs.declared.simple.Simple.{Simple}
+use Rattle.message.specs.declared.status.StandardStatus.{StandardStatus}
+use Rattle.message.specs.declared.status.RemoteStatus.{RemoteStatus}
+use Rattle.message.specs.declared.from_module.Reception.{Reception}
+use Rattle.message.specs.declared.from_module.Response.{Response}
+use Rattle.message.specs.declared.from_module.Outcome.{Outcome}
+use Rattle.message.specs.declared.from_module.Outcome.the-variants.{Failure, Success}
+use Rattle.message.specs.declared.from_module.Delivery.{Delivery}
+use Rattle.message.specs.declared.from_module.Delivery.the-variants.{Simple as SimpleDelivery, Extended as ExtendedDelivery}
+use Rattle.message.specs.declared.from_module.Notice.{Notice}
+use Rattle.message.specs.declared.from_module.Notice.the-variants.{Response as IsResponse, Standard, Remote}
+use Rattle.listing.specs.Line.{dataField, decimal, simpleLine, receptionLine, responseLine, standardLine, remoteLine, refusalLine, meaningLine}
+use Rattle.listing.specs.Line.{deliveryLine, lineOf, linesOf}
+use Rattle.frame.specs.Draining.{total}
+
+-- Two characters for each byte.
+length-hex : (s : List ℕ) → length (hex s) ≡ 2 * length s
+length-hex [] = refl
+length-hex (b ∷ s) = omega (arith, length-hex s)
+
+-- The field of data has two characters for each byte and a space, or two.
+data-short : (s : List ℕ) → length (dataField s) ≤ 2 * length s + 2
+data-short [] = omega arith
+data-short (b ∷ s) = omega (arith, length-hex s)
+
+-- Where data begin within the payload.
+abbrev Begins : List ℕ → Meaning Delivery Notice → Type 0
+Begins p (refused n) = Unit {0}
+Begins p (carrying m start) = start ≤ length p
+Begins p (bare m) = Unit {0}
+
+-- What a payload means has a short line, and its data begin within it.
+pub record Fits (p : List ℕ) (m : Meaning Delivery Notice) : Type 0 where
+  pub short : length (meaningLine p m) ≤ 2 * length p + 11
+  pub begins : Begins p m
+
+-- What holds whichever way a test goes.
+either :
+    (p : List ℕ) (q : Bool) (a b : Meaning Delivery Notice) → (q ≡ true → Fits p a) → (q ≡ false → Fits p b) → Fits p (cond q a b)
+either p true a b x y = x refl
+either p false a b x y = y refl
+
+-- A refusal's line.
+module _ (p : List ℕ) where
+  no-7 : Fits p (refused 7)
+  unfolding refusalLine decimal
+  no-7 = record { short = omega arith; begins = tt }
+
+  no-8 : Fits p (refused 8)
+  unfolding refusalLine decimal
+  no-8 = record { short = omega arith; begins = tt }
+
+  no-9 : Fits p (refused 9)
+  unfolding refusalLine decimal
+  no-9 = record { short = omega arith; begins = tt }
+
+  no-11 : Fits p (refused 11)
+  unfolding refusalLine decimal
+  no-11 = record { short = omega arith; begins = tt }
+
+  no-12 : Fits p (refused 12)
+  unfolding refusalLine decimal
+  no-12 = record { short = omega arith; begins = tt }
+
+-- The line of each kind, by the length that its payload has at least.
+module _ (p : List ℕ) where
+  response-line : (m : Response) → length p ≡ 4 → Fits p (bare (IsResponse m))
+  unfolding responseLine
+  response-line m e = record { short = either-way (m .outcome); begins = tt }
+    where
+      either-way : (o : Outcome) → length (responseLine (record { id = m .id; outcome = o })) ≤ 2 * length p + 11
+      either-way Failure = omega arith
+      either-way Success = omega arith
+
+  standard-line : (m : StandardStatus) → length p ≡ 23 → Fits p (bare (Standard m))
+  unfolding standardLine
+  standard-line m e = record { short = omega arith; begins = tt }
+
+  remote-line : (m : RemoteStatus) → length p ≡ 20 → Fits p (bare (Remote m))
+  unfolding remoteLine
+  remote-line m e = record { short = omega arith; begins = tt }
+
+  simple-line : (m : Simple) → 2 ≤ length p → Fits p (carrying (SimpleDelivery m) 2)
+  unfolding simpleLine
+  simple-line m long = record { short = omega (arith, data-short (drop 2 p), length-drop 2 p); begins = long }
+
+  reception-line : (m : Reception) → 14 ≤ length p → Fits p (carrying (ExtendedDelivery m) 14)
+  unfolding receptionLine
+  reception-line m long = record { short = omega (arith, data-short (drop 14 p), length-drop 14 p); begins = long }
+
+  response-fits : Fits p (responseMeaning p)
+  unfolding responseMeaning
+  response-fits =
+      either p (eqb (byteAt p 1) 0xA1) _ _
+      (λ _. either p (eqb (length p) 4) _ _
+      (λ e. let four : length p ≡ 4 = eqb-true (length p) 4 e in
+      either p (eqb (byteAt p 3) 0) _ _ (λ _. response-line _ four)
+      (λ _. either p (eqb (byteAt p 3) 1) _ _ (λ _. response-line _ four) (λ _. no-11 p)))
+      (λ _. no-7 p))
+      (λ _. no-9 p)
+
+  reception-fits : Fits p (receptionMeaning p)
+  unfolding receptionMeaning
+  reception-fits =
+      either p (leb 14 (length p)) _ _
+      (λ e. either p (eqb (wordAt p 12) (length p - 14)) _ _ (λ _. reception-line _ (leb-true 14 (length p) e)) (λ _. no-12 p))
+      (λ _. no-7 p)
+
+  status-fits : Fits p (statusMeaning p)
+  unfolding statusMeaning standardMeaning remoteMeaning
+  status-fits =
+      either p (eqb (length p) 23) _ _
+      (λ e. either p (eqb (byteAt p 3) 0x01) _ _ (λ _. standard-line _ (eqb-true (length p) 23 e)) (λ _. no-11 p))
+      (λ _. either p (eqb (length p) 20) _ _
+      (λ e. either p (eqb (byteAt p 2) 0x0F && eqb (byteAt p 3) 0x01) _ _ (λ _. remote-line _ (eqb-true (length p) 20 e)) (λ _. no-11 p))
+      (λ _. no-7 p))
+
+  sender-fits : 2 ≤ length p → Fits p (senderMeaning p)
+  unfolding senderMeaning
+  sender-fits long =
+      either p (ltb (byteAt p 1) 0x80) _ _
+      (λ _. simple-line _ long)
+      (λ _. either p (eqb (byteAt p 1) 0x81) _ _
+      (λ _. status-fits)
+      (λ _. either p (eqb (byteAt p 1) 0xA0) _ _ (λ _. reception-fits) (λ _. no-9 p)))
+
+  both : (a b : Bool) → (a && b) ≡ true → a ≡ true
+  both true b e = refl
+  both false b e = e
+
+  pub fits : Fits p (readFromModule p)
+  unfolding readFromModule
+  fits =
+      either p (leb 2 (length p) && leb (length p) 256) _ _
+      (λ e. either p (eqb (byteAt p 0) 0xDB) _ _
+      (λ _. response-fits)
+      (λ _. either p (isPlain (byteAt p 0)) _ _ (λ _. sender-fits (leb-true 2 (length p) (both _ _ e))) (λ _. no-8 p)))
+      (λ _. no-7 p)
+
+-- A line has no more than two bytes for each of its payload's, and twelve.
+pub line-short : (p : List ℕ) → length (lineOf p) ≤ 2 * length p + 12
+unfolding lineOf
+line-short p = simp length-append (omega (arith, fits p .short))
+
+-- So have all lines together.
+pub lines-short : (ps : List (List ℕ)) → length (linesOf ps) ≤ 2 * total (λ p. length p + 6) ps
+lines-short [] = omega arith
+lines-short (p ∷ ps) = simp length-append (omega (arith, line-short p, lines-short ps))
+
+-- The line of what a payload was found to mean is the payload's line.
+pub line-by : (p : List ℕ) {m : Meaning Delivery Notice} → m ≡ readFromModule p → meaningLine p m ++ (lineFeed ∷ []) ≡ lineOf p
+unfolding lineOf
+line-by p e = rw e
+
+-- The data of a message begin within its payload.
+pub start-inside : (p : List ℕ) {m : Delivery} {start : ℕ} → carrying m start ≡ readFromModule p → start ≤ length p
+start-inside p e = subst (Begins p) (sym e) (fits p .begins)
+
+-- The bytes from a place on are all that there are.
+pub rest-is : (p : List ℕ) (start : ℕ) → start ≤ length p → take (length p - start) (drop start p) ≡ drop start p
+rest-is p start h = rw (← length-drop start p) (take-length (drop start p))
+
+-- The line of a message with its data, which are the payload from a place on.
+pub delivery-by :
+    (p : List ℕ) (m : Delivery) (start : ℕ) → carrying m start ≡ readFromModule p →
+    deliveryLine m (take (length p - start) (drop start p)) ++ (lineFeed ∷ []) ≡ lineOf p
+delivery-by p m start e = rw (rest-is p start (start-inside p e)) (line-by p e)

@@ -1,0 +1,80 @@
+-- `listing::line::put_response` meets its contract: the word and the identifier, then how it came out.
+-- Assumes nothing.
+use native.Mathlib.Omega.{arith}
+use mathlib.Core.Path.{refl}
+use borrow.Author.Needs.{needs}
+use Rattle.listing.proofs.Texts.{going, going-room, going-part, going-next, going-last}
+use Rattle.listing.proofs.Lines.{responseRow, response-parts}
+use Rattle.listing.proofs.line.put_response.Statement.{statement}
+use Rattle.listing.proofs.line.put_response.Tie as tie
+
+slice-aggregate-put-row : tie.Need-slice-aggregate-put-row
+slice-aggregate-put-row c = search needs
+
+slice-aggregate-put-row-2 : tie.Need-slice-aggregate-put-row-2
+slice-aggregate-put-row-2 c = search needs
+
+put-row-requires : tie.Need-put-row-requires
+put-row-requires c κs =
+    let s = c .before .before .before .before in
+    (s .pre .0, going-part (responseRow (s .args .response)) _ (s .pre .1) (going (s .args .out .now) (s .args .at) (response-parts (s .args .response) refl)))
+
+enum-told : tie.Need-enum-told
+enum-told c = search needs
+
+slice-aggregate-put-text : tie.Need-slice-aggregate-put-text
+slice-aggregate-put-text c = search needs
+
+put-text-requires : tie.Need-put-text-requires
+put-text-requires c κs =
+    let s = c .before .before .before .before .before .before .before .before .before .before .before in
+    going-room (s .pre .1) (going-next (s .pre .1) (going (s .args .out .now) (s .args .at) (response-parts (s .args .response) (c .before .before .enum-told .given .1))) (c .before .before .before .before .before .before .put-row .ensures))
+
+enum-told-2 : tie.Need-enum-told-2
+enum-told-2 c = search needs
+
+slice-aggregate-put-text-2 : tie.Need-slice-aggregate-put-text-2
+slice-aggregate-put-text-2 c = search needs
+
+put-text-requires-2 : tie.Need-put-text-requires-2
+put-text-requires-2 c κs =
+    let s = c .before .before .before .before .before .before .before .before .before .before .before in
+    going-room (s .pre .1) (going-next (s .pre .1) (going (s .args .out .now) (s .args .at) (response-parts (s .args .response) (c .before .before .enum-told2 .given .1))) (c .before .before .before .before .before .before .put-row .ensures))
+
+same-length : tie.Need-same-length
+same-length c = search needs
+
+returns : tie.Need-returns
+returns c =
+    let s = c .before .before .before .before .before .before .before .before .before .before .before .before .before .before in
+    let parts = response-parts (s .args .response) (c .before .before .before .before .before .enum-told .given .1) in
+    let row = c .before .before .before .before .before .before .before .before .before .put-row in
+    going-last (s .pre .1) (going-next (s .pre .1) (going (s .args .out .now) (s .args .at) parts) (row .ensures)) (c .before .before .put-text .ensures)
+
+same-length-2 : tie.Need-same-length-2
+same-length-2 c = search needs
+
+returns-2 : tie.Need-returns-2
+returns-2 c =
+    let s = c .before .before .before .before .before .before .before .before .before .before .before .before .before .before in
+    let parts = response-parts (s .args .response) (c .before .before .before .before .before .enum-told2 .given .1) in
+    let row = c .before .before .before .before .before .before .before .before .before .put-row in
+    going-last (s .pre .1) (going-next (s .pre .1) (going (s .args .out .now) (s .args .at) parts) (row .ensures)) (c .before .before .put-text2 .ensures)
+
+pub put-response-spec : {M : Type 1} → statement M
+put-response-spec =
+    tie.close
+    (tie.spec
+    slice-aggregate-put-row
+    slice-aggregate-put-row-2
+    put-row-requires
+    enum-told
+    slice-aggregate-put-text
+    put-text-requires
+    enum-told-2
+    slice-aggregate-put-text-2
+    put-text-requires-2
+    same-length
+    returns
+    same-length-2
+    returns-2)

@@ -1,0 +1,80 @@
+-- `listing::put::put_data` meets its contract: ` -` where there are no data, else a space and their digits.
+-- Assumes nothing.
+use native.Mathlib.Omega.{arith}
+use borrow.Author.Needs.{needs}
+use Rattle.frame.specs.Ascii.{hex}
+use Rattle.message.specs.Examples.{text}
+use Rattle.listing.proofs.Texts.{going, going-room, going-part, going-next, going-last}
+use Rattle.listing.proofs.Lines.{data-none, data-some}
+use Rattle.listing.proofs.put.put_data.Statement.{statement}
+use Rattle.listing.proofs.put.put_data.Tie as tie
+
+slice-aggregate-put-text : tie.Need-slice-aggregate-put-text
+slice-aggregate-put-text c = search needs
+
+put-text-requires : tie.Need-put-text-requires
+put-text-requires c κs =
+    let s = c .before .before .before .before .before in
+    let none = data-none (s .args .«data» .now) (c .before .before .if1 .taken) in
+    rw none at (s .pre .1)
+
+same-length : tie.Need-same-length
+same-length c = search needs
+
+returns : tie.Need-returns
+returns c =
+    let s = c .before .before .before .before .before .before .before .before in
+    let none = data-none (s .args .«data» .now) (c .before .before .before .before .before .if1 .taken) in
+    rw none (c .before .before .put-text .ensures)
+
+slice-aggregate-put-text-2 : tie.Need-slice-aggregate-put-text-2
+slice-aggregate-put-text-2 c = search needs
+
+put-text-requires-2 : tie.Need-put-text-requires-2
+put-text-requires-2 c κs =
+    let s = c .before .before .before .before .before in
+    let some = data-some (s .args .«data» .now) (omega arith) in
+    going-part (text " ") _ (s .pre .1) (going (s .args .out .now) (s .args .at) some)
+
+put-digits-requires : tie.Need-put-digits-requires
+put-digits-requires c κs =
+    let s = c .before .before .before .before .before .before .before .before .before in
+    let some = data-some (s .args .«data» .now) (omega arith) in
+    let g = going-next (s .pre .1) (going (s .args .out .now) (s .args .at) some) (c .before .before .before .put-text2 .ensures) in
+    (s .pre .0, going-part (hex (s .args .«data» .now)) _ (s .pre .1) g)
+
+slice-aggregate-put-text-3 : tie.Need-slice-aggregate-put-text-3
+slice-aggregate-put-text-3 c = search needs
+
+put-text-requires-3 : tie.Need-put-text-requires-3
+put-text-requires-3 c κs =
+    let s = c .before .before .before .before .before .before .before .before .before .before .before .before .before .before in
+    let some = data-some (s .args .«data» .now) (omega arith) in
+    let g = going-next (s .pre .1) (going (s .args .out .now) (s .args .at) some) (c .before .before .before .before .before .before .before .before .put-text2 .ensures) in
+    going-room (s .pre .1) (going-next (s .pre .1) g (c .before .before .before .before .put-digits .ensures))
+
+same-length-2 : tie.Need-same-length-2
+same-length-2 c = search needs
+
+returns-2 : tie.Need-returns-2
+returns-2 c =
+    let s = c .before .before .before .before .before .before .before .before .before .before .before .before .before .before .before .before .before in
+    let some = data-some (s .args .«data» .now) (omega arith) in
+    let g = going-next (s .pre .1) (going (s .args .out .now) (s .args .at) some) (c .before .before .before .before .before .before .before .before .before .before .before .put-text2 .ensures) in
+    going-last (s .pre .1) (going-next (s .pre .1) g (c .before .before .before .before .before .before .before .put-digits .ensures)) (c .before .before .put-text3 .ensures)
+
+pub put-data-spec : {M : Type 1} → statement M
+put-data-spec =
+    tie.close
+    (tie.spec
+    slice-aggregate-put-text
+    put-text-requires
+    same-length
+    returns
+    slice-aggregate-put-text-2
+    put-text-requires-2
+    put-digits-requires
+    slice-aggregate-put-text-3
+    put-text-requires-3
+    same-length-2
+    returns-2)

@@ -1,0 +1,69 @@
+-- `listing::put::put_digits` meets its contract. The invariant: the digits of the bytes before i are put, and those from i on are to follow. The measure
+-- is what is left of data.
+-- Assumes nothing.
+use Prim.Native.Nat.{_-_, _≤_}
+use native.Mathlib.Omega.{arith}
+use mathlib.Core.Path.{refl}
+use borrow.Author.Needs.{needs}
+use lib.ListN.{length, drop}
+use Rattle.frame.specs.Ascii.{hex}
+use Rattle.listing.proofs.Texts.{Going, going, going-room, going-next, going-done, hex-next, drop-all}
+use Rattle.listing.proofs.put.put_digits.Statement.{statement}
+use Rattle.listing.proofs.put.put_digits.Tie as tie
+
+abbrev Inv-loop : tie.InvT-loop
+Inv-loop table out₀ at «data» end₀ i₀ out end i = (i ≤ length «data») × Going out₀ at (hex «data») (hex (drop i «data»)) end out
+
+abbrev μ-loop : tie.MeasureT-loop
+μ-loop table out₀ at «data» end₀ i₀ out end i = length «data» - i
+
+loop-holds : tie.Need-loop-holds Inv-loop μ-loop
+loop-holds c = let a = c .before .before .args in (omega arith, going (a .out .now) (a .at) refl)
+
+shared-slice-read-put-pair : tie.Need-shared-slice-read-put-pair Inv-loop μ-loop
+shared-slice-read-put-pair c = search needs
+
+put-pair-requires : tie.Need-put-pair-requires Inv-loop μ-loop
+put-pair-requires c κs =
+    let s = c .before .before .before .before .before .before in
+    let l = c .before .before .before .loop in
+    let more = hex-next (s .args .«data» .now) (l .i) (omega arith) in
+    (s .pre .0, omega (arith, rw more at (going-room (s .pre .1) (l .inv .1))))
+
+add-i : tie.Need-add-i Inv-loop μ-loop
+add-i c = search needs
+
+loop-less : tie.Need-loop-less Inv-loop μ-loop
+loop-less c = search needs
+
+loop-again : tie.Need-loop-again Inv-loop μ-loop
+loop-again c =
+    let s = c .before .before .before .before .before .before .before .before .before in
+    let l = c .before .before .before .before .before .before .loop in
+    let more = hex-next (s .args .«data» .now) (l .i) (omega arith) in
+    (omega arith, going-next (s .pre .1) (rw more at (l .inv .1)) (c .before .before .put-pair .ensures))
+
+same-length : tie.Need-same-length Inv-loop μ-loop
+same-length c = c .before .loop .inv .1 .long
+
+returns : tie.Need-returns Inv-loop μ-loop
+returns c =
+    let s = c .before .before .before .before in
+    let l = c .before .loop in
+    let none = drop-all (s .args .«data» .now) (l .i) (omega arith) in
+    going-done (s .pre .1) (rw none at (l .inv .1))
+
+pub put-digits-spec : {M : Type 1} → statement M
+put-digits-spec =
+    tie.close
+    (tie.spec
+    Inv-loop
+    μ-loop
+    loop-holds
+    shared-slice-read-put-pair
+    put-pair-requires
+    add-i
+    loop-less
+    loop-again
+    same-length
+    returns)

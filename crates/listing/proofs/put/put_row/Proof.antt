@@ -1,0 +1,33 @@
+-- `listing::put::put_row` meets its contract: the word, and then the fields.
+-- Assumes nothing.
+use native.Mathlib.Omega.{arith}
+use mathlib.Core.Path.{refl}
+use borrow.Author.Needs.{needs}
+use lib.ListN.{length-append}
+use Rattle.listing.proofs.Texts.{going, going-room, going-next, going-last}
+use Rattle.listing.proofs.put.put_row.Statement.{statement}
+use Rattle.listing.proofs.put.put_row.Tie as tie
+
+put-text-requires : tie.Need-put-text-requires
+put-text-requires c κs =
+    let s = c .before .before .before .before in
+    omega (arith, simp length-append at (s .pre .1))
+
+put-fields-requires : tie.Need-put-fields-requires
+put-fields-requires c κs =
+    let p = c .before .before .before in
+    let s = p .before .before .before .before .before in
+    (s .pre .0, going-room (s .pre .1) (going-next (s .pre .1) (going (s .args .out .now) (s .args .at) refl) (p .put-text .ensures)))
+
+same-length : tie.Need-same-length
+same-length c = search needs
+
+returns : tie.Need-returns
+returns c =
+    let p = c .before .before .before .before .before .before in
+    let s = p .before .before .before .before .before in
+    let g = going-next (s .pre .1) (going (s .args .out .now) (s .args .at) refl) (p .put-text .ensures) in
+    going-last (s .pre .1) g (c .before .before .put-fields .ensures)
+
+pub put-row-spec : {M : Type 1} → statement M
+put-row-spec = tie.close (tie.spec put-text-requires put-fields-requires same-length returns)

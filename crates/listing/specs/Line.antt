@@ -1,0 +1,113 @@
+-- The text that booth-list prints. Document 01, end of "Frames to check against": a line per frame, then the noise total in decimal. Fields are hex
+-- capitals, empty data is `-`.
+use Prim.Native.Nat.{ℕ, zero, suc, _+_, _/_, _%_}
+use mathlib.Core.List.{List, [], _∷_, _++_}
+use mathlib.Core.Bool.{cond}
+use lib.Dec.{ltb}
+use lib.ListN.{drop}
+use Rattle.frame.specs.Ascii.{hex, lineFeed}
+use Rattle.frame.specs.Rule.{Output, rule, payloads}
+use Rattle.frame.specs.declared.framing.Framing.{Framing}
+use Rattle.message.specs.Examples.{text}
+use Rattle.message.specs.FromModule.{readFromModule}
+use Rattle.message.specs.Meaning.{Meaning, refused, carrying, bare}
+use Rattle.message.specs.Number.{bytes2, bytes4}
+use Rattle.message.specs.declared.simple.Simple.{Simple}
+use Rattle.message.specs.declared.from_module.Reception.{Reception}
+use Rattle.message.specs.declared.from_module.Response.{Response}
+use Rattle.message.specs.declared.from_module.Outcome.{Outcome}
+use Rattle.message.specs.declared.from_module.Outcome.the-variants.{Failure, Success}
+use Rattle.message.specs.declared.from_module.Delivery.{Delivery}
+use Rattle.message.specs.declared.from_module.Delivery.the-variants.{Simple as SimpleDelivery, Extended as ExtendedDelivery}
+use Rattle.message.specs.declared.from_module.Notice.{Notice}
+use Rattle.message.specs.declared.from_module.Notice.the-variants.{Response as IsResponse, Standard, Remote}
+use Rattle.message.specs.declared.status.StandardStatus.{StandardStatus}
+use Rattle.message.specs.declared.status.RemoteStatus.{RemoteStatus}
+
+-- A field: its bytes in hex behind a space.
+abbrev pub field : List ℕ → List ℕ
+field bytes = 0x20 ∷ hex bytes
+
+-- A message's data.
+abbrev pub dataField : List ℕ → List ℕ
+dataField [] = text " -"
+dataField (b ∷ s) = field (b ∷ s)
+
+-- A number in decimal, with no more than `places` digits and no zero in front; 64 bits need at most 20.
+abbrev pub digitsOf : ℕ → ℕ → List ℕ
+digitsOf zero n = []
+digitsOf (suc places) n = cond (ltb n 10) [] (digitsOf places (n / 10)) ++ ((0x30 + n % 10) ∷ [])
+
+unfoldable pub decimal : ℕ → List ℕ
+decimal n = digitsOf 20 n
+
+-- simple ADDR CMD DATA
+unfoldable pub simpleLine : Simple → List ℕ → List ℕ
+simpleLine m dat = text "simple" ++ (field (m .address ∷ []) ++ (field (m .command ∷ []) ++ dataField dat))
+
+-- extended ADDR ID SOURCE DEST LQI DATA
+unfoldable pub receptionLine : Reception → List ℕ → List ℕ
+receptionLine m dat =
+    text "extended"
+    ++ (field (m .sender ∷ [])
+    ++ (field (m .«response_id» ∷ [])
+    ++ (field (bytes4 (m .source)) ++ (field (bytes4 (m .destination)) ++ (field (m .lqi ∷ []) ++ dataField dat)))))
+
+-- response ID ok, or fail
+abbrev pub outcomeText : Outcome → List ℕ
+outcomeText Failure = text " fail"
+outcomeText Success = text " ok"
+
+unfoldable pub responseLine : Response → List ℕ
+responseLine m = text "response" ++ (field (m .id ∷ []) ++ outcomeText (m .outcome))
+
+-- standard ADDR SERIAL LQI SUPPLY DI
+unfoldable pub standardLine : StandardStatus → List ℕ
+standardLine m =
+    text "standard"
+    ++ (field (m .sender ∷ []) ++ (field (bytes4 (m .serial)) ++ (field (m .lqi ∷ []) ++ (field (bytes2 (m .supply)) ++ field (m .di ∷ [])))))
+
+-- remote ADDR SERIAL LQI SIGNALS
+unfoldable pub remoteLine : RemoteStatus → List ℕ
+remoteLine m =
+    text "remote" ++ (field (m .sender ∷ []) ++ (field (bytes4 (m .serial)) ++ (field (m .lqi ∷ []) ++ field (bytes2 (m .signals)))))
+
+-- refused N (decimal)
+unfoldable pub refusalLine : ℕ → List ℕ
+refusalLine n = text "refused " ++ decimal n
+
+-- The line of what a payload p means.
+abbrev pub deliveryLine : Delivery → List ℕ → List ℕ
+deliveryLine (SimpleDelivery m) dat = simpleLine m dat
+deliveryLine (ExtendedDelivery m) dat = receptionLine m dat
+
+abbrev pub noticeLine : Notice → List ℕ
+noticeLine (IsResponse m) = responseLine m
+noticeLine (Standard m) = standardLine m
+noticeLine (Remote m) = remoteLine m
+
+abbrev pub meaningLine : List ℕ → Meaning Delivery Notice → List ℕ
+meaningLine p (refused n) = refusalLine n
+meaningLine p (carrying m start) = deliveryLine m (drop start p)
+meaningLine p (bare m) = noticeLine m
+
+-- The line of a frame with the payload p, from the module.
+unfoldable pub lineOf : List ℕ → List ℕ
+lineOf p = meaningLine p (readFromModule p) ++ (lineFeed ∷ [])
+
+-- A line for each frame.
+abbrev pub linesOf : List (List ℕ) → List ℕ
+linesOf [] = []
+linesOf (p ∷ ps) = lineOf p ++ linesOf ps
+
+-- The noise total.
+unfoldable pub noiseLine : ℕ → List ℕ
+noiseLine n = text "noise " ++ (decimal n ++ (lineFeed ∷ []))
+
+-- All that is printed of an output.
+abbrev pub printed : Output (List ℕ) → List ℕ
+printed o = linesOf (o .frames) ++ noiseLine (o .noise)
+
+-- The listing of a segment: the frames that the leftmost rule hands out, and its noise.
+abbrev pub listing : Framing → List ℕ → List ℕ
+listing f segment = printed (payloads (rule f segment))

@@ -1,0 +1,146 @@
+// The line of a frame.
+use crate::put::put_data;
+use crate::put::put_decimal;
+use crate::put::put_row;
+use crate::put::put_text;
+use message::Delivery;
+use message::FromModule;
+use message::Notice;
+use message::Outcome;
+use message::Reception;
+use message::Refusal;
+use message::RemoteStatus;
+use message::Response;
+use message::Simple;
+use message::StandardStatus;
+ghost use mathlib.Core.List.{_++_, _∷_, []};
+ghost use Prim.Native.Nat.{_≤_, _+_};
+ghost use lib.ListN.{length};
+ghost use Rattle.frame.specs.Ascii.{lineFeed};
+ghost use Rattle.message.specs.Parts.{Puts};
+ghost use Rattle.message.specs.Refusal.{numberOf};
+ghost use Rattle.listing.specs.Line.{simpleLine, receptionLine, responseLine, standardLine, remoteLine, refusalLine, lineOf};
+ghost use Rattle.listing.specs.Parts.{Pairs};
+
+fn put_simple(table: &[u8; 512], message: Simple, data: &[u8], out: &mut [u8], at: usize) -> usize
+    requires { ⌜ (Pairs (now table)) × (at + length (simpleLine message (now «data») ++ (lineFeed ∷ [])) ≤ length (now out)) ⌝ }
+    ensures { λ r. ⌜ Puts (now (out .entry)) at (simpleLine message (now («data» .entry)) ++ (lineFeed ∷ [])) r (now (out .exit)) ⌝ }
+{
+    let bytes = [message.address, message.command];
+    let end = put_row(table, out, at, b"simple", &bytes, 0b11);
+    put_data(table, out, end, data)
+}
+
+fn put_reception(
+    table: &[u8; 512],
+    message: Reception,
+    data: &[u8],
+    out: &mut [u8],
+    at: usize,
+) -> usize
+    requires { ⌜ (Pairs (now table)) × (at + length (receptionLine message (now «data») ++ (lineFeed ∷ [])) ≤ length (now out)) ⌝ }
+    ensures { λ r. ⌜ Puts (now (out .entry)) at (receptionLine message (now («data» .entry)) ++ (lineFeed ∷ [])) r (now (out .exit)) ⌝ }
+{
+    let source = message.source;
+    let destination = message.destination;
+    let bytes = [
+        message.sender,
+        message.response_id,
+        (source / 16777216 % 256) as u8,
+        (source / 65536 % 256) as u8,
+        (source / 256 % 256) as u8,
+        (source % 256) as u8,
+        (destination / 16777216 % 256) as u8,
+        (destination / 65536 % 256) as u8,
+        (destination / 256 % 256) as u8,
+        (destination % 256) as u8,
+        message.lqi,
+    ];
+    let end = put_row(table, out, at, b"extended", &bytes, 0b10001000111);
+    put_data(table, out, end, data)
+}
+
+fn put_response(table: &[u8; 512], response: Response, out: &mut [u8], at: usize) -> usize
+    requires { ⌜ (Pairs (now table)) × (at + length (responseLine response ++ (lineFeed ∷ [])) ≤ length (now out)) ⌝ }
+    ensures { λ r. ⌜ Puts (now (out .entry)) at (responseLine response ++ (lineFeed ∷ [])) r (now (out .exit)) ⌝ }
+{
+    let bytes = [response.id];
+    let outcome = response.outcome;
+    let end = put_row(table, out, at, b"response", &bytes, 0b1);
+    match outcome {
+        Outcome::Failure => put_text(out, end, b" fail\n"),
+        Outcome::Success => put_text(out, end, b" ok\n"),
+    }
+}
+
+fn put_standard(table: &[u8; 512], status: StandardStatus, out: &mut [u8], at: usize) -> usize
+    requires { ⌜ (Pairs (now table)) × (at + length (standardLine status ++ (lineFeed ∷ [])) ≤ length (now out)) ⌝ }
+    ensures { λ r. ⌜ Puts (now (out .entry)) at (standardLine status ++ (lineFeed ∷ [])) r (now (out .exit)) ⌝ }
+{
+    let serial = status.serial;
+    let supply = status.supply;
+    let bytes = [
+        status.sender,
+        (serial / 16777216 % 256) as u8,
+        (serial / 65536 % 256) as u8,
+        (serial / 256 % 256) as u8,
+        (serial % 256) as u8,
+        status.lqi,
+        (supply / 256 % 256) as u8,
+        (supply % 256) as u8,
+        status.di,
+    ];
+    let end = put_row(table, out, at, b"standard", &bytes, 0b101100011);
+    put_text(out, end, b"\n")
+}
+
+fn put_remote(table: &[u8; 512], status: RemoteStatus, out: &mut [u8], at: usize) -> usize
+    requires { ⌜ (Pairs (now table)) × (at + length (remoteLine status ++ (lineFeed ∷ [])) ≤ length (now out)) ⌝ }
+    ensures { λ r. ⌜ Puts (now (out .entry)) at (remoteLine status ++ (lineFeed ∷ [])) r (now (out .exit)) ⌝ }
+{
+    let serial = status.serial;
+    let signals = status.signals;
+    let bytes = [
+        status.sender,
+        (serial / 16777216 % 256) as u8,
+        (serial / 65536 % 256) as u8,
+        (serial / 256 % 256) as u8,
+        (serial % 256) as u8,
+        status.lqi,
+        (signals / 256 % 256) as u8,
+        (signals % 256) as u8,
+    ];
+    let end = put_row(table, out, at, b"remote", &bytes, 0b1100011);
+    put_text(out, end, b"\n")
+}
+
+fn put_refusal(refusal: Refusal, out: &mut [u8], at: usize) -> usize
+    requires { ⌜ at + length (refusalLine (numberOf refusal) ++ (lineFeed ∷ [])) ≤ length (now out) ⌝ }
+    ensures { λ r. ⌜ Puts (now (out .entry)) at (refusalLine (numberOf refusal) ++ (lineFeed ∷ [])) r (now (out .exit)) ⌝ }
+{
+    let number = refusal.number();
+    let end = put_text(out, at, b"refused ");
+    put_decimal(out, end, number as u64)
+}
+
+// Puts the line of a frame with this payload into out.
+pub(crate) fn put_line(table: &[u8; 512], payload: &[u8], out: &mut [u8], at: usize) -> usize
+    requires { ⌜ (Pairs (now table)) × (at + length (lineOf (now payload)) ≤ length (now out)) ⌝ }
+    ensures { λ r. ⌜ Puts (now (out .entry)) at (lineOf (now (payload .entry))) r (now (out .exit)) ⌝ }
+{
+    match message::read_from_module(payload) {
+        FromModule::Delivery { delivery, start } => {
+            let data = &payload[start..];
+            match delivery {
+                Delivery::Simple(m) => put_simple(table, m, data, out, at),
+                Delivery::Extended(m) => put_reception(table, m, data, out, at),
+            }
+        }
+        FromModule::Notice(notice) => match notice {
+            Notice::Response(m) => put_response(table, m, out, at),
+            Notice::Standard(m) => put_standard(table, m, out, at),
+            Notice::Remote(m) => put_remote(table, m, out, at),
+        },
+        FromModule::Refused(refusal) => put_refusal(refusal, out, at),
+    }
+}
