@@ -1,0 +1,5 @@
+// booth-list in plain C: the yardstick.
+
+#include "digits.h"
+
+#include "list.h"

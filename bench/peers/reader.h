@@ -1,0 +1,203 @@
+// A line reader for both framings, with its state in place.
+//
+// It answers as document 01 rules, bytes taken included, so it judges bytes in order. Nobody makes its states by hand: bytes that are held after "needs
+// more" have passed every check, and are not judged again until the next one falls due.
+
+#include <stdbool.h>
+
+#include "ascii.h"
+
+enum framing { BINARY, ASCII };
+
+enum { MAX_PAYLOAD = 256, MAX_BINARY = 262, MAX_CHUNK = 65536 };
+
+struct reader {
+    enum framing framing;
+    size_t count; // of held bytes
+    size_t due;   // while fewer bytes are held, no check falls due but that ASCII ones are digits
+    uint8_t held[MAX_ASCII];
+};
+
+struct answer {
+    size_t taken, noise;
+    size_t len; // of the payload in the buffer; 0: needs more, or empty
+};
+
+static inline uint8_t xor_of(const uint8_t *s, size_t n)
+{
+    uint8_t x = 0;
+    for (size_t i = 0; i < n; i++)
+        x ^= s[i];
+    return x;
+}
+
+// The length behind the start bytes, and 0 if it is out of range.
+static inline size_t length_at(const uint8_t *s)
+{
+    size_t len = (size_t)(s[2] << 8 | s[3]) - 0x8000;
+    return len <= MAX_PAYLOAD ? len : 0;
+}
+
+// Judges what begins with the A5 s[0].
+static inline struct judged judge_binary(const uint8_t *s, size_t n)
+{
+    const struct judged undecided = {UNDECIDED, 0, 0};
+    if (n < 2)
+        return undecided;
+    if (s[1] != 0x5A)
+        return failed(2);
+    if (n < 4)
+        return undecided;
+    size_t len = length_at(s);
+    if (len == 0)
+        return failed(4);
+    if (n < len + 5)
+        return undecided;
+    if (xor_of(s + 4, len) != s[len + 4])
+        return failed(len + 5);
+    if (n < len + 6)
+        return undecided;
+    if (s[len + 5] != 0x04)
+        return failed(len + 6);
+    return (struct judged){FRAME, len + 6, len};
+}
+
+// Where a scan stopped, and how far bytes were judged. Behind the last place `judged` is a failure.
+struct found {
+    size_t place, reach;
+    struct judged judged;
+};
+
+static inline size_t larger(size_t a, size_t b)
+{
+    return a > b ? a : b;
+}
+
+// Judges the first `stop` places of s[0..n] in order, up to the first that does not fail; where `ended`, the segment's end makes undecided ones fail.
+// Bytes up to `reach` were judged before. `payload` gets that of an ASCII frame.
+static struct found scan(enum framing framing, const uint8_t *s, size_t n, size_t stop, size_t reach, bool ended, uint8_t *payload)
+{
+    const uint8_t start = framing == BINARY ? 0xA5 : ':';
+    size_t place = 0;
+    while (place < stop) {
+        if (s[place] != start) {
+            const uint8_t *next = memchr(s + place, start, stop - place);
+            if (next == NULL)
+                break;
+            place = (size_t)(next - s);
+        }
+        struct judged j = framing == BINARY ? judge_binary(s + place, n - place) : judge_ascii(s + place, n - place, payload);
+        if (j.verdict == FRAME || (j.verdict == UNDECIDED && !ended))
+            return (struct found){place, larger(reach, place + j.judged), j};
+        reach = larger(reach, place + j.judged);
+        place++;
+    }
+    return (struct found){stop, larger(reach, stop), failed(0)};
+}
+
+static inline void hold(struct reader *r, const uint8_t *s, size_t n)
+{
+    memmove(r->held, s, n);
+    r->count = n;
+    r->due = 0;
+}
+
+// Holds a start that passed every check so far, or nothing.
+static inline void await(struct reader *r, const uint8_t *s, size_t n)
+{
+    hold(r, s, n);
+    if (r->framing == BINARY && n >= 4)
+        r->due = length_at(r->held) + 5;
+    if (r->framing == ASCII && n >= 1 && r->held[n - 1] != '\r')
+        r->due = MAX_DIGITS + 2;
+}
+
+// Hands out the frame that was found in s, and holds the bytes behind it up to `end`.
+static inline void hand_out(struct reader *r, const uint8_t *s, const struct found *f, size_t end, const uint8_t *payload, uint8_t *buf)
+{
+    size_t next = f->place + f->judged.judged;
+    memcpy(buf, r->framing == BINARY ? s + f->place + 4 : payload, f->judged.len);
+    hold(r, s + next, end - next);
+}
+
+// Finds the next frame in a chunk, where nothing is held.
+static struct answer feed_chunk(struct reader *r, const uint8_t *chunk, size_t size, size_t reach, size_t noise, uint8_t *buf)
+{
+    uint8_t payload[MAX_PAYLOAD + 1];
+    struct found f = scan(r->framing, chunk, size, size, reach, false, payload);
+    if (f.judged.verdict == FRAME) {
+        hand_out(r, chunk, &f, f.reach, payload, buf);
+        return (struct answer){f.reach, noise + f.place, f.judged.len};
+    }
+    await(r, chunk + f.place, size - f.place);
+    return (struct answer){size, noise + f.place, 0};
+}
+
+// Finds the next frame where bytes are held: at the places among them first, then in the chunk. What is held is filled up from the chunk to the length of
+// the longest frame, which decides its first place, and is moved up as places fail.
+static struct answer feed_held(struct reader *r, const uint8_t *chunk, size_t size, uint8_t *buf)
+{
+    const size_t limit = r->framing == BINARY ? MAX_BINARY : MAX_ASCII;
+    uint8_t payload[MAX_PAYLOAD + 1];
+    size_t old = r->count; // bytes held before this call
+    size_t reach = 0;      // judged bytes of the chunk
+    size_t noise = 0;
+    for (;;) {
+        size_t copied = r->count - old;
+        size_t room = limit - r->count;
+        size_t more = size - copied < room ? size - copied : room;
+        memcpy(r->held + r->count, chunk + copied, more);
+        r->count += more;
+        struct found f = scan(r->framing, r->held, r->count, old, old + reach, false, payload);
+        noise += f.place;
+        reach = f.reach - old;
+        if (f.judged.verdict == FRAME) {
+            hand_out(r, r->held, &f, f.reach, payload, buf);
+            return (struct answer){reach, noise, f.judged.len};
+        }
+        if (f.judged.verdict == FAILED) {
+            r->count = 0;
+            return feed_chunk(r, chunk, size, reach, noise, buf);
+        }
+        await(r, r->held + f.place, r->count - f.place);
+        old -= f.place;
+        if (r->count - old == size)
+            return (struct answer){size, noise, 0};
+    }
+}
+
+// Whether the held bytes go on passing every check with the chunk behind them.
+static inline bool goes_on(const struct reader *r, const uint8_t *chunk, size_t size)
+{
+    if (r->count + size >= r->due)
+        return false;
+    if (r->framing == ASCII)
+        for (size_t i = 0; i < size; i++)
+            if (digit_value[chunk[i]] < 0)
+                return false;
+    return true;
+}
+
+// Takes bytes of a chunk up to the end of the next frame, whose payload goes to the front of the 256 bytes at buf.
+static struct answer feed(struct reader *r, const uint8_t *chunk, size_t size, uint8_t *buf)
+{
+    if (r->count == 0)
+        return feed_chunk(r, chunk, size, 0, 0, buf);
+    if (!goes_on(r, chunk, size))
+        return feed_held(r, chunk, size, buf);
+    memcpy(r->held + r->count, chunk, size);
+    r->count += size;
+    return (struct answer){size, 0, 0};
+}
+
+// The held bytes end their segment: gives the next frame in them.
+static struct answer quiet(struct reader *r, uint8_t *buf)
+{
+    uint8_t payload[MAX_PAYLOAD + 1];
+    struct found f = scan(r->framing, r->held, r->count, r->count, 0, true, payload);
+    if (f.judged.verdict == FRAME)
+        hand_out(r, r->held, &f, r->count, payload, buf);
+    else
+        hold(r, r->held, 0);
+    return (struct answer){0, f.place, f.judged.len};
+}

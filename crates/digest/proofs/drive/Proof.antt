@@ -1,0 +1,100 @@
+-- `digest::drive` is safe and ends. The invariant: the buffer keeps its length, and what is offered lies within the slice. The measure is what is left of
+-- the turns.
+-- Assumes nothing.
+use Prim.Native.Nat.{_≤_}
+use native.Mathlib.Omega.{arith}
+use mathlib.Core.Path.{_≡_, sym, _∙_}
+use borrow.Author.Needs.{needs}
+use lib.ListN.{length}
+use Rattle.io.proofs.Counting.{front}
+use Rattle.digest.proofs.drive.Statement.{statement}
+use Rattle.digest.proofs.drive.Tie as tie
+
+abbrev Inv-loop : tie.InvT-loop
+Inv-loop s size buf₀ tally₀ span₀ end fed₀ turns₀ buf tally span fed turns = (length buf ≡ 256) × (span .at ≤ span .end) × (span .end ≤ length s)
+
+abbrev μ-loop : tie.MeasureT-loop
+μ-loop s size buf₀ tally₀ span₀ end fed₀ turns₀ buf tally span fed turns = turns
+
+smaller-requires : tie.Need-smaller-requires Inv-loop μ-loop
+smaller-requires c κs = search needs
+
+slice-aggregate-feed : tie.Need-slice-aggregate-feed Inv-loop μ-loop
+slice-aggregate-feed c = front _ (c .before .before .before .before .args .s .now) (c .before .smaller .ensures .1)
+
+slice-aggregate-feed-2 : tie.Need-slice-aggregate-feed-2 Inv-loop μ-loop
+slice-aggregate-feed-2 c = search needs
+
+feed-requires : tie.Need-feed-requires Inv-loop μ-loop
+feed-requires c κs = search needs
+
+loop-holds : tie.Need-loop-holds Inv-loop μ-loop
+loop-holds c = (c .before .feed .kept .1 .1 .0, omega arith, omega (arith, c .before .before .before .before .smaller .ensures .1))
+
+slice-aggregate-fed-tally : tie.Need-slice-aggregate-fed-tally Inv-loop μ-loop
+slice-aggregate-fed-tally c = sym (c .before .before .loop .inv .0)
+
+fed-tally-requires : tie.Need-fed-tally-requires Inv-loop μ-loop
+fed-tally-requires c κs = search needs
+
+is-last-requires : tie.Need-is-last-requires Inv-loop μ-loop
+is-last-requires c κs = search needs
+
+returns : tie.Need-returns Inv-loop μ-loop
+returns c = search needs
+
+next-span-requires : tie.Need-next-span-requires Inv-loop μ-loop
+next-span-requires c κs = search needs
+
+sub-feed : tie.Need-sub-feed Inv-loop μ-loop
+sub-feed c = search needs
+
+part-feed-start : tie.Need-part-feed-start Inv-loop μ-loop
+part-feed-start c = search needs
+
+part-feed-end : tie.Need-part-feed-end Inv-loop μ-loop
+part-feed-end c = search needs
+
+slice-aggregate-feed-3 : tie.Need-slice-aggregate-feed-3 Inv-loop μ-loop
+slice-aggregate-feed-3 c = sym (c .before .before .before .before .before .before .before .before .loop .inv .0)
+
+feed-requires-2 : tie.Need-feed-requires-2 Inv-loop μ-loop
+feed-requires-2 c κs = search needs
+
+sub-turns : tie.Need-sub-turns Inv-loop μ-loop
+sub-turns c = search needs
+
+loop-less : tie.Need-loop-less Inv-loop μ-loop
+loop-less c = search needs
+
+loop-again : tie.Need-loop-again Inv-loop μ-loop
+loop-again c = (c .before .feed2 .kept .1 .1 .0 ∙ c .before .before .before .before .before .before .before .before .before .before .loop .inv .0, c .before .before .before .before .next-span .ensures .0, c .before .before .before .before .next-span .ensures .1)
+
+returns-2 : tie.Need-returns-2 Inv-loop μ-loop
+returns-2 c = search needs
+
+pub drive-spec : {M : Type 1} → statement M
+drive-spec =
+    tie.close
+    (tie.spec
+    Inv-loop
+    μ-loop
+    smaller-requires
+    slice-aggregate-feed
+    slice-aggregate-feed-2
+    feed-requires
+    loop-holds
+    slice-aggregate-fed-tally
+    fed-tally-requires
+    is-last-requires
+    returns
+    next-span-requires
+    sub-feed
+    part-feed-start
+    part-feed-end
+    slice-aggregate-feed-3
+    feed-requires-2
+    sub-turns
+    loop-less
+    loop-again
+    returns-2)
