@@ -1,0 +1,461 @@
+//! The cases: each runs the library and the model on the same input and compares every number, every byte of a buffer and the state.
+use crate::boundary::{self as library, Answer, Fed, Reader, Reading, Writing};
+use crate::frames::{self, Call, Framing};
+use crate::messages;
+use crate::random::{self, framing_number, Random};
+use crate::Tally;
+
+/// A difference, told in words and bytes.
+pub type Outcome = Result<(), String>;
+
+fn same<T: PartialEq + std::fmt::Debug>(what: &str, input: &dyn Fn() -> String, library: T, model: T) -> Outcome {
+    if library == model {
+        return Ok(());
+    }
+    Err(format!("{what}: {}\n  library {library:?}\n  model   {model:?}", input()))
+}
+
+fn hex(s: &[u8]) -> String {
+    s.iter().map(|b| format!("{b:02X}")).collect()
+}
+
+/// A buffer with a pattern in it, so that every byte that a call stores shows.
+fn patterned(r: &mut Random, room: usize) -> Vec<u8> {
+    let first = r.byte();
+    (0..room).map(|i| first.wrapping_add((i as u8).wrapping_mul(37))).collect()
+}
+
+/// The buffer with these bytes in its front.
+fn in_front(bytes: &[u8], buf: &[u8]) -> Vec<u8> {
+    [bytes, &buf[bytes.len()..]].concat()
+}
+
+/// A framing and its number, or now and then a number that stands for none.
+fn any_framing(r: &mut Random) -> (Option<Framing>, u8) {
+    if r.once_in(50) {
+        return (None, r.within(2, 255) as u8);
+    }
+    let f = random::framing(r);
+    (Some(f), framing_number(f))
+}
+
+/// The room of a buffer for `need` bytes: enough, or one too few, or any.
+fn room_for(r: &mut Random, need: usize) -> usize {
+    match r.below(6) {
+        0 => need.saturating_sub(1),
+        1 => need,
+        2 => r.below(need + 2),
+        _ => need + r.below(20),
+    }
+}
+
+/// A single read of a segment's front.
+pub fn single_read(r: &mut Random, tally: &mut Tally) -> Outcome {
+    let (f, number) = any_framing(r);
+    let s = random::segment(r, f.unwrap_or(Framing::Ascii));
+    let need = f.and_then(|f| frames::read_frame(f, &s, 256).ok()).map_or(8, |x| x.1.len());
+    let room = room_for(r, need);
+    let before = patterned(r, room);
+    let expected = f.map_or(Err(messages::UNKNOWN), |f| frames::read_frame(f, &s, room));
+    let (answer, after) = match &expected {
+        Ok((used, p)) => (Reading { refusal: 0, used: *used, len: p.len() }, in_front(p, &before)),
+        Err(refusal) => (Reading { refusal: *refusal, used: 0, len: 0 }, before.clone()),
+    };
+    let mut buf = before;
+    let got = library::read_frame(number, &s, &mut buf);
+    tally.refusal(got.refusal);
+    tally.add("single reads that give a frame", got.refusal == 0);
+    let input = || format!("read_frame framing {number} room {room} bytes {}", hex(&s));
+    same("answer", &input, got, answer)?;
+    same("buffer", &input, buf, after)
+}
+
+/// A written frame, compared with the model's: numbers and the whole buffer.
+fn written(call: &str, tally: &mut Tally, before: &[u8], expected: Result<Vec<u8>, u8>, got: Writing, buf: &[u8]) -> Outcome {
+    let (answer, after) = match &expected {
+        Ok(out) => (Writing { refusal: 0, len: out.len() }, in_front(out, before)),
+        Err(refusal) => (Writing { refusal: *refusal, len: 0 }, before.to_vec()),
+    };
+    tally.refusal(got.refusal);
+    tally.add("frames written", got.refusal == 0);
+    let input = || call.to_string();
+    same("answer", &input, got, answer)?;
+    same("buffer", &input, buf, &after[..])
+}
+
+/// A bare payload written as a frame.
+pub fn single_write(r: &mut Random, tally: &mut Tally) -> Outcome {
+    let (f, number) = any_framing(r);
+    let p = match r.below(10) {
+        0 => Vec::new(),
+        1 => {
+            let n = r.within(255, 260);
+            r.bytes(n)
+        }
+        _ => random::payload(r),
+    };
+    let need = f.map_or(8, |f| frames::frame(f, &p).len());
+    let room = room_for(r, need);
+    let before = patterned(r, room);
+    let expected = f.map_or(Err(messages::UNKNOWN), |f| frames::write_frame(f, &p, room));
+    let mut buf = before.clone();
+    let got = library::write_frame(number, &p, &mut buf);
+    written(&format!("write_frame framing {number} room {room} payload {}", hex(&p)), tally, &before, expected, got, &buf)
+}
+
+/// A payload read in both directions.
+pub fn payload(r: &mut Random, tally: &mut Tally) -> Outcome {
+    let p = match r.below(20) {
+        0 => random::payload(r),
+        _ => random::message(r),
+    };
+    let input = || format!("payload {}", hex(&p));
+    let to = library::read_to_module(&p);
+    let from = library::read_from_module(&p);
+    tally.refusal(to.refusal);
+    tally.refusal(from.refusal);
+    tally.to_kinds[to.kind as usize % 6] += 1;
+    tally.from_kinds[from.kind as usize % 6] += 1;
+    same("to the module", &input, to, messages::read_to_module(&p))?;
+    same("from the module", &input, from, messages::read_from_module(&p))
+}
+
+/// Which of the four message writers is tried.
+fn write_with(which: usize, r: &mut Random, number: u8, buf: &mut [u8], text: &mut String) -> (Result<Vec<u8>, u8>, Writing) {
+    let (to, from, data) = (random::to_module(r), random::from_module(r), random::data(r));
+    let body = hex(&data);
+    match which {
+        0 => {
+            *text = format!("write_request {to:?} data {body}");
+            (messages::request(&to, &data), library::write_request(number, to, &data, buf))
+        }
+        1 => {
+            let kind = if r.once_in(4) { to.kind } else { 4 };
+            let change = library::ToModule { kind, ..to };
+            *text = format!("write_output_change {change:?}");
+            (messages::output_change(&change), library::write_output_change(number, change, buf))
+        }
+        2 => {
+            *text = format!("write_delivery {from:?} data {body}");
+            (messages::delivery(&from, &data), library::write_delivery(number, from, &data, buf))
+        }
+        _ => {
+            *text = format!("write_notice {from:?}");
+            (messages::notice(&from), library::write_notice(number, from, buf))
+        }
+    }
+}
+
+/// A message written as a frame, and where it is written read back.
+pub fn message_write(r: &mut Random, tally: &mut Tally) -> Outcome {
+    let (f, number) = any_framing(r);
+    let room = match r.below(4) {
+        0 => r.below(60),
+        1 => r.within(255, 520),
+        _ => 600,
+    };
+    let before = patterned(r, room);
+    let mut buf = before.clone();
+    let mut text = String::new();
+    let which = r.below(4);
+    let (payload, got) = write_with(which, r, number, &mut buf, &mut text);
+    let expected = match f {
+        None => Err(messages::UNKNOWN),
+        Some(f) => payload.clone().and_then(|p| frames::write_frame(f, &p, room)),
+    };
+    let call = format!("{text} framing {number} room {room}");
+    written(&call, tally, &before, expected, got, &buf)?;
+    if got.refusal != 0 {
+        return Ok(());
+    }
+    let p = payload.unwrap();
+    let mut back = [0; 256];
+    let read = library::read_frame(number, &buf, &mut back);
+    same("read back", &|| call.clone(), read, Reading { refusal: 0, used: got.len, len: p.len() })?;
+    same("payload read back", &|| call.clone(), &back[..p.len()], &p[..])?;
+    let known = if which < 2 { library::read_to_module(&p).refusal } else { library::read_from_module(&p).refusal };
+    same("message read back", &|| call.clone(), known, 0)
+}
+
+/// A reader of the library beside the bytes that the model holds.
+struct Pair {
+    framing: Framing,
+    reader: Reader,
+    held: Vec<u8>,
+    frames: Vec<Vec<u8>>,
+    noise: usize,
+}
+
+impl Pair {
+    fn new(framing: Framing) -> Pair {
+        let reader = library::new_reader(framing_number(framing));
+        Pair { framing, reader, held: Vec::new(), frames: Vec::new(), noise: 0 }
+    }
+
+    fn over_limit(&self) -> bool {
+        self.reader.count > self.framing.limit()
+    }
+
+    /// What a call was given, for a report.
+    fn input(&self, name: &str, chunk: &[u8], room: usize) -> String {
+        let r = &self.reader;
+        format!("{name} framing {} count {} held {} chunk ({}) {} room {room}", r.framing, r.count, hex(&r.held), chunk.len(), hex(chunk))
+    }
+
+    /// A refused call: its number, zeros, state and buffer as they were.
+    fn refused(&self, refusal: u8, input: &dyn Fn() -> String, got: Fed, buf: &[u8], before: &[u8]) -> Outcome {
+        same("answer", input, got.answer, Answer { refusal, ..Default::default() })?;
+        same("state", input, got.reader, self.reader)?;
+        same("buffer", input, buf, before)
+    }
+
+    /// A call that is not refused: its numbers, the state that follows and the whole buffer.
+    fn answered(&mut self, call: Call, fresh: bool, input: &dyn Fn() -> String, got: Fed, buf: &[u8], before: &[u8]) -> Outcome {
+        let (len, after) = match &call.payload {
+            Some(p) => (p.len(), in_front(p, before)),
+            None => (0, before.to_vec()),
+        };
+        let is_frame = call.payload.is_some() as u8;
+        same("answer", input, got.answer, Answer { refusal: 0, is_frame, taken: call.taken, noise: call.noise, len })?;
+        same("buffer", input, buf, &after[..])?;
+        same("framing", input, got.reader.framing, self.reader.framing)?;
+        same("count", input, got.reader.count, call.held.len())?;
+        same("held bytes", input, &got.reader.held[..call.held.len()], &call.held[..])?;
+        if fresh {
+            same("fresh state", input, got.reader, Pair::new(self.framing).reader)?;
+        }
+        self.reader = got.reader;
+        self.held = call.held;
+        self.noise += call.noise;
+        self.frames.extend(call.payload);
+        Ok(())
+    }
+
+    /// A line call. Gives the bytes taken and whether a frame came out.
+    fn feed(&mut self, r: &mut Random, tally: &mut Tally, chunk: &[u8], room: usize) -> Result<(usize, bool), String> {
+        let before = patterned(r, room);
+        let mut buf = before.clone();
+        let got = library::feed(self.reader, chunk, &mut buf);
+        tally.refusal(got.answer.refusal);
+        tally.add("line calls", true);
+        let was = Pair { framing: self.framing, reader: self.reader, held: Vec::new(), frames: Vec::new(), noise: 0 };
+        let input = || was.input("feed", chunk, room);
+        let refusal = match () {
+            _ if self.over_limit() => 16,
+            _ if room < 256 => 13,
+            _ if chunk.len() > 65536 => 15,
+            _ => 0,
+        };
+        if refusal != 0 {
+            self.refused(refusal, &input, got, &buf, &before)?;
+            return Ok((0, false));
+        }
+        let call = frames::feed(self.framing, &self.held, chunk);
+        let (taken, is_frame) = (call.taken, call.payload.is_some());
+        tally.add("line calls that give a frame", is_frame);
+        self.answered(call, false, &input, got, &buf, &before)?;
+        Ok((taken, is_frame))
+    }
+
+    /// A quiet call. Gives whether a frame came out.
+    fn quiet(&mut self, r: &mut Random, tally: &mut Tally, room: usize) -> Result<bool, String> {
+        let before = patterned(r, room);
+        let mut buf = before.clone();
+        let got = library::quiet(self.reader, &mut buf);
+        tally.refusal(got.answer.refusal);
+        tally.add("quiet calls", true);
+        let was = Pair { framing: self.framing, reader: self.reader, held: Vec::new(), frames: Vec::new(), noise: 0 };
+        let input = || was.input("quiet", &[], room);
+        let refusal = match () {
+            _ if self.over_limit() => 16,
+            _ if room < 256 => 13,
+            _ => 0,
+        };
+        if refusal != 0 {
+            self.refused(refusal, &input, got, &buf, &before)?;
+            return Ok(false);
+        }
+        let call = frames::quiet(self.framing, &self.held);
+        let is_frame = call.payload.is_some();
+        tally.add("quiet calls that give a frame", is_frame);
+        self.answered(call, !is_frame, &input, got, &buf, &before)?;
+        Ok(is_frame)
+    }
+
+    /// Now and then a call that is refused, with any chunk.
+    fn maybe_refused(&mut self, r: &mut Random, tally: &mut Tally) -> Outcome {
+        if !r.once_in(12) {
+            return Ok(());
+        }
+        let short = r.below(256);
+        match r.below(4) {
+            0 => drop(self.quiet(r, tally, short)?),
+            1 if r.once_in(20) => {
+                let extra = r.below(5);
+                let long = vec![r.pick(&[0xA5, b':', 0]); 65537 + extra];
+                let room = r.pick(&[0, 255, 256, 300]);
+                self.feed(r, tally, &long, room)?;
+            }
+            _ => {
+                let n = r.below(20);
+                let chunk = r.bytes(n);
+                self.feed(r, tally, &chunk, short)?;
+            }
+        }
+        Ok(())
+    }
+
+    /// A whole chunk: its rest again until more bytes are needed.
+    fn chunk(&mut self, r: &mut Random, tally: &mut Tally, mut rest: &[u8]) -> Outcome {
+        loop {
+            self.maybe_refused(r, tally)?;
+            let room = 256 + r.below(8);
+            let (taken, is_frame) = self.feed(r, tally, rest, room)?;
+            rest = &rest[taken..];
+            if !is_frame {
+                return Ok(());
+            }
+        }
+    }
+
+    /// The end of a segment: quiet until empty.
+    fn end(&mut self, r: &mut Random, tally: &mut Tally) -> Outcome {
+        loop {
+            self.maybe_refused(r, tally)?;
+            let room = 256 + r.below(8);
+            if !self.quiet(r, tally, room)? {
+                return Ok(());
+            }
+        }
+    }
+
+    /// Frames and noise since the start are those of the leftmost rule over the whole segment.
+    fn by_rule(&self, segment: &[u8], tally: &mut Tally) -> Outcome {
+        let (frames, noise) = frames::rule(self.framing, segment);
+        tally.frames += frames.len();
+        tally.noise += noise;
+        let input = || format!("segment {:?} {}", self.framing, hex(segment));
+        same("payloads of the segment", &input, &self.frames, &frames)?;
+        same("noise of the segment", &input, self.noise, noise)
+    }
+}
+
+/// Random cuts of n bytes: none, every byte, short, or any, with some empty chunks.
+fn cuts(r: &mut Random, n: usize) -> Vec<usize> {
+    let most = match r.below(4) {
+        0 => n,
+        1 => 1,
+        2 => 8,
+        _ => 300,
+    };
+    let mut left = n;
+    let mut sizes = Vec::new();
+    while left > 0 {
+        let size = match most {
+            1 => 1,
+            _ if most == n => n,
+            _ if r.once_in(8) => 0,
+            _ => r.within(1, most).min(left),
+        };
+        sizes.push(size);
+        left -= size;
+    }
+    sizes
+}
+
+/// Feeds a segment in cuts, then the quiet.
+fn drive(pair: &mut Pair, r: &mut Random, tally: &mut Tally, segment: &[u8]) -> Outcome {
+    let mut rest = segment;
+    for size in cuts(r, segment.len()) {
+        let (chunk, more) = rest.split_at(size);
+        pair.chunk(r, tally, chunk)?;
+        rest = more;
+    }
+    if r.once_in(4) {
+        pair.chunk(r, tally, &[])?;
+    }
+    pair.end(r, tally)
+}
+
+/// One or two segments through one reader, in random cuts.
+pub fn segment(r: &mut Random, tally: &mut Tally) -> Outcome {
+    let mut pair = Pair::new(random::framing(r));
+    for _ in 0..r.within(1, 2) {
+        let s = random::segment(r, pair.framing);
+        drive(&mut pair, r, tally, &s)?;
+        pair.by_rule(&s, tally)?;
+        pair.frames.clear();
+        pair.noise = 0;
+    }
+    Ok(())
+}
+
+/// A state made by hand: any bytes up to the limit and above it, then chunks and the quiet.
+pub fn made_state(r: &mut Random, tally: &mut Tally) -> Outcome {
+    let mut pair = Pair::new(random::framing(r));
+    let limit = pair.framing.limit();
+    let mut bytes = Vec::new();
+    while bytes.len() < 517 {
+        bytes.extend(random::segment(r, pair.framing));
+        let n = r.below(100);
+        bytes.extend(r.bytes(n));
+    }
+    pair.reader.held.copy_from_slice(&bytes[..517]);
+    pair.reader.count = match r.below(8) {
+        0 => r.pick(&[limit + 1, 517, 518, 65536, usize::MAX]),
+        1 => r.pick(&[limit - 1, limit]),
+        2 => 0,
+        _ => r.below(limit + 1),
+    };
+    if pair.over_limit() {
+        let (n, room) = (r.below(30), r.pick(&[0, 255, 256, 300]));
+        let chunk = r.bytes(n);
+        pair.feed(r, tally, &chunk, room)?;
+        return pair.quiet(r, tally, room).map(drop);
+    }
+    pair.held = pair.reader.held[..pair.reader.count].to_vec();
+    let held = pair.held.clone();
+    let more = if r.once_in(3) { Vec::new() } else { random::segment(r, pair.framing) };
+    drive(&mut pair, r, tally, &more)?;
+    pair.by_rule(&[held, more].concat(), tally)
+}
+
+/// A state whose framing number stands for none.
+pub fn unknown_framing(r: &mut Random, tally: &mut Tally) -> Outcome {
+    let number = r.within(2, 255) as u8;
+    let mut pair = Pair::new(Framing::Ascii);
+    pair.reader = library::new_reader(number);
+    same("new reader", &|| format!("framing {number}"), pair.reader, Reader { framing: number, held: [0; 517], count: 0 })?;
+    let bytes = r.bytes(517);
+    pair.reader.held.copy_from_slice(&bytes);
+    pair.reader.count = r.below(600);
+    let (n, room) = (r.below(40), r.pick(&[0, 255, 256, 300]));
+    let chunk = r.bytes(n);
+    let before = patterned(r, room);
+    let mut buf = before.clone();
+    let fed = library::feed(pair.reader, &chunk, &mut buf);
+    tally.refusal(fed.answer.refusal);
+    pair.refused(messages::UNKNOWN, &|| pair.input("feed", &chunk, room), fed, &buf, &before)?;
+    let quieted = library::quiet(pair.reader, &mut buf);
+    tally.refusal(quieted.answer.refusal);
+    pair.refused(messages::UNKNOWN, &|| pair.input("quiet", &[], room), quieted, &buf, &before)
+}
+
+/// Chunks at the limit of 65,536 bytes and over it, with storms of stray starts in them.
+pub fn long_chunk(r: &mut Random, tally: &mut Tally) -> Outcome {
+    let mut pair = Pair::new(random::framing(r));
+    let size = r.pick(&[65535, 65536, 65537, 65600]);
+    let s = random::storm(r, pair.framing, size);
+    if size <= 65536 {
+        pair.chunk(r, tally, &s)?;
+        pair.end(r, tally)?;
+        return pair.by_rule(&s, tally);
+    }
+    for room in [0, 255, 256] {
+        pair.feed(r, tally, &s, room)?;
+    }
+    pair.chunk(r, tally, &s[..65536])?;
+    pair.chunk(r, tally, &s[65536..])?;
+    pair.end(r, tally)?;
+    pair.by_rule(&s, tally)
+}

@@ -1,0 +1,81 @@
+-- `boundary::from_module::boundary_write_delivery` meets its contract: the message crate's promise, or the refusal of an unknown framing or kind.
+-- Assumes nothing.
+use mathlib.Core.Path.{refl, sym, ap, _∙_}
+use borrow.Author.Needs.{needs}
+use Rattle.boundary.specs.declared.from_module.NamedDelivery.{NamedDelivery}
+use Rattle.boundary.specs.FromModule.{deliveryRefusalIn, deliveryLayoutIn}
+use Rattle.boundary.proofs.Crossing.{message-crosses, no-framing, refused-crosses}
+use Rattle.boundary.proofs.from_module.boundary_write_delivery.Tie as tie
+use Rattle.boundary.proofs.from_module.boundary_write_delivery.Statement.{statement}
+
+framing-of-requires : tie.Need-framing-of-requires
+framing-of-requires c κs = search needs
+
+enum-known-f : tie.Need-enum-known-f
+enum-known-f c = search needs
+
+enum-told : tie.Need-enum-told
+enum-told c = search needs
+
+unwritten-requires : tie.Need-unwritten-requires
+unwritten-requires c κs = search needs
+
+returns : tie.Need-returns
+returns c = no-framing (sym (c .before .before .before .framing-of .ensures) ∙ c .before .enum-told .given .1) (c .unwritten .ensures)
+
+delivery-in-requires : tie.Need-delivery-in-requires
+delivery-in-requires c κs = search needs
+
+enum-known-d : tie.Need-enum-known-d
+enum-known-d c = search needs
+
+enum-told-2 : tie.Need-enum-told-2
+enum-told-2 c = search needs
+
+unwritten-requires-2 : tie.Need-unwritten-requires-2
+unwritten-requires-2 c κs = search needs
+
+returns-2 : tie.Need-returns-2
+returns-2 c =
+    let d = c .before .before .before in
+    refused-crosses (sym (d .before .before .before .before .framing-of .ensures) ∙ d .before .before .f .given .1)
+    (ap deliveryRefusalIn (sym (d .delivery-in .ensures) ∙ c .before .enum-told2 .given .1)) refl (c .unwritten2 .ensures)
+
+write-delivery-requires : tie.Need-write-delivery-requires
+write-delivery-requires c κs = search needs
+
+written-of-requires : tie.Need-written-of-requires
+written-of-requires c κs = search needs
+
+same-length : tie.Need-same-length
+same-length c = search needs
+
+returns-3 : tie.Need-returns-3
+returns-3 c =
+    let d = c .before .before .before in
+    let k = sym (d .before .before .before .before .before .delivery-in .ensures) ∙ d .before .before .before .d .given .1 in
+    let e = d .before .before .before .before .before .before .before in
+    message-crosses
+    (sym (e .before .before .framing-of .ensures) ∙ e .f .given .1)
+    (ap deliveryRefusalIn k)
+    (ap (λ (x : NamedDelivery). deliveryLayoutIn x (e .before .before .before .before .before .args .«data» .now)) k)
+    (d .write-delivery .ensures) (c .written-of .ensures)
+
+pub boundary-write-delivery-spec : {M : Type 1} → statement M
+boundary-write-delivery-spec =
+    tie.close
+    (tie.spec
+    framing-of-requires
+    enum-known-f
+    enum-told
+    unwritten-requires
+    returns
+    delivery-in-requires
+    enum-known-d
+    enum-told-2
+    unwritten-requires-2
+    returns-2
+    write-delivery-requires
+    written-of-requires
+    same-length
+    returns-3)

@@ -1,0 +1,59 @@
+-- The line reader across the boundary: numbers, state and buffer are those that the frame crate promises.
+use Prim.Native.Nat.{ℕ}
+use mathlib.Core.Path.{_≡_}
+use mathlib.Core.List.{List}
+use lib.ListN.{replicate}
+use Rattle.frame.specs.Reader.{Values, refusalValues, feedValuesOf, quietValuesOf, Feeds, Quiets}
+use Rattle.frame.specs.declared.framing.Framing.{Framing}
+use Rattle.frame.specs.declared.reader.Reader.{Reader}
+use Rattle.frame.specs.declared.reader.Fed.{Fed}
+use Rattle.frame.specs.declared.reader.Quieted.{Quieted}
+use Rattle.boundary.specs.Framing.{framingNumber, unknownNumber}
+use Rattle.boundary.specs.declared.framing.NamedFraming.{NamedFraming}
+use Rattle.boundary.specs.declared.framing.NamedFraming.the-variants.{Known, Unknown}
+use Rattle.boundary.specs.declared.line.LineReader.{LineReader}
+use Rattle.boundary.specs.declared.line.LineAnswer.{LineAnswer}
+use Rattle.boundary.specs.declared.line.LineFed.{LineFed}
+
+-- The numbers of an answer as they cross.
+abbrev pub flatValues : Values → LineAnswer
+flatValues v = record { refusal = v .number; «is_frame» = v .isFrame; taken = v .taken; noise = v .noise; len = v .len }
+
+-- A state as it crosses.
+abbrev pub flatReader : Reader → LineReader
+flatReader r = record { framing = framingNumber (r .framing); held = r .held; count = r .count }
+
+-- The state that crossed, whose framing number stands for f.
+abbrev pub readerIn : Framing → LineReader → Reader
+readerIn f r = record { framing = f; held = r .held; count = r .count }
+
+-- A new reader's state.
+abbrev pub newFlat : ℕ → LineReader
+newFlat n = record { framing = n; held = replicate 517 0; count = 0 }
+
+-- The promise of a call by an answer of the frame crate that keeps its own promise: what crosses is that answer.
+pub record Crosses (A : Type 0) (Promised : A → Type 0) (flat : A → LineFed) (fed : LineFed) : Type 0 where
+  pub answer : A
+  pub promised : Promised answer
+  pub crosses : fed ≡ flat answer
+
+-- A refusal for an unknown framing leaves state and buffer.
+pub record Unnamed (r : LineReader) (buf : List ℕ) (fed : LineFed) (after : List ℕ) : Type 0 where
+  pub refuses : fed ≡ record { reader = r; answer = flatValues (refusalValues unknownNumber) }
+  pub leaves : after ≡ buf
+
+abbrev pub flatFed : Fed → LineFed
+flatFed fed = record { reader = flatReader (fed .reader); answer = flatValues (feedValuesOf (fed .answer)) }
+
+abbrev pub flatQuieted : Quieted → LineFed
+flatQuieted q = record { reader = flatReader (q .reader); answer = flatValues (quietValuesOf (q .answer)) }
+
+-- The promise of a line call with the state r, a chunk and a buffer, which then holds `after`.
+abbrev pub FeedsFlat : NamedFraming → LineReader → List ℕ → List ℕ → LineFed → List ℕ → Type 0
+FeedsFlat (Known f) r chunk buf fed after = Crosses Fed (λ a. Feeds (readerIn f r) chunk buf a after) flatFed fed
+FeedsFlat Unknown r chunk buf fed after = Unnamed r buf fed after
+
+-- The promise of a quiet call with the state r and a buffer.
+abbrev pub QuietsFlat : NamedFraming → LineReader → List ℕ → LineFed → List ℕ → Type 0
+QuietsFlat (Known f) r buf fed after = Crosses Quieted (λ a. Quiets (readerIn f r) buf a after) flatQuieted fed
+QuietsFlat Unknown r buf fed after = Unnamed r buf fed after

@@ -1,0 +1,325 @@
+// Messages from the module as numbers.
+use crate::framing::NamedFraming;
+use crate::framing::framing_of;
+use crate::single::FlatWriting;
+use crate::single::unwritten;
+use crate::status::NO_STATUS;
+use crate::status::StatusNumbers;
+use crate::status::remote_in;
+use crate::status::standard_in;
+use crate::written::written_of;
+use message::Delivery;
+use message::FromModule;
+use message::Notice;
+use message::Outcome;
+use message::Reception;
+use message::RemoteStatus;
+use message::Response;
+use message::Simple;
+use message::StandardStatus;
+ghost use mathlib.Core.Path.{_≡_};
+ghost use Rattle.message.specs.FromModule.{fromModuleOf, readFromModule, outcomeByte};
+ghost use Rattle.boundary.specs.Framing.{framingOf};
+ghost use Rattle.boundary.specs.Single.{WritesFlat};
+ghost use Rattle.boundary.specs.FromModule.{deliveryNumbers, responseNumbers, standardNumbers, remoteNumbers, noticeNumbers, fromModuleNumbers};
+ghost use Rattle.boundary.specs.FromModule.{deliveryIn, responseIn, noticeIn, deliveryRefusalIn, deliveryLayoutIn, noticeRefusalIn, noticeLayoutIn};
+
+// A message from the module. `kind` is 0 for a refusal, 1 for a simple message, 2 for an extended one, 3 for a response, 4 for a standard status, 5 for a
+// remote status. `address` is the sender's, `response_id` also a response's own ID, `lqi` also a status's. Fields that the kind does not have are 0 in an
+// answer, and are not looked at in a write; `refusal` and `start`, the index at which the data begin, belong to answers alone.
+#[repr(C)]
+pub struct FromModuleNumbers {
+    pub kind: u8,
+    pub refusal: u8,
+    pub address: u8,
+    pub command: u8,
+    pub response_id: u8,
+    pub result: u8,
+    pub lqi: u8,
+    pub source: u32,
+    pub destination: u32,
+    pub status: StatusNumbers,
+    pub start: usize,
+}
+
+// The message with data that numbers stand for, if any.
+pub(crate) enum NamedDelivery {
+    Known(Delivery),
+    Unknown,
+}
+
+// The message without data that numbers stand for, if any.
+pub(crate) enum NamedNotice {
+    Known(Notice),
+    // A response whose result is neither 0 nor 1.
+    BadResult,
+    Unknown,
+}
+
+fn outcome_number(outcome: Outcome) -> u8
+    ensures { λ r. ⌜ r ≡ outcomeByte outcome ⌝ }
+{
+    match outcome {
+        Outcome::Failure => 0,
+        Outcome::Success => 1,
+    }
+}
+
+fn delivery_numbers(delivery: Delivery, start: usize) -> FromModuleNumbers
+    ensures { λ r. ⌜ r ≡ deliveryNumbers delivery start ⌝ }
+{
+    match delivery {
+        Delivery::Simple(m) => FromModuleNumbers {
+            kind: 1,
+            refusal: 0,
+            address: m.address,
+            command: m.command,
+            response_id: 0,
+            result: 0,
+            lqi: 0,
+            source: 0,
+            destination: 0,
+            status: NO_STATUS,
+            start: start,
+        },
+        Delivery::Extended(m) => FromModuleNumbers {
+            kind: 2,
+            refusal: 0,
+            address: m.sender,
+            command: 0,
+            response_id: m.response_id,
+            result: 0,
+            lqi: m.lqi,
+            source: m.source,
+            destination: m.destination,
+            status: NO_STATUS,
+            start: start,
+        },
+    }
+}
+
+fn response_numbers(m: Response) -> FromModuleNumbers
+    ensures { λ r. ⌜ r ≡ responseNumbers m ⌝ }
+{
+    let outcome = m.outcome;
+    FromModuleNumbers {
+        kind: 3,
+        refusal: 0,
+        address: 0,
+        command: 0,
+        response_id: m.id,
+        result: outcome_number(outcome),
+        lqi: 0,
+        source: 0,
+        destination: 0,
+        status: NO_STATUS,
+        start: 0,
+    }
+}
+
+fn standard_numbers(s: StandardStatus) -> FromModuleNumbers
+    ensures { λ r. ⌜ r ≡ standardNumbers s ⌝ }
+{
+    FromModuleNumbers {
+        kind: 4,
+        refusal: 0,
+        address: s.sender,
+        command: 0,
+        response_id: 0,
+        result: 0,
+        lqi: s.lqi,
+        source: 0,
+        destination: 0,
+        status: StatusNumbers {
+            identifier: s.identifier,
+            serial: s.serial,
+            destination: s.destination,
+            time: s.time,
+            relays: s.relays,
+            supply: s.supply,
+            unused: s.unused,
+            di: s.di,
+            di_changed: s.di_changed,
+            ad1: s.ad1,
+            ad2: s.ad2,
+            ad3: s.ad3,
+            ad4: s.ad4,
+            correction: s.correction,
+            signals: 0,
+            mask: 0,
+            interrupts: 0,
+        },
+        start: 0,
+    }
+}
+
+fn remote_numbers(s: RemoteStatus) -> FromModuleNumbers
+    ensures { λ r. ⌜ r ≡ remoteNumbers s ⌝ }
+{
+    FromModuleNumbers {
+        kind: 5,
+        refusal: 0,
+        address: s.sender,
+        command: 0,
+        response_id: 0,
+        result: 0,
+        lqi: s.lqi,
+        source: 0,
+        destination: 0,
+        status: StatusNumbers {
+            identifier: 0,
+            serial: s.serial,
+            destination: s.destination,
+            time: s.time,
+            relays: s.relays,
+            supply: 0,
+            unused: s.unused,
+            di: 0,
+            di_changed: 0,
+            ad1: 0,
+            ad2: 0,
+            ad3: 0,
+            ad4: 0,
+            correction: 0,
+            signals: s.signals,
+            mask: s.mask,
+            interrupts: s.interrupts,
+        },
+        start: 0,
+    }
+}
+
+fn notice_numbers(notice: Notice) -> FromModuleNumbers
+    ensures { λ r. ⌜ r ≡ noticeNumbers notice ⌝ }
+{
+    match notice {
+        Notice::Response(m) => response_numbers(m),
+        Notice::Standard(m) => standard_numbers(m),
+        Notice::Remote(m) => remote_numbers(m),
+    }
+}
+
+fn from_module_numbers(answer: FromModule) -> FromModuleNumbers
+    ensures { λ r. ⌜ r ≡ fromModuleNumbers (fromModuleOf answer) ⌝ }
+{
+    match answer {
+        FromModule::Delivery { delivery, start } => delivery_numbers(delivery, start),
+        FromModule::Notice(notice) => notice_numbers(notice),
+        FromModule::Refused(refusal) => FromModuleNumbers {
+            kind: 0,
+            refusal: refusal.number(),
+            address: 0,
+            command: 0,
+            response_id: 0,
+            result: 0,
+            lqi: 0,
+            source: 0,
+            destination: 0,
+            status: NO_STATUS,
+            start: 0,
+        },
+    }
+}
+
+fn delivery_in(n: FromModuleNumbers) -> NamedDelivery
+    ensures { λ r. ⌜ r ≡ deliveryIn n ⌝ }
+{
+    if n.kind == 1 {
+        return NamedDelivery::Known(Delivery::Simple(Simple {
+            address: n.address,
+            command: n.command,
+        }));
+    }
+    if n.kind == 2 {
+        return NamedDelivery::Known(Delivery::Extended(Reception {
+            sender: n.address,
+            response_id: n.response_id,
+            source: n.source,
+            destination: n.destination,
+            lqi: n.lqi,
+        }));
+    }
+    NamedDelivery::Unknown
+}
+
+fn response_in(id: u8, result: u8) -> NamedNotice
+    ensures { λ r. ⌜ r ≡ responseIn id result ⌝ }
+{
+    if result == 0 {
+        return NamedNotice::Known(Notice::Response(Response {
+            id: id,
+            outcome: Outcome::Failure,
+        }));
+    }
+    if result == 1 {
+        return NamedNotice::Known(Notice::Response(Response {
+            id: id,
+            outcome: Outcome::Success,
+        }));
+    }
+    NamedNotice::BadResult
+}
+
+fn notice_in(n: FromModuleNumbers) -> NamedNotice
+    ensures { λ r. ⌜ r ≡ noticeIn n ⌝ }
+{
+    let status = n.status;
+    if n.kind == 3 {
+        return response_in(n.response_id, n.result);
+    }
+    if n.kind == 4 {
+        return NamedNotice::Known(Notice::Standard(standard_in(n.address, n.lqi, status)));
+    }
+    if n.kind == 5 {
+        return NamedNotice::Known(Notice::Remote(remote_in(n.address, n.lqi, status)));
+    }
+    NamedNotice::Unknown
+}
+
+// Reads a payload as a message from the module, as `message::read_from_module` does.
+#[no_mangle]
+pub extern "C" fn boundary_read_from_module(payload: &[u8]) -> FromModuleNumbers
+    ensures { λ r. ⌜ r ≡ fromModuleNumbers (readFromModule (now (payload .entry))) ⌝ }
+{
+    from_module_numbers(message::read_from_module(payload))
+}
+
+// Writes a message from the module with its data as a frame, as `message::write_delivery` does. A framing or a kind that stands for none, or for a message
+// without data, is refused with 255, and buf stays.
+#[no_mangle]
+pub extern "C" fn boundary_write_delivery(
+    framing: u8,
+    delivery: FromModuleNumbers,
+    data: &[u8],
+    buf: &mut [u8],
+) -> FlatWriting
+    ensures { λ r. ⌜ WritesFlat (framingOf framing) (deliveryRefusalIn (deliveryIn delivery)) (deliveryLayoutIn (deliveryIn delivery) (now («data» .entry))) (now (buf .entry)) r (now (buf .exit)) ⌝ }
+{
+    let NamedFraming::Known(f) = framing_of(framing) else {
+        return unwritten(255);
+    };
+    let NamedDelivery::Known(d) = delivery_in(delivery) else {
+        return unwritten(255);
+    };
+    written_of(message::write_delivery(f, d, data, buf))
+}
+
+// Writes a message from the module without data as a frame, as `message::write_notice` does. A framing or a kind that stands for none, or for a message
+// with data, is refused with 255, a response whose result is neither 0 nor 1 with 11; then buf stays.
+#[no_mangle]
+pub extern "C" fn boundary_write_notice(
+    framing: u8,
+    notice: FromModuleNumbers,
+    buf: &mut [u8],
+) -> FlatWriting
+    ensures { λ r. ⌜ WritesFlat (framingOf framing) (noticeRefusalIn (noticeIn notice)) (noticeLayoutIn (noticeIn notice)) (now (buf .entry)) r (now (buf .exit)) ⌝ }
+{
+    let NamedFraming::Known(f) = framing_of(framing) else {
+        return unwritten(255);
+    };
+    match notice_in(notice) {
+        NamedNotice::Known(m) => written_of(message::write_notice(f, m, buf)),
+        NamedNotice::BadResult => unwritten(11),
+        NamedNotice::Unknown => unwritten(255),
+    }
+}

@@ -1,0 +1,215 @@
+// Messages to the module as numbers.
+use crate::framing::NamedFraming;
+use crate::framing::framing_of;
+use crate::options::NO_OPTIONS;
+use crate::options::OptionNumbers;
+use crate::options::option_numbers;
+use crate::options::options_in;
+use crate::single::FlatWriting;
+use crate::single::unwritten;
+use crate::written::written_of;
+use message::Address;
+use message::OutputChange;
+use message::Request;
+use message::Simple;
+use message::ToModule;
+use message::Transmission;
+ghost use mathlib.Core.Path.{_≡_};
+ghost use Rattle.message.specs.ToModule.{toModuleOf, readToModule, changeLayout};
+ghost use Rattle.boundary.specs.Framing.{framingOf};
+ghost use Rattle.boundary.specs.Single.{WritesFlat};
+ghost use Rattle.boundary.specs.ToModule.{transmissionNumbers, requestNumbers, toModuleNumbers};
+ghost use Rattle.boundary.specs.ToModule.{transmissionIn, requestIn, changeIn, requestRefusalIn, requestLayoutIn, changeRefusalIn};
+
+// A message to the module. `kind` is 0 for a refusal, 1 for a simple message, 2 for an extended one to a plain address, 3 for an extended one to an
+// extended address, 4 for a change of outputs. Fields that the kind does not have are 0 in an answer, and are not looked at in a write; `refusal` and
+// `start`, the index at which the data begin, belong to answers alone.
+#[repr(C)]
+pub struct ToModuleNumbers {
+    pub kind: u8,
+    pub refusal: u8,
+    pub address: u8,
+    pub command: u8,
+    pub response_id: u8,
+    pub far: u32,
+    pub options: OptionNumbers,
+    pub signals: u16,
+    pub mask: u16,
+    pub start: usize,
+}
+
+// The request that numbers stand for, if any.
+pub(crate) enum NamedRequest {
+    Known(Request),
+    Unknown,
+}
+
+fn transmission_numbers(m: Transmission, start: usize) -> ToModuleNumbers
+    ensures { λ r. ⌜ r ≡ transmissionNumbers m start ⌝ }
+{
+    let address = m.address;
+    let options = m.options;
+    let numbers = option_numbers(options);
+    match address {
+        Address::Plain(a) => ToModuleNumbers {
+            kind: 2,
+            refusal: 0,
+            address: a,
+            command: 0,
+            response_id: m.response_id,
+            far: 0,
+            options: numbers,
+            signals: 0,
+            mask: 0,
+            start: start,
+        },
+        Address::Extended(w) => ToModuleNumbers {
+            kind: 3,
+            refusal: 0,
+            address: 0,
+            command: 0,
+            response_id: m.response_id,
+            far: w,
+            options: numbers,
+            signals: 0,
+            mask: 0,
+            start: start,
+        },
+    }
+}
+
+fn request_numbers(request: Request, start: usize) -> ToModuleNumbers
+    ensures { λ r. ⌜ r ≡ requestNumbers request start ⌝ }
+{
+    match request {
+        Request::Simple(m) => ToModuleNumbers {
+            kind: 1,
+            refusal: 0,
+            address: m.address,
+            command: m.command,
+            response_id: 0,
+            far: 0,
+            options: NO_OPTIONS,
+            signals: 0,
+            mask: 0,
+            start: start,
+        },
+        Request::Extended(m) => transmission_numbers(m, start),
+    }
+}
+
+fn to_module_numbers(answer: ToModule) -> ToModuleNumbers
+    ensures { λ r. ⌜ r ≡ toModuleNumbers (toModuleOf answer) ⌝ }
+{
+    match answer {
+        ToModule::Request { request, start } => request_numbers(request, start),
+        ToModule::OutputChange(m) => ToModuleNumbers {
+            kind: 4,
+            refusal: 0,
+            address: m.address,
+            command: 0,
+            response_id: 0,
+            far: 0,
+            options: NO_OPTIONS,
+            signals: m.signals,
+            mask: m.mask,
+            start: 0,
+        },
+        ToModule::Refused(refusal) => ToModuleNumbers {
+            kind: 0,
+            refusal: refusal.number(),
+            address: 0,
+            command: 0,
+            response_id: 0,
+            far: 0,
+            options: NO_OPTIONS,
+            signals: 0,
+            mask: 0,
+            start: 0,
+        },
+    }
+}
+
+fn transmission_in(address: Address, n: ToModuleNumbers) -> Transmission
+    ensures { λ r. ⌜ r ≡ transmissionIn address n ⌝ }
+{
+    let options = n.options;
+    Transmission {
+        address: address,
+        response_id: n.response_id,
+        options: options_in(options),
+    }
+}
+
+fn request_in(n: ToModuleNumbers) -> NamedRequest
+    ensures { λ r. ⌜ r ≡ requestIn n ⌝ }
+{
+    if n.kind == 1 {
+        return NamedRequest::Known(Request::Simple(Simple {
+            address: n.address,
+            command: n.command,
+        }));
+    }
+    if n.kind == 2 {
+        return NamedRequest::Known(Request::Extended(transmission_in(
+            Address::Plain(n.address),
+            n,
+        )));
+    }
+    if n.kind == 3 {
+        return NamedRequest::Known(Request::Extended(transmission_in(Address::Extended(n.far), n)));
+    }
+    NamedRequest::Unknown
+}
+
+// Reads a payload as a message to the module, as `message::read_to_module` does.
+#[no_mangle]
+pub extern "C" fn boundary_read_to_module(payload: &[u8]) -> ToModuleNumbers
+    ensures { λ r. ⌜ r ≡ toModuleNumbers (readToModule (now (payload .entry))) ⌝ }
+{
+    to_module_numbers(message::read_to_module(payload))
+}
+
+// Writes a message to the module with its data as a frame, as `message::write_request` does. A framing or a kind that stands for none, or for a message
+// without data, is refused with 255, and buf stays.
+#[no_mangle]
+pub extern "C" fn boundary_write_request(
+    framing: u8,
+    request: ToModuleNumbers,
+    data: &[u8],
+    buf: &mut [u8],
+) -> FlatWriting
+    ensures { λ r. ⌜ WritesFlat (framingOf framing) (requestRefusalIn (requestIn request)) (requestLayoutIn (requestIn request) (now («data» .entry))) (now (buf .entry)) r (now (buf .exit)) ⌝ }
+{
+    let NamedFraming::Known(f) = framing_of(framing) else {
+        return unwritten(255);
+    };
+    let NamedRequest::Known(q) = request_in(request) else {
+        return unwritten(255);
+    };
+    written_of(message::write_request(f, q, data, buf))
+}
+
+// Writes a change of outputs as a frame, as `message::write_output_change` does. A framing that stands for none, or a kind that is not 4, is refused with
+// 255, and buf stays.
+#[no_mangle]
+pub extern "C" fn boundary_write_output_change(
+    framing: u8,
+    change: ToModuleNumbers,
+    buf: &mut [u8],
+) -> FlatWriting
+    ensures { λ r. ⌜ WritesFlat (framingOf framing) (changeRefusalIn change) (changeLayout (changeIn change)) (now (buf .entry)) r (now (buf .exit)) ⌝ }
+{
+    let NamedFraming::Known(f) = framing_of(framing) else {
+        return unwritten(255);
+    };
+    if change.kind != 4 {
+        return unwritten(255);
+    }
+    let c = OutputChange {
+        address: change.address,
+        signals: change.signals,
+        mask: change.mask,
+    };
+    written_of(message::write_output_change(f, c, buf))
+}
