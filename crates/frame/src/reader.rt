@@ -11,7 +11,7 @@ ghost use mathlib.Core.Path.{_≡_};
 ghost use Prim.Native.Nat.{_≤_};
 ghost use lib.ListN.{length};
 ghost use Rattle.frame.specs.Framing.{limit, inFront};
-ghost use Rattle.frame.specs.Judged.{payloadAt, payloadEnd};
+ghost use Rattle.frame.specs.Judged.{payloadAt, Packed};
 ghost use Rattle.frame.specs.Reader.{newReader, heldIn, quiet, Holds, Feeds, Quiets};
 ghost use Rattle.frame.specs.Scan.{scanned, calledBy, scanChunk, scanLine, Joins, Answerable, ChunkFed, HeldFed, Answered, QuietAnswered};
 
@@ -97,7 +97,7 @@ fn hold(framing: Framing, s: &[u8]) -> Reader
 
 // Puts the payload of the frame at the front of s into the front of buf, and gives a state that holds the bytes of rest.
 fn hand_out(framing: Framing, s: &[u8], len: usize, rest: &[u8], buf: &mut [u8]) -> Reader
-    requires { ⌜ (payloadEnd framing len ≤ length (now s)) × (len ≤ length (now buf)) × (length (now rest) ≤ 517) ⌝ }
+    requires { ⌜ Packed framing (now s) len × (len ≤ length (now buf)) × (length (now rest) ≤ 517) ⌝ }
     ensures { λ r. ⌜ (Holds framing (now (rest .entry)) r) × (now (buf .exit) ≡ inFront (payloadAt framing (now (s .entry)) len) (now (buf .entry))) ⌝ }
 {
     unpack(framing, s, len, buf);

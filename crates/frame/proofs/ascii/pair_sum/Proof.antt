@@ -1,14 +1,13 @@
--- `frame::ascii::pair_sum` meets its contract. The loop's invariant: what is summed so far with the sum of the bytes that the digits from i on stand for is
--- the whole sum, and at most 255 for each digit passed. The measure is what is left of the length.
+-- `frame::ascii::pair_sum` meets its contract. The loop's invariant: what is summed so far with the sum of the bytes that the digits from i on stand
+-- for is the whole sum, and at most 255 for each digit passed. The measure is what is left of the length.
 -- Assumes nothing.
 use Prim.Native.Nat.{_+_, _-_, _*_, _≤_}
-use mathlib.Core.Path.{_≡_, ap}
+use mathlib.Core.Path.{_≡_}
 use borrow.Author.Needs.{needs}
 use native.Mathlib.Omega.{arith}
-use lib.ListN.{length, drop, length-drop}
+use lib.ListN.{length, drop}
 use Rattle.frame.specs.Ascii.{sum}
 use Rattle.frame.specs.Judged.{decoded}
-use Rattle.frame.proofs.AsciiLeaves.{decoded-next, decoded-short}
 use Rattle.frame.proofs.ascii.pair_sum.Statement.{statement}
 use Rattle.frame.proofs.ascii.pair_sum.Tie as tie
 
@@ -24,11 +23,8 @@ loop-holds c = omega arith
 add-loop : tie.Need-add-loop Inv-loop μ-loop
 add-loop c = omega arith
 
-byte-at-requires : tie.Need-byte-at-requires Inv-loop μ-loop
-byte-at-requires c κs = omega arith
-
-cast-sum : tie.Need-cast-sum Inv-loop μ-loop
-cast-sum c = search needs
+block-sum-requires : tie.Need-block-sum-requires Inv-loop μ-loop
+block-sum-requires c κs = search needs
 
 add-sum : tie.Need-add-sum Inv-loop μ-loop
 add-sum c = search needs
@@ -40,16 +36,16 @@ loop-less : tie.Need-loop-less Inv-loop μ-loop
 loop-less c = omega arith
 
 loop-again : tie.Need-loop-again Inv-loop μ-loop
-loop-again c =
-    let i = c .before .before .loop .i in
-    let s = c .before .before .before .before .args .s .now in
-    omega (arith, ap sum (decoded-next s i (omega arith)))
+loop-again c = omega arith
+
+rest-sum-requires : tie.Need-rest-sum-requires Inv-loop μ-loop
+rest-sum-requires c κs = search needs
+
+add-result : tie.Need-add-result Inv-loop μ-loop
+add-result c = search needs
 
 returns : tie.Need-returns Inv-loop μ-loop
-returns c =
-    let i = c .before .loop .i in
-    let s = c .before .before .before .args .s .now in
-    omega (arith, ap sum (decoded-short (drop i s) (simp length-drop (omega arith))))
+returns c = search needs
 
 pub pair-sum-spec : {M : Type 1} → statement M
 pair-sum-spec =
@@ -59,10 +55,11 @@ pair-sum-spec =
     μ-loop
     loop-holds
     add-loop
-    byte-at-requires
-    cast-sum
+    block-sum-requires
     add-sum
     add-i
     loop-less
     loop-again
+    rest-sum-requires
+    add-result
     returns)

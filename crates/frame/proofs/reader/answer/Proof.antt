@@ -8,12 +8,12 @@ use borrow.Author.Needs.{needs}
 use lib.ListN.{length, take, drop, length-take}
 use Rattle.frame.specs.Checks.{cut, frame}
 use Rattle.frame.specs.Framing.{read, limit, inFront}
-use Rattle.frame.specs.Judged.{payloadAt, payloadEnd}
+use Rattle.frame.specs.Judged.{payloadAt, Packed}
 use Rattle.frame.specs.Reader.{Holds}
 use Rattle.frame.specs.Scan.{stopOf, Usable}
 use Rattle.frame.specs.declared.scan.ScanEnd.{ScanEnd}
 use Rattle.frame.proofs.Lists.{take-rest}
-use Rattle.frame.proofs.Framings.{payload-there, payload-size, undecided-short, limit-most}
+use Rattle.frame.proofs.Framings.{payload-there, payload-packed, payload-size, undecided-short, limit-most}
 use Rattle.frame.proofs.Readers.{answered-frame, answered-undecided, answered-passed}
 use Rattle.frame.proofs.reader.answer.Statement.{statement}
 use Rattle.frame.proofs.reader.answer.Tie as tie
@@ -30,10 +30,10 @@ at-frame c =
     subst (λ (e : ScanEnd). Usable (stopOf (a .framing) (drop (r .place) (a .w .now)) e) (a .framing) (a .w .now) (r .place) (r .reach))
     (c .before .end .given .1) (c .before .before .before .before .before .before .pre .usable)
 
--- The payload is there, and as long as was said.
+-- The payload can be taken out, and is as long as was said.
 there : (c : tie.After-known-told) → let a = c .before .before .before .before .before .before .args in
     let at = drop (a .found .place) (a .w .now) in let len = c .before .end .given .0 .1 .0 in
-    (payloadEnd (a .framing) len ≤ length at) × (length (payloadAt (a .framing) at len) ≡ len) × (len ≤ 256)
+    Packed (a .framing) at len × (length (payloadAt (a .framing) at len) ≡ len) × (len ≤ 256)
 there c =
     let a = c .before .before .before .before .before .before .args in
     let at = drop (a .found .place) (a .w .now) in
@@ -42,7 +42,7 @@ there c =
     let e = at-frame c .0 in
     let h = payload-there (a .framing) at used len e in
     let m = payload-size (a .framing) at (payloadAt (a .framing) at len) used e in
-    (h .0, h .1, omega (arith, h .1, m .1))
+    (payload-packed (a .framing) at used len e, h .1, omega (arith, h .1, m .1))
 
 -- src/reader.rt:132:17
 add-noise : tie.Need-add-noise
@@ -92,7 +92,7 @@ hand-out-requires c κs =
     let next = place + c .before .before .before .before .before .end .given .0 .0 in
     let h = there (c .before .before .before .before) in
     let f = at-frame (c .before .before .before .before) in (
-      subst (λ (l : List ℕ). payloadEnd (a .framing) (c .before .before .before .before .before .end .given .0 .1 .0) ≤ length l) (sym (take-rest (a .w .now) place)) (h .0),
+      subst (λ (l : List ℕ). Packed (a .framing) l (c .before .before .before .before .before .end .given .0 .1 .0)) (sym (take-rest (a .w .now) place)) (h .0),
       omega (arith, h .2),
       omega (arith, f .2, length-take (a .found .reach - next) (drop next (a .w .now))),
     )
