@@ -3,14 +3,16 @@
 use Prim.Native.Nat.{ℕ, zero, suc, _+_, _-_, _≤_, max}
 use mathlib.Core.Path.{_≡_}
 use mathlib.Core.List.{List, [], _∷_, _++_}
-use mathlib.Core.Bool.{Bool, true, false}
+use mathlib.Core.Bool.{Bool, true, false, not}
+use lib.Dec.{eqb}
 use lib.ListN.{length, take, drop}
 use Rattle.frame.specs.Checks.{Verdict, cut, refused, frame}
 use Rattle.frame.specs.Framing.{read, limit}
-use Rattle.frame.specs.Judged.{payloadAt}
-use Rattle.frame.specs.Rule.{Output}
+use Rattle.frame.specs.Ascii.{colon}
+use Rattle.frame.specs.Judged.{payloadAt, every}
 use Rattle.frame.specs.Reader.{Called, ended, Holds, AfterQuiet, feedValuesOf, quietValuesOf, valuesAt, bufferAt}
 use Rattle.frame.specs.declared.framing.Framing.{Framing}
+use Rattle.frame.specs.declared.framing.Framing.the-variants.{Binary, Ascii}
 use Rattle.frame.specs.declared.scan.ScanResult.{ScanResult}
 use Rattle.frame.specs.declared.scan.ScanEnd.{ScanEnd}
 use Rattle.frame.specs.declared.scan.ScanEnd.the-variants.{Frame, Undecided, Passed}
@@ -55,6 +57,21 @@ scanFrom judge zero place reach s = record { place = place; reach = reach; stop 
 scanFrom judge (suc n) place reach s =
     let later : Scanned = scanFrom judge n (suc place) (max reach (place + judgedBytes (judge s))) (drop 1 s) in
     scanAs (judge s) place reach later
+
+-- The first byte of every frame.
+abbrev pub startOf : Framing → ℕ
+startOf Binary = 0xA5
+startOf Ascii = colon
+
+-- c is another byte than b.
+abbrev pub other : ℕ → ℕ → Bool
+other b c = not (eqb c b)
+
+-- The bytes of s from one place to another, which is no further than `stop`, are all others than b.
+pub record Skips (b : ℕ) (s : List ℕ) (from stop to : ℕ) : Type 0 where
+  pub onward : from ≤ to
+  pub inside : to ≤ stop
+  pub others : every (other b) (take (to - from) (drop from s)) ≡ true
 
 -- The result that an answer of `scan` stands for.
 abbrev pub stopOf : Framing → List ℕ → ScanEnd → Stop
