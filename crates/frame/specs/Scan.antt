@@ -21,6 +21,7 @@ use Rattle.frame.specs.declared.reader.Fed.{Fed}
 use Rattle.frame.specs.declared.reader.Quieted.{Quieted}
 use Rattle.frame.specs.declared.reader.Joined.{Joined}
 use Rattle.frame.specs.declared.reader.Before.{Before}
+use Rattle.frame.specs.declared.reader.Told.{Told}
 
 -- The judge of a segment that goes on, or has ended.
 abbrev pub judging : Bool → Framing → List ℕ → Verdict
@@ -130,7 +131,21 @@ pub record Answered (f : Framing) (c : Called) (buf : List ℕ) (fed : Fed) (buf
   pub state : Holds f (c .held) (fed .reader)
   pub buffer : buf′ ≡ bufferAt (c .out .frames) buf
 
--- After a quiet: the same, with the state that follows.
+-- A function behind it tells what c gives, where the bytes held afterwards are a part of w.
+pub record Tells (c : Called) (w buf : List ℕ) (told : Told) (buf′ : List ℕ) : Type 0 where
+  pub values : feedValuesOf (told .answer) ≡ valuesAt c
+  pub held : take (told .end - told .from) (drop (told .from) w) ≡ c .held
+  pub inside : told .from ≤ told .end
+  pub there : told .end ≤ length w
+  pub most : told .end ≤ told .from + 517
+  pub buffer : buf′ ≡ bufferAt (c .out .frames) buf
+
+-- The answer that was told, with a state that holds that part of w.
+pub record Keeps (f : Framing) (w : List ℕ) (told : Told) (fed : Fed) : Type 0 where
+  pub answer : fed .answer ≡ told .answer
+  pub state : Holds f (take (told .end - told .from) (drop (told .from) w)) (fed .reader)
+
+-- After a quiet: the same as `Answered`, with the state that follows.
 pub record QuietAnswered (f : Framing) (c : Called) (buf : List ℕ) (q : Quieted) (buf′ : List ℕ) : Type 0 where
   pub values : quietValuesOf (q .answer) ≡ valuesAt c
   pub state : AfterQuiet f c (c .out .frames) (q .reader)
@@ -155,11 +170,17 @@ pub record Answerable (f : Framing) (w : List ℕ) (r : Scanned) (before : Befor
   pub small : before .noise ≤ 517
   pub room : 256 ≤ length buf
 
--- What `feed_chunk` and `feed_held` are called with.
+-- What `feed_chunk`, `feed_places` and `feed_held` are called with.
 pub record ChunkFed (f : Framing) (chunk : List ℕ) (reach noise : ℕ) (buf : List ℕ) : Type 0 where
   pub reached : reach ≤ length chunk
   pub before : reach ≤ limit f
   pub noise-small : noise ≤ 517
+  pub room : 256 ≤ length buf
+
+pub record PlacesFed (f : Framing) (w : List ℕ) (count : ℕ) (chunk buf : List ℕ) : Type 0 where
+  pub bytes : w ≡ joined f (take count w) chunk
+  pub inside : count ≤ length w
+  pub held : count ≤ limit f
   pub room : 256 ≤ length buf
 
 pub record HeldFed (r : Reader) (chunk : List ℕ) (buf : List ℕ) : Type 0 where
