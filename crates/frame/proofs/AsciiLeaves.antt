@@ -19,10 +19,6 @@ use Rattle.frame.specs.Judged.{decoded, digitRun, every, Digits}
 use Rattle.frame.proofs.Numbers.{both-true}
 use Rattle.frame.proofs.Lists.{drop-next, wrote-two, wrote-part}
 
--- A character below a range is not in it.
-pub below-range : (a b c : ℕ) → c < a → within a b c ≡ false
-below-range a b c h = rw (lt-leb a c h)
-
 -- A character above a range is not in it.
 pub above-range : (a b c : ℕ) → b < c → within a b c ≡ false
 above-range a b c h = rw (lt-leb c b h, and-false)

@@ -12,7 +12,7 @@ use lib.ListN.{length, take, drop, length-append, length-take}
 use lib.Seq.{paste, take-at, take-all, take-length, take-paste, length-take-le}
 use Rattle.frame.specs.Framing.{limit, inFront}
 use Rattle.frame.specs.Judged.{payloadAt}
-use Rattle.frame.specs.Reader.{Called, Values, newReader, Holds, feedValuesOf, valuesAt, refusalValues, bufferAt, quietRefusal, feedRefusal, Promise}
+use Rattle.frame.specs.Reader.{Called, Values, Holds, feedValuesOf, valuesAt, refusalValues, bufferAt, quietRefusal, feedRefusal, Promise}
 use Rattle.frame.specs.Scan.{Stop, found, undecided, passed, stopOf, judging, Scanned, scanFrom, calledAs, calledBy, scanChunk, joined}
 use Rattle.frame.specs.Scan.{scanHeld, beforeHeld, thenChunk, scanLine, Usable, Answerable, Tells, Keeps, Answered, QuietAnswered, PlacesFed}
 use Rattle.frame.specs.declared.framing.Framing.{Framing}
@@ -28,11 +28,7 @@ use Rattle.frame.proofs.Lists.{take-rest}
 use Rattle.frame.proofs.Framings.{limit-most}
 use Rattle.frame.proofs.Scanning.{Ends, scan-facts}
 
--- A new reader holds nothing.
-pub new-holds : (f : Framing) → Holds f [] (newReader f)
-new-holds f = record { framing = refl; count = refl; bytes = refl }
-
--- So does any state whose count is 0.
+-- A state whose count is 0 holds nothing.
 pub none-held : (r : Reader) → r .count ≡ 0 → Holds (r .framing) [] r
 none-held r e = record { framing = refl; count = e; bytes = ap (λ (n : ℕ). take n (r .held)) e }
 

@@ -6,7 +6,6 @@ use crate::refusal::Refusal;
 ghost use mathlib.Core.Path.{_≡_};
 ghost use Prim.Native.Nat.{_≤_};
 ghost use lib.ListN.{length};
-ghost use Rattle.frame.specs.Checks.{Payload};
 ghost use Rattle.frame.specs.Framing.{read, layout, inFront};
 ghost use Rattle.frame.specs.Judged.{verdictOf, payloadAt, Packed, frameLength};
 

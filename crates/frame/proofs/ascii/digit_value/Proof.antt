@@ -1,6 +1,5 @@
 -- `frame::ascii::digit_value` meets its contract by the law on the halves of a digit.
 -- Assumes nothing.
-use mathlib.Core.Path.{sym, _∙_}
 use borrow.Author.Needs.{needs}
 use native.Mathlib.Omega.{arith}
 use Rattle.frame.proofs.AsciiLeaves.{digit-halves, digit-small}

@@ -9,10 +9,6 @@ use Rattle.frame.specs.Judged.{decoded}
 use Rattle.frame.proofs.Lists.{paste-front}
 use Rattle.frame.proofs.framing.unpack.Statement.{statement}
 use Rattle.frame.proofs.framing.unpack.Tie as tie
-use Rattle.frame.proofs.framing.unpack.Reads as reads
-use Rattle.frame.proofs.framing.unpack.Lts as lts
-use Rattle.frame.proofs.ascii.decode.Reads as decode-reads
-use Rattle.frame.proofs.copy.put.Reads as put-reads
 
 -- src/framing.rt:45:38
 enum-told : tie.Need-enum-told

@@ -1,6 +1,6 @@
 -- `frame::reader::feed_places` meets its contract: a place among the held bytes gives the answer, or all of them fail and the chunk is fed.
 -- Assumes nothing.
-use Prim.Native.Nat.{ℕ, _-_, _≤_, zero-le}
+use Prim.Native.Nat.{ℕ, _-_, zero-le}
 use native.Mathlib.Nat.{le-refl}
 use native.Mathlib.Omega.{arith}
 use mathlib.Core.Bool.{false}
@@ -9,7 +9,7 @@ use mathlib.Core.Path.{_≡_, ap, subst}
 use borrow.Author.Needs.{needs}
 use lib.ListN.{length}
 use Rattle.frame.specs.Reader.{Called}
-use Rattle.frame.specs.Scan.{passed, scanned, stopOf, scanChunk, calledBy, Answered}
+use Rattle.frame.specs.Scan.{scanned, stopOf, scanChunk, calledBy, Answered}
 use Rattle.frame.specs.declared.scan.ScanEnd.the-variants.{Passed}
 use Rattle.frame.proofs.Framings.{limit-most}
 use Rattle.frame.proofs.Scanning.{ScanFacts, scan-facts}

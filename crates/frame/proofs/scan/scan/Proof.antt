@@ -2,15 +2,15 @@
 -- Assumes nothing.
 use Prim.Native.Nat.{ℕ, _+_, _-_, _≤_, max}
 use native.Mathlib.Omega.{arith}
-use mathlib.Core.Bool.{Bool, true, false}
+use mathlib.Core.Bool.{Bool, true}
 use mathlib.Core.Logic.{⊎-elim}
 use mathlib.Core.List.{List}
-use mathlib.Core.Path.{_≡_, refl, sym, ap, _∙_, subst}
+use mathlib.Core.Path.{_≡_, sym, ap, _∙_, subst}
 use native.Mathlib.Nat.{sub-zero}
 use borrow.Author.Needs.{needs}
 use borrow.Author.Tests.{not-true, not-false}
 use lib.ListN.{length, drop, length-drop}
-use Rattle.frame.specs.Checks.{Verdict, refused, frame}
+use Rattle.frame.specs.Checks.{Verdict}
 use Rattle.frame.specs.Framing.{read}
 use Rattle.frame.specs.Judged.{verdictOf, payloadAt}
 use Rattle.frame.specs.Scan.{judging, Scanned, found, scanFrom, judgedBytes, Skips}

@@ -1,6 +1,5 @@
 -- `frame::single::read_frame` meets its contract: each answer is one of the cases of its promise, by the verdict that `judge` gives.
 -- Assumes nothing.
-use native.Mathlib.Omega.{arith}
 use mathlib.Core.Path.{_≡_, ap, _∙_, subst, sym}
 use borrow.Author.Needs.{needs}
 use Rattle.frame.specs.Checks.{frame}

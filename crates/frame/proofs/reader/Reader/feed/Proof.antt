@@ -1,15 +1,13 @@
 -- `frame::reader::Reader::feed` meets its contract: the refusals in their order, and otherwise what the scan gives, which is the line call's.
 -- Assumes nothing.
-use Prim.Native.Nat.{ℕ, zero-le}
+use Prim.Native.Nat.{ℕ}
 use native.Mathlib.Omega.{arith}
-use mathlib.Core.List.{List, []}
-use mathlib.Core.Path.{_≡_, refl, sym, ap, _∙_, subst}
+use mathlib.Core.List.{List}
+use mathlib.Core.Path.{_≡_, refl, sym, ap, subst}
 use borrow.Author.Needs.{needs}
 use lib.ListN.{length, take}
-use Rattle.frame.specs.Framing.{limit}
 use Rattle.frame.specs.Reader.{Called, heldIn, line, Holds, feedRefusal, feedValuesOf, Feeds}
 use Rattle.frame.specs.Scan.{scanChunk, scanLine, scanFrom, Answered}
-use Rattle.frame.specs.declared.framing.Framing.{Framing}
 use Rattle.frame.specs.declared.reader.Reader.{Reader}
 use Rattle.frame.specs.declared.reader.Fed.{Fed}
 use Rattle.frame.proofs.Readers.{none-answers, kept-answers, refuses, answers, feed-state, feed-buffer, feed-chunk, feed-accepted}
