@@ -106,7 +106,7 @@ wrote-part s d k n i h l m =
     in
     rw (take-append-le k (take i s) (drop i d) (omega arith), take-take k i s h, take-take n n (drop k s) (le-refl n), ← take-add k n s, rest)
 
--- What passes the test at each place does so from a place on.
+-- One element more of a block is tested: what is found of it and those before with those behind it.
 pub every-next :
     (test : ℕ → Bool) (ok : Bool) (n i at : ℕ) (s : List ℕ) → i < n → at + n ≤ length s →
     (ok && test (getD s (at + i) 0)) && every test (take (n - (i + 1)) (drop (at + (i + 1)) s)) ≡ ok && every test (take (n - i) (drop (at + i) s))
