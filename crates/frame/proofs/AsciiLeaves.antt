@@ -4,13 +4,13 @@ use Prim.Native.Nat.{ℕ, zero, suc, _+_, _-_, _*_, _/_, _%_, _≤_, _<_}
 use native.Mathlib.Nat.{add-zero, mul-suc, div-add-mod', zero-add, sub-zero, suc-sub-suc}
 use native.Mathlib.Omega.{arith}
 use native.Mathlib.Numerals.{add-one, add-two}
-use mathlib.Core.Path.{_≡_, refl, sym, ap, _∙_}
+use mathlib.Core.Path.{_≡_, refl, sym, ap, ap₂, _∙_}
 use mathlib.Core.Bool.{Bool, true, false, cond, _&&_, _||_, and-false, false≢true}
 use mathlib.Core.List.{List, [], _∷_, _++_, append-assoc}
 use borrow.Author.Tests.{le-leb, lt-leb, leb-true, ltb-true, ltb-false}
 use lib.Arith.{digits-div, digits-mod}
 use lib.Dec.{leb, ltb}
-use lib.ListN.{length, getD, take, drop, set, length-append, length-take, length-drop}
+use lib.ListN.{length, getD, take, drop, set, length-append, length-take, length-drop, take-append-drop}
 use lib.Seq.{paste, getD-take, getD-drop, drop-drop, drop-nil, take-nil, take-suc, take-all, take-length}
 use Rattle.frame.specs.Checks.{Bytes}
 use Rattle.frame.specs.Ascii.{colon, carriageReturn, lineFeed, within, isDigit, digitValue, digitOf, hex, sum, checksumOf}
@@ -287,15 +287,30 @@ block-over s d b k i e h l m =
     let size : length b ≡ 16 = ap length e ∙ length-block s (2 * k) (omega arith) in
     rw (size, same) (wrote-part (decoded s) d k 16 i h l (omega (arith, length-decoded s)))
 
--- The sum of bytes and one more.
-sum-snoc : (p : List ℕ) (b : ℕ) → sum (p ++ (b ∷ [])) ≡ sum p + b
-sum-snoc [] b = omega arith
-sum-snoc (a ∷ p) b = omega (arith, sum-snoc p b)
+-- The sum of two lists in a row.
+sum-append : (s t : List ℕ) → sum (s ++ t) ≡ sum s + sum t
+sum-append [] t = omega arith
+sum-append (a ∷ s) t = omega (arith, sum-append s t)
+
+-- The sum of bytes is at most 255 for each.
+sum-most : (s : List ℕ) → Bytes s → sum s ≤ 255 * length s
+sum-most [] h = omega arith
+sum-most (a ∷ s) h = omega (arith, h .0, sum-most s (h .1))
+
+-- The sum of the bytes from i on is that of a block and that of those behind it, and the block's is at most 255 for each byte.
+pub sum-block : (s : List ℕ) (i : ℕ) → i + 32 ≤ length s
+    → (sum (decoded (take 32 (drop i s))) + sum (decoded (drop (i + 32) s)) ≡ sum (decoded (drop i s))) × (sum (decoded (take 32 (drop i s))) ≤ 4080)
+sum-block s i h =
+    let d : List ℕ = decoded (drop i s) in
+    let rest : decoded (drop (i + 32) s) ≡ drop 16 d = ap decoded (sym (drop-drop 32 i s)) ∙ decoded-drop 16 (drop i s) in (
+      ap₂ (λ (x y : List ℕ). sum x + sum y) (decoded-take 16 (drop i s)) rest ∙ sym (sum-append (take 16 d) (drop 16 d)) ∙ ap sum (take-append-drop 16 d),
+      omega (arith, sum-most (decoded (take 32 (drop i s))) (decoded-bytes (take 32 (drop i s))), length-block s i h),
+    )
 
 -- The sum of payload and checksum is 0 modulo 256.
 pub checksum-sum : (p : List ℕ) → sum (p ++ (checksumOf p ∷ [])) % 256 ≡ 0
-checksum-sum p = rw sum-snoc (omega arith)
+checksum-sum p = rw sum-append (omega arith)
 
 -- No other byte brings that sum to 0 modulo 256.
 pub checksum-only : (p : List ℕ) (b : ℕ) → b < 256 → sum (p ++ (b ∷ [])) % 256 ≡ 0 → b ≡ checksumOf p
-checksum-only p b h e = let z : (sum p + b) % 256 ≡ 0 = rw sum-snoc at e in omega arith
+checksum-only p b h e = let z : (sum p + sum (b ∷ [])) % 256 ≡ 0 = rw sum-append at e in omega arith

@@ -93,14 +93,42 @@ fn byte_at(s: &[u8], i: usize) -> u8
     digit_value(s[i]) * 16 + digit_value(s[i + 1])
 }
 
-// The sum of `count` bytes whose digits begin at `at`. Where it is called the count is a constant, so that this is made vector code.
-fn block_sum(s: &[u8], at: usize, count: usize) -> u32
-    requires { ⌜ (at + 2 * count ≤ length (now s)) × (count ≤ 16) × Digits (now s) ⌝ }
-    ensures { λ r. ⌜ (r + sum (decoded (drop (at + 2 * count) (now (s .entry)))) ≡ sum (decoded (drop at (now (s .entry))))) × (r ≤ 255 * count) ⌝ }
+// The 16 bytes whose digits begin at `at`, in an array of their own: that is made vector code, where stores into a slice are not.
+fn decode_block(s: &[u8], at: usize) -> [u8; 16]
+    requires { ⌜ (at + 32 ≤ length (now s)) × Digits (now s) ⌝ }
+    ensures { λ r. ⌜ r ≡ decoded (take 32 (drop at (now (s .entry)))) ⌝ }
+{
+    let mut block = [0u8; 16];
+    let mut i = 0;
+    while i < 16 {
+        block[i] = byte_at(s, at + 2 * i);
+        i += 1;
+    }
+    block
+}
+
+// The sum of the bytes.
+fn byte_sum(s: &[u8]) -> u32
+    requires { ⌜ length (now s) ≤ 256 ⌝ }
+    ensures { λ r. ⌜ r ≡ sum (now (s .entry)) ⌝ }
 {
     let mut sum: u32 = 0;
     let mut i = 0;
-    while i < count {
+    while i < s.len() {
+        sum = sum + s[i] as u32;
+        i += 1;
+    }
+    sum
+}
+
+// The sum of the 8 bytes whose digits begin at `at`, in a loop of fixed length: that is made vector code.
+fn block_sum(s: &[u8], at: usize) -> u32
+    requires { ⌜ (at + 16 ≤ length (now s)) × Digits (now s) ⌝ }
+    ensures { λ r. ⌜ (r + sum (decoded (drop (at + 16) (now (s .entry)))) ≡ sum (decoded (drop at (now (s .entry))))) × (r ≤ 2040) ⌝ }
+{
+    let mut sum: u32 = 0;
+    let mut i = 0;
+    while i < 8 {
         sum = sum + byte_at(s, at + 2 * i) as u32;
         i += 1;
     }
@@ -127,12 +155,13 @@ fn rest_sum(s: &[u8], from: usize) -> u32
     ensures { λ r. ⌜ (r ≡ sum (decoded (drop from (now (s .entry))))) × (r + 255 * from ≤ 255 * length (now (s .entry))) ⌝ }
 {
     if from + 16 <= s.len() {
-        return block_sum(s, from, 8) + tail_sum(s, from + 16);
+        return block_sum(s, from) + tail_sum(s, from + 16);
     }
     tail_sum(s, from)
 }
 
-// The sum of the bytes that the digits of s stand for: by blocks of 16 bytes, and then the rest.
+// The sum of the bytes that the digits of s stand for: by blocks of 16 bytes, and then the rest. A loop over sums of blocks would be made vector code
+// across the blocks, byte by byte, so each block is decoded first.
 fn pair_sum(s: &[u8]) -> u32
     requires { ⌜ (length (now s) ≤ 514) × Digits (now s) ⌝ }
     ensures { λ r. ⌜ r ≡ sum (decoded (now (s .entry))) ⌝ }
@@ -140,7 +169,8 @@ fn pair_sum(s: &[u8]) -> u32
     let mut sum: u32 = 0;
     let mut i = 0;
     while i + 32 <= s.len() {
-        sum = sum + block_sum(s, i, 16);
+        let block = decode_block(s, i);
+        sum = sum + byte_sum(&block);
         i += 32;
     }
     sum + rest_sum(s, i)
@@ -229,20 +259,6 @@ pub(crate) fn judge(s: &[u8]) -> Judged
     judge_digits(s, digit_run(&s[1..]))
 }
 
-// The 16 bytes whose digits begin at `at`, in an array of their own: that is made vector code, where stores into a slice are not.
-fn decode_block(s: &[u8], at: usize) -> [u8; 16]
-    requires { ⌜ (at + 32 ≤ length (now s)) × Digits (now s) ⌝ }
-    ensures { λ r. ⌜ r ≡ decoded (take 32 (drop at (now (s .entry)))) ⌝ }
-{
-    let mut block = [0u8; 16];
-    let mut i = 0;
-    while i < 16 {
-        block[i] = byte_at(s, at + 2 * i);
-        i += 1;
-    }
-    block
-}
-
 // Puts the bytes that the digits of src stand for into the front of dst, one by one.
 fn decode_bytes(src: &[u8], dst: &mut [u8])
     requires { ⌜ (length (now src) / 2 ≤ length (now dst)) × Digits (now src) ⌝ }
@@ -304,20 +320,6 @@ fn encode(dst: &mut [u8], at: usize, src: &[u8])
         put_hex(dst, at + 2 * i, src[i]);
         i += 1;
     }
-}
-
-// The sum of the bytes.
-fn byte_sum(s: &[u8]) -> u32
-    requires { ⌜ length (now s) ≤ 256 ⌝ }
-    ensures { λ r. ⌜ r ≡ sum (now (s .entry)) ⌝ }
-{
-    let mut sum: u32 = 0;
-    let mut i = 0;
-    while i < s.len() {
-        sum = sum + s[i] as u32;
-        i += 1;
-    }
-    sum
 }
 
 // Writes the frame with the payload p into the front of buf.

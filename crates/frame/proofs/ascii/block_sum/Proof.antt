@@ -1,5 +1,5 @@
 -- `frame::ascii::block_sum` meets its contract. The loop's invariant: what is summed so far with the sum of the bytes that the digits behind the
--- first i bytes stand for is the sum from `at` on, and at most 255 for each byte passed. The measure is what is left of the count.
+-- first i bytes stand for is the sum from `at` on, and at most 255 for each byte passed. The measure is what is left of 8.
 -- Assumes nothing.
 use Prim.Native.Nat.{_+_, _-_, _*_, _≤_}
 use mathlib.Core.Path.{_≡_, ap}
@@ -14,10 +14,10 @@ use Rattle.frame.proofs.ascii.block_sum.Statement.{statement}
 use Rattle.frame.proofs.ascii.block_sum.Tie as tie
 
 abbrev Inv-loop : tie.InvT-loop
-Inv-loop s at count n₀ i₀ n i = (i ≤ count) × (n ≤ 255 * i) × (n + sum (decoded (drop (at + 2 * i) s)) ≡ sum (decoded (drop at s)))
+Inv-loop s at n₀ i₀ n i = (i ≤ 8) × (n ≤ 255 * i) × (n + sum (decoded (drop (at + 2 * i) s)) ≡ sum (decoded (drop at s)))
 
 abbrev μ-loop : tie.MeasureT-loop
-μ-loop s at count n₀ i₀ n i = count - i
+μ-loop s at n₀ i₀ n i = 8 - i
 
 loop-holds : tie.Need-loop-holds Inv-loop μ-loop
 loop-holds c = (omega arith, omega arith, rw (add-zero (c .before .args .at)) (omega arith))
@@ -53,7 +53,8 @@ loop-again c =
 returns : tie.Need-returns Inv-loop μ-loop
 returns c =
     let l = c .before .loop in
-    let all : c .before .before .before .args .count ≡ l .i = omega arith in
+    let a = c .before .before .before .args in
+    let all : a .at + 16 ≡ a .at + 2 * l .i = omega arith in
     (rw all (l .inv .2), omega arith)
 
 pub block-sum-spec : {M : Type 1} → statement M
