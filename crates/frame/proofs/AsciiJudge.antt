@@ -13,7 +13,7 @@ use lib.ListN.{length, getD, take, drop, length-drop, length-map, take-append-dr
 use lib.Seq.{drop-drop, getD-drop, length-take-le, split-at, take-all, take-take}
 use Rattle.frame.specs.Checks.{Checks, fails, Verdict, cut, refused, frame, behind, run}
 use Rattle.frame.specs.Ascii.{colon, carriageReturn, lineFeed, digitValue, sum, digits, digitCount, lineEnd, afterDigits, ascii}
-use Rattle.frame.specs.Judged.{decoded, digitRun}
+use Rattle.frame.specs.Judged.{decoded, digitRun, Digits}
 use Rattle.frame.proofs.Numbers.{and-fails}
 use Rattle.frame.proofs.Lists.{drop-last-take}
 use Rattle.frame.proofs.Trees.{behind-behind, pass-byte, fail-byte, cut-byte}
@@ -66,6 +66,10 @@ module _ (s : List ℕ) (count : ℕ) (e : count ≡ digitRun 515 (drop 1 s)) wh
   -- The count of the digits behind the colon.
   line-counted : Counted 515 (drop 1 s) count
   line-counted = rw e (counted 515 (drop 1 s))
+
+  -- They are digits.
+  pub line-all-digits : Digits (take (1 + count - 1) (drop 1 s))
+  line-all-digits = rw (add-sub-cancel-left 1 count) (line-counted .digits)
 
   -- More than 514 digits.
   pub line-many : 514 < count → line s ≡ refused 516 3

@@ -9,20 +9,20 @@ use mathlib.Core.List.{List, [], _∷_, _++_, append-assoc, map, dropLast}
 use mathlib.Core.Bool.{Bool, true, false, cond}
 use borrow.Author.Tests.{le-leb, leb-true, eq-eqb, ne-eqb, eqb-true}
 use lib.Dec.{leb, eqb}
-use lib.ListN.{length, getD, take, length-append, length-map}
-use lib.Seq.{take-at}
+use lib.ListN.{length, getD, take, drop, length-append, length-map}
+use lib.Seq.{take-at, take-take}
 use Rattle.frame.specs.Checks.{Checks, fails, whole, Verdict, cut, refused, frame, behind, run, Bytes, Payload}
 use Rattle.frame.specs.Ascii.{colon, carriageReturn, lineFeed, isDigit, digitValue, hex, pairs, sum, checksumOf, asciiLayout}
 use Rattle.frame.specs.Ascii.{digits, digitCount, lineEnd, afterDigits, ascii}
-use Rattle.frame.specs.Judged.{decoded}
+use Rattle.frame.specs.Judged.{decoded, Digits}
 use Rattle.frame.specs.declared.framing.Framing.the-variants.{Ascii}
 use Rattle.frame.specs.Claims.{Spells}
 use Rattle.frame.proofs.Numbers.{both-true, and-true}
-use Rattle.frame.proofs.Lists.{bytes-left, bytes-right, bytes-append, drop-last-snoc, drop-last-of}
+use Rattle.frame.proofs.Lists.{bytes-left, bytes-right, bytes-append, drop-last-snoc, drop-last-of, drop-take}
 use Rattle.frame.proofs.Trees.{behind-behind, Within, within-byte, within-test, within-more, within-whole, run-byte, pass-test}
 use Rattle.frame.proofs.Trees.{fail-test, Behind, took-next, took-byte, took-test, took-whole, took-both, refused≢frame}
-use Rattle.frame.proofs.AsciiLeaves.{Digits, hex-digits, decoded-hex, hex-decoded, decoded-bytes, length-decoded, length-hex}
-use Rattle.frame.proofs.AsciiLeaves.{checksum-sum, checksum-only, length-ascii-layout}
+use Rattle.frame.proofs.AsciiLeaves.{hex-digits, decoded-hex, hex-decoded, decoded-bytes, length-decoded, length-hex}
+use Rattle.frame.proofs.AsciiLeaves.{checksum-sum, checksum-only, ascii-layout-is, length-ascii-layout}
 
 -- As many digits as a payload and its checksum have are at least four, and an even count.
 pub digit-count : (n : ℕ) → digitCount n ≡ true → (4 ≤ n) × (n % 2 ≡ 0)
@@ -237,7 +237,10 @@ ascii-one-spelling s p used e =
     let size : used ≡ length (asciiLayout p) = omega (arith, h .count, length-ascii-layout p) in
     record { bytes = ap (take used) same ∙ take-at (asciiLayout p) more used (sym size); count = size; payload = payload }
 
--- A frame begins with a colon.
-pub ascii-starts : (s p : List ℕ) (used : ℕ) → run ascii s ≡ frame used p → getD s 0 0 ≡ colon
-unfolding ascii
-ascii-starts s p used e = ap (λ (r : List ℕ). getD r 0 0) (took-byte colon 1 (digits 514 afterDigits) s p used e .split)
+-- The characters of a frame's payload.
+pub spelled-payload : (s p : List ℕ) (used : ℕ) → Spells Ascii s used p → take (2 * length p) (drop 1 s) ≡ hex p
+spelled-payload s p used h =
+    let size : used ≡ 2 * length p + 5 = h .count ∙ length-ascii-layout p in
+    sym (take-take (2 * length p) (used - 1) (drop 1 s) (omega arith))
+    ∙ ap (take (2 * length p)) (sym (drop-take 1 used s) ∙ ap (drop 1) (h .bytes ∙ ascii-layout-is p) ∙ append-assoc (hex p) _ _)
+    ∙ take-at (hex p) _ (2 * length p) (length-hex p)

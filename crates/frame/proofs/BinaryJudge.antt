@@ -5,14 +5,14 @@ use native.Mathlib.Nat.{add-assoc}
 use native.Mathlib.Numerals.{add-one}
 use native.Mathlib.Omega.{arith}
 use mathlib.Core.Logic.{_⊎_, inl, inr, ⊎-elim}
-use mathlib.Core.Path.{_≡_, refl, sym, ap, _∙_}
+use mathlib.Core.Path.{_≡_, sym, ap, _∙_}
 use mathlib.Core.List.{List}
 use mathlib.Core.Bool.{false}
 use borrow.Author.Tests.{lt-leb}
 use lib.Dec.{leb}
 use lib.ListN.{length, getD, take, drop, length-drop}
 use lib.Seq.{drop-drop}
-use Rattle.frame.specs.Checks.{Checks, fails, whole, byte, test, word, bytes, Verdict, cut, refused, frame, behind, run}
+use Rattle.frame.specs.Checks.{Checks, whole, byte, word, Verdict, cut, refused, frame, behind, run}
 use Rattle.frame.specs.Binary.{xorOf, footer, lengthWord, body, binary}
 use Rattle.frame.proofs.Numbers.{le-or-lt, and-fails}
 use Rattle.frame.proofs.Trees.{behind-behind, pass-byte, fail-byte, cut-byte, pass-word, cut-word, pass-test, fail-test, pass-bytes, cut-bytes}

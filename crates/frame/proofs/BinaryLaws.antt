@@ -1,18 +1,18 @@
 -- Laws of binary framing: its layout and its checks belong together, and how long a frame can be.
 -- Assumes nothing.
-use Prim.Native.Nat.{ℕ, zero, suc, _+_, _-_, _*_, _/_, _%_, _≤_, _<_}
+use Prim.Native.Nat.{ℕ, _+_, _-_, _*_, _/_, _%_, _≤_, _<_}
 use native.Mathlib.Nat.{div-add-mod', add-sub-cancel-left}
 use native.Mathlib.Omega.{arith}
-use mathlib.Core.Path.{_≡_, refl, sym, ap, ap₂, _∙_, subst}
+use mathlib.Core.Path.{_≡_, sym, ap, ap₂, _∙_, subst}
 use mathlib.Core.List.{List, [], _∷_, _++_, append-assoc}
-use mathlib.Core.Bool.{Bool, true, false}
+use mathlib.Core.Bool.{true}
 use borrow.Author.Tests.{le-leb, leb-true}
 use lib.Arith.{digits-div, digits-mod}
 use lib.Dec.{leb}
 use lib.ListN.{length, getD, take, drop, length-append, drop-of-length-le}
 use lib.Bits.{bitXor}
 use lib.Seq.{take-at}
-use Rattle.frame.specs.Checks.{Checks, whole, byte, test, word, bytes, Verdict, frame, behind, run, Bytes, Payload}
+use Rattle.frame.specs.Checks.{Checks, whole, byte, test, word, bytes, frame, behind, run, Bytes, Payload}
 use Rattle.frame.specs.Binary.{xorFrom, xorOf, bigEndian, binaryLayout, footer, lengthWord, body, binary}
 use Rattle.frame.specs.declared.framing.Framing.the-variants.{Binary}
 use Rattle.frame.specs.Claims.{Spells}

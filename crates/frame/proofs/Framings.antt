@@ -1,21 +1,22 @@
 -- Laws of both framings under one name.
 -- Assumes nothing.
-use Prim.Native.Nat.{ℕ, _+_, _-_, _*_, _/_, _≤_, min}
+use Prim.Native.Nat.{ℕ, _-_, _*_, _/_, _≤_, min}
 use native.Mathlib.Omega.{arith}
-use mathlib.Core.Path.{_≡_, ap, _∙_, subst}
+use mathlib.Core.Path.{_≡_, sym, ap, _∙_, subst}
 use mathlib.Core.List.{List}
 use lib.Dec.{lit≤}
 use lib.ListN.{length, take, drop, length-take, length-drop}
 use Rattle.frame.specs.Checks.{frame}
+use Rattle.frame.specs.Ascii.{hex}
 use Rattle.frame.specs.Framing.{checks, read, layout, limit}
 use Rattle.frame.specs.Claims.{UndecidedIsShort, FrameIsSized}
-use Rattle.frame.specs.Judged.{payloadAt, payloadEnd, frameLength, decoded}
+use Rattle.frame.specs.Judged.{payloadAt, payloadEnd, frameLength, decoded, Digits, Packed}
 use Rattle.frame.specs.declared.framing.Framing.{Framing}
 use Rattle.frame.specs.declared.framing.Framing.the-variants.{Binary, Ascii}
 use Rattle.frame.proofs.Trees.{Within, bounded, Bounded}
 use Rattle.frame.proofs.BinaryLaws.{binary-within, took-binary, length-binary}
-use Rattle.frame.proofs.AsciiLaws.{ascii-within, ascii-one-spelling}
-use Rattle.frame.proofs.AsciiLeaves.{length-decoded, length-ascii-layout}
+use Rattle.frame.proofs.AsciiLaws.{ascii-within, ascii-one-spelling, spelled-payload}
+use Rattle.frame.proofs.AsciiLeaves.{length-decoded, length-ascii-layout, hex-digits}
 
 -- The length of a layout.
 pub length-layout : (f : Framing) (p : List ℕ) → length (layout f p) ≡ frameLength f (length p)
@@ -77,6 +78,16 @@ payload-there Ascii s used len e =
     ∙ ap (λ (k : ℕ). k / 2) (length-take (2 * len) (drop 1 s) ∙ ap (min (2 * len)) (length-drop 1 s))
     in
     omega arith
+
+-- So it can be taken out.
+pub payload-packed : (f : Framing) (s : List ℕ) (used len : ℕ) → read f s ≡ frame used (payloadAt f s len) → Packed f s len
+payload-packed Binary s used len e = payload-there Binary s used len e .0
+payload-packed Ascii s used len e =
+    let p : List ℕ = decoded (take (2 * len) (drop 1 s)) in
+    let h = ascii-one-spelling s p used e in
+    let t = payload-there Ascii s used len e in
+    let same : take (2 * len) (drop 1 s) ≡ hex p = ap (λ (k : ℕ). take (2 * k) (drop 1 s)) (sym (t .1)) ∙ spelled-payload s p used h in
+    (t .0, subst Digits (sym same) (hex-digits p (h .payload .bytes)))
 
 -- A state's array has room for the longest frame.
 pub limit-most : (f : Framing) → limit f ≤ 517

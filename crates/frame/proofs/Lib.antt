@@ -23,6 +23,7 @@ pub mod Driving
 pub mod RecoveryExamples
 pub mod Prefixes
 pub mod Scanning
+pub mod Skipping
 pub mod Taking
 pub mod ScanCalls
 pub mod Readers

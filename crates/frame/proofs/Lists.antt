@@ -3,12 +3,14 @@
 use Prim.Native.Nat.{ℕ, zero, suc, _+_, _-_, _≤_, _<_, min}
 use mathlib.Core.Path.{_≡_, refl, sym, ap, _∙_}
 use mathlib.Core.List.{List, [], _∷_, _++_, dropLast}
-use native.Mathlib.Nat.{le-of-lt, zero-add, min-zero, suc-min-suc}
+use mathlib.Core.Bool.{Bool, _&&_, and-assoc}
+use native.Mathlib.Nat.{le-refl, le-of-lt, zero-add, sub-zero, zero-sub, suc-sub-suc, min-zero, suc-min-suc}
 use native.Mathlib.Numerals.{add-one, add-two}
 use native.Mathlib.Omega.{arith}
 use lib.ListN.{length, getD, take, drop, set, length-append, length-drop}
-use lib.Seq.{paste, take-nil, drop-cons, set-at, append-snoc, take-at, take-all, take-length, drop-append-add, drop-drop, take-suc, length-take-le}
+use lib.Seq.{paste, take-append-le, take-take, take-add, take-nil, drop-cons, set-at, append-snoc, take-at, take-all, take-length, drop-append-add, drop-drop, take-suc, length-take-le}
 use Rattle.frame.specs.Checks.{Bytes}
+use Rattle.frame.specs.Judged.{every}
 
 -- A store just behind what is written makes it one longer.
 pub wrote-one : (w d : List ℕ) (a k : ℕ) → length w ≡ k → k < length d → set (w ++ drop k d) k a ≡ (w ++ (a ∷ [])) ++ drop (suc k) d
@@ -80,3 +82,35 @@ take-least [] zero = refl
 take-least [] (suc k) = take-nil (min 0 (suc k))
 take-least (a ∷ s) zero = rw (min-zero (suc (length s)))
 take-least (a ∷ s) (suc k) = rw (suc-min-suc (length s) k) (ap (λ (l : List ℕ). a ∷ l) (take-least s k))
+
+-- The rest of a front.
+pub drop-take : (k m : ℕ) (s : List ℕ) → drop k (take m s) ≡ take (m - k) (drop k s)
+drop-take zero m s = rw sub-zero
+drop-take (suc k) zero s = rw zero-sub
+drop-take (suc k) (suc m) [] = sym (take-nil (suc m - suc k))
+drop-take (suc k) (suc m) (b ∷ s) = rw suc-sub-suc (drop-take k m s)
+
+-- A copy of n elements of s from k on, where d begins with the elements of s before i.
+pub wrote-part :
+    (s d : List ℕ) (k n i : ℕ) → k ≤ i → i ≤ k + n → k + n ≤ length s →
+    paste (take i s ++ drop i d) k (take n (drop k s)) n ≡ take (k + n) s ++ drop (k + n) d
+wrote-part s d k n i h l m =
+    let long : length (take i s) ≡ i = length-take-le i s (omega arith) in
+    let behind : k + n ≡ length (take i s) + (k + n - i) = omega arith in
+    let there : i + (k + n - i) ≡ k + n = omega arith in
+    let rest : drop (k + n) (take i s ++ drop i d) ≡ drop (k + n) d =
+    ap (λ (j : ℕ). drop j (take i s ++ drop i d)) behind
+    ∙ drop-append-add (take i s) (drop i d) (k + n - i)
+    ∙ drop-drop (k + n - i) i d
+    ∙ ap (λ (j : ℕ). drop j d) there
+    in
+    rw (take-append-le k (take i s) (drop i d) (omega arith), take-take k i s h, take-take n n (drop k s) (le-refl n), ← take-add k n s, rest)
+
+-- One element more of a block is tested: what is found of it and those before with those behind it.
+pub every-next :
+    (test : ℕ → Bool) (ok : Bool) (n i at : ℕ) (s : List ℕ) → i < n → at + n ≤ length s →
+    (ok && test (getD s (at + i) 0)) && every test (take (n - (i + 1)) (drop (at + (i + 1)) s)) ≡ ok && every test (take (n - i) (drop (at + i) s))
+every-next test ok n i at s h l =
+    let one : n - i ≡ suc (n - (i + 1)) = omega arith in
+    let next : at + i + 1 ≡ at + (i + 1) = omega arith in
+    rw (one, drop-next s (at + i) (omega arith), next) (and-assoc ok (test (getD s (at + i) 0)) _)

@@ -15,11 +15,6 @@ pub both-true : (a b : Bool) → a && b ≡ true → (a ≡ true) × (b ≡ true
 both-true true b e = (refl, e)
 both-true false b e = absurd (false≢true e)
 
--- The first or the second fails where their conjunction does.
-pub either-false : (a b : Bool) → a && b ≡ false → (a ≡ false) ⊎ (b ≡ false)
-either-false true b e = inr e
-either-false false b e = inl refl
-
 pub and-true : (a b : Bool) → a ≡ true → b ≡ true → a && b ≡ true
 and-true a b p q = ap (λ (x : Bool). x && b) p ∙ q
 

@@ -1,81 +1,101 @@
 -- The promises of the line reader's calls at each of their ways out.
 -- Assumes nothing.
-use Prim.Native.Nat.{ℕ, _+_, _-_, _≤_, _<_}
+use Prim.Native.Nat.{ℕ, _+_, _-_, _≤_, _<_, min}
+use native.Mathlib.Nat.{le-refl}
 use native.Mathlib.Omega.{arith}
-use mathlib.Core.Path.{_≡_, refl, sym, ap, _∙_, subst}
-use mathlib.Core.List.{List, []}
-use mathlib.Core.Bool.{Bool, true, false, cond, true≢false}
+use mathlib.Core.Path.{_≡_, refl, sym, ap, ap₂, _∙_, subst}
+use mathlib.Core.List.{List, [], _++_}
+use mathlib.Core.Bool.{true, false, true≢false}
 use borrow.Author.Tests.{le-leb, lt-leb}
-use lib.Dec.{leb, eqb}
-use lib.ListN.{length, take, drop}
+use lib.Dec.{eqb}
+use lib.ListN.{length, take, drop, length-append, length-take}
+use lib.Seq.{paste, take-at, take-all, take-length, take-paste, length-take-le}
 use Rattle.frame.specs.Framing.{limit, inFront}
 use Rattle.frame.specs.Judged.{payloadAt}
-use Rattle.frame.specs.Reader.{Called, Values, newReader, Holds, AfterQuiet, valuesAt, refusalValues, bufferAt, quietRefusal, feedRefusal, Promise}
+use Rattle.frame.specs.Reader.{Called, Values, Holds, feedValuesOf, valuesAt, refusalValues, bufferAt, quietRefusal, feedRefusal, Promise}
 use Rattle.frame.specs.Scan.{Stop, found, undecided, passed, stopOf, judging, Scanned, scanFrom, calledAs, calledBy, scanChunk, joined}
-use Rattle.frame.specs.Scan.{scanHeld, beforeHeld, thenChunk, scanLine, Usable, Answerable, Answered, QuietAnswered}
+use Rattle.frame.specs.Scan.{scanHeld, beforeHeld, thenChunk, scanLine, Usable, Answerable, Tells, Keeps, Answered, QuietAnswered, PlacesFed}
 use Rattle.frame.specs.declared.framing.Framing.{Framing}
 use Rattle.frame.specs.declared.reader.Reader.{Reader}
 use Rattle.frame.specs.declared.reader.Before.{Before}
+use Rattle.frame.specs.declared.reader.Told.{Told}
 use Rattle.frame.specs.declared.reader.Fed.{Fed}
 use Rattle.frame.specs.declared.reader.Quieted.{Quieted}
 use Rattle.frame.specs.declared.reader.FeedAnswer.the-variants.{Frame as FeedFrame, NeedsMore}
 use Rattle.frame.specs.declared.scan.ScanEnd.{ScanEnd}
 use Rattle.frame.specs.declared.scan.ScanEnd.the-variants.{Frame, Undecided, Passed}
+use Rattle.frame.proofs.Lists.{take-rest}
 use Rattle.frame.proofs.Framings.{limit-most}
 use Rattle.frame.proofs.Scanning.{Ends, scan-facts}
 
--- A new reader holds nothing.
-pub new-holds : (f : Framing) → Holds f [] (newReader f)
-new-holds f = record { framing = refl; count = refl; bytes = refl }
+-- A state whose count is 0 holds nothing.
+pub none-held : (r : Reader) → r .count ≡ 0 → Holds (r .framing) [] r
+none-held r e = record { framing = refl; count = e; bytes = ap (λ (n : ℕ). take n (r .held)) e }
 
 module _ (f : Framing) (w : List ℕ) (before : Before) (place reach : ℕ) (end : ScanEnd) (buf : List ℕ) where
-  -- The answer to a scan that stopped so.
-  abbrev Right : Fed → List ℕ → Type 0
-  Right fed buf′ = Answered f (calledAs (stopOf f (drop place w) end) before w place reach) buf fed buf′
+  -- What is told of a scan that stopped so.
+  abbrev Right : ScanEnd → Told → List ℕ → Type 0
+  Right x told buf′ = Tells (calledAs (stopOf f (drop place w) x) before w place reach) w buf told buf′
 
   -- It stopped at a frame.
-  pub answered-frame :
-      (used len : ℕ) (r : Reader) (buf′ : List ℕ) → end ≡ Frame used len → length (payloadAt f (drop place w) len) ≡ len →
-      Holds f (take (reach - (place + used)) (drop (place + used) w)) r → buf′ ≡ inFront (payloadAt f (drop place w) len) buf →
-      Right (record { reader = r; answer = FeedFrame (reach - before .base) (before .noise + place) len }) buf′
-  answered-frame used len r buf′ e l h b =
+  pub tells-frame :
+      (used len : ℕ) (buf′ : List ℕ) → end ≡ Frame used len → length (payloadAt f (drop place w) len) ≡ len →
+      place + used ≤ reach → reach ≤ length w → reach ≤ place + 517 → buf′ ≡ inFront (payloadAt f (drop place w) len) buf →
+      Right end (record { answer = FeedFrame (reach - before .base) (before .noise + place) len; from = place + used; end = reach }) buf′
+  tells-frame used len buf′ e l h k m is =
       subst
       (λ (x : ScanEnd).
-      Answered f (calledAs (stopOf f (drop place w) x) before w place reach) buf
-      (record { reader = r; answer = FeedFrame (reach - before .base) (before .noise + place) len }) buf′)
+      Right x (record { answer = FeedFrame (reach - before .base) (before .noise + place) len; from = place + used; end = reach }) buf′)
       (sym e)
       (record {
         values =
             ap
             (λ (n : ℕ). record { number = 0; taken = reach - before .base; noise = before .noise + place; len = n; isFrame = true })
             (sym l);
-        state = h;
-        buffer = b;
+        held = refl;
+        inside = h;
+        there = k;
+        most = omega arith;
+        buffer = is;
       })
 
   -- It stopped at undecided bytes.
-  pub answered-undecided :
-      (r : Reader) → end ≡ Undecided → Holds f (drop place w) r →
-      Right (record { reader = r; answer = NeedsMore (before .size) (before .noise + place) }) buf
-  answered-undecided r e h =
+  pub tells-undecided :
+      end ≡ Undecided → place ≤ length w → length w ≤ place + 517 →
+      Right end (record { answer = NeedsMore (before .size) (before .noise + place); from = place; end = length w }) buf
+  tells-undecided e h m =
       subst
-      (λ (x : ScanEnd).
-      Answered f (calledAs (stopOf f (drop place w) x) before w place reach) buf
-      (record { reader = r; answer = NeedsMore (before .size) (before .noise + place) }) buf)
+      (λ (x : ScanEnd). Right x (record { answer = NeedsMore (before .size) (before .noise + place); from = place; end = length w }) buf)
       (sym e)
-      (record { values = refl; state = h; buffer = refl })
+      (record { values = refl; held = take-rest w place; inside = h; there = omega arith; most = m; buffer = refl })
 
   -- It passed every place.
-  pub answered-passed :
-      (r : Reader) → end ≡ Passed → r ≡ newReader f →
-      Right (record { reader = r; answer = NeedsMore (before .size) (before .noise + place) }) buf
-  answered-passed r e h =
+  pub tells-passed : end ≡ Passed → Right end (record { answer = NeedsMore (before .size) (before .noise + place); from = 0; end = 0 }) buf
+  tells-passed e =
       subst
-      (λ (x : ScanEnd).
-      Answered f (calledAs (stopOf f (drop place w) x) before w place reach) buf
-      (record { reader = r; answer = NeedsMore (before .size) (before .noise + place) }) buf)
+      (λ (x : ScanEnd). Right x (record { answer = NeedsMore (before .size) (before .noise + place); from = 0; end = 0 }) buf)
       (sym e)
-      (record { values = refl; state = subst (Holds f []) (sym h) (new-holds f); buffer = refl })
+      (record { values = refl; held = refl; inside = omega arith; there = omega arith; most = omega arith; buffer = refl })
+
+module _ (c : Called) (w buf : List ℕ) (told : Told) (buf′ : List ℕ) (h : Tells c w buf told buf′) where
+  -- With the state that holds the told part, it is the answer.
+  pub kept-answers : (f : Framing) (fed : Fed) → Keeps f w told fed → Answered f c buf fed buf′
+  kept-answers f fed k =
+      record {
+        values = ap feedValuesOf (k .answer) ∙ h .values;
+        state = subst (λ (l : List ℕ). Holds f l (fed .reader)) (h .held) (k .state);
+        buffer = h .buffer;
+      }
+
+  -- So it is with the state as it was, where that holds nothing and the told part is empty.
+  pub none-answers : (r : Reader) → r .count ≡ 0 → told .from ≡ told .end → Answered (r .framing) c buf (record { reader = r; answer = told .answer }) buf′
+  none-answers r z e =
+      let none : told .end - told .from ≡ 0 = omega arith in
+      record {
+        values = h .values;
+        state = subst (λ (l : List ℕ). Holds (r .framing) l r) (sym (ap (λ (n : ℕ). take n (drop (told .from) w)) none) ∙ h .held) (none-held r z);
+        buffer = h .buffer;
+      }
 
 -- An answer can be made of a scan's result.
 usable :
@@ -124,6 +144,55 @@ unfolding scanLine
 held-found f held chunk x is n =
     ap (λ (y : Scanned). thenChunk (y .stop) f held chunk (y .place) (y .reach)) (sym is)
     ∙ then-held (x .stop) f held chunk (x .place) (x .reach) n
+
+-- The first `count` bytes of w are held, and the others are the chunk's, as many as can belong to a frame that begins in them; x is the result of
+-- the scan of their places.
+module _ (f : Framing) (w chunk : List ℕ) (count : ℕ) (h : w ≡ joined f (take count w) chunk) (l : count ≤ length w) where
+  places-count : length (take count w) ≡ count
+  places-count = length-take-le count w l
+
+  pub places-long : length w ≡ count + min (limit f) (length chunk)
+  places-long =
+      ap length h ∙ length-append (take count w) (take (limit f) chunk)
+      ∙ ap₂ (λ (m n : ℕ). m + n) places-count (length-take (limit f) chunk)
+
+  module _ (x : Scanned) (is : x ≡ scanFrom (judging false f) count 0 count w) where
+    places-scan : x ≡ scanHeld f (take count w) chunk
+    places-scan = is ∙ ap₂ (λ (n : ℕ) (s : List ℕ). scanFrom (judging false f) n 0 n s) (sym places-count) h
+
+    -- All of them fail.
+    pub places-passed : x .stop ≡ passed → scanChunk f count (x .reach - count) chunk ≡ scanLine f (take count w) chunk
+    places-passed e =
+        ap (λ (n : ℕ). scanChunk f n (x .reach - n) chunk) (sym places-count) ∙ sym (held-passed f (take count w) chunk x places-scan e)
+
+    -- One does not.
+    pub places-found :
+        (x .stop ≡ passed → ⊥) → calledBy (record { base = count; noise = 0; size = length chunk }) w x ≡ scanLine f (take count w) chunk
+    places-found n =
+        ap₂ (λ (k : ℕ) (s : List ℕ). calledBy (record { base = k; noise = 0; size = length chunk }) s x) (sym places-count) h
+        ∙ sym (held-found f (take count w) chunk x places-scan n)
+
+-- Such bytes, by the held ones.
+module _ (f : Framing) (held chunk w : List ℕ) (count : ℕ) (e : w ≡ joined f held chunk) (l : length held ≡ count) where
+  pub places-held : take count w ≡ held
+  places-held = ap (take count) e ∙ take-at held (take (limit f) chunk) count l
+
+  pub places-fed : (buf : List ℕ) → count ≤ limit f → 256 ≤ length buf → PlacesFed f w count chunk buf
+  places-fed buf m r =
+      record {
+        bytes = e ∙ ap (λ (s : List ℕ). joined f s chunk) (sym places-held);
+        inside = omega (arith, ap length e ∙ length-append held (take (limit f) chunk));
+        held = m;
+        room = r;
+      }
+
+-- A chunk that was put behind held bytes.
+pub appended :
+    (f : Framing) (d chunk : List ℕ) (count : ℕ) → count ≤ length d → length chunk ≤ limit f →
+    take (count + length chunk) (paste d count chunk (length chunk)) ≡ joined f (take count d) chunk
+appended f d chunk count h l =
+    take-paste d count chunk (length chunk) h (le-refl (length chunk))
+    ∙ ap (λ (s : List ℕ). take count d ++ s) (take-length chunk ∙ sym (take-all (limit f) chunk l))
 
 -- A scan that passed says so.
 pub passed-end : (f : Framing) (s : List ℕ) (end : ScanEnd) → stopOf f s end ≡ passed → end ≡ Passed

@@ -17,10 +17,10 @@ use Rattle.frame.specs.Scan.{judging, judgedBytes, Stop, found, undecide
 use Rattle.frame.specs.Scan.{calledAs, scanChunk, joined, thenChunk, scanHeld, scanLine}
 use Rattle.frame.specs.declared.framing.Framing.{Framing}
 use Rattle.frame.specs.declared.reader.Before.{Before}
-use Rattle.frame.proofs.Lists.{drop-next}
+use Rattle.frame.proofs.Lists.{drop-next, drop-take}
 use Rattle.frame.proofs.Framings.{undecided-short}
 use Rattle.frame.proofs.Prefixes.{refused-sized, limit-enough}
-use Rattle.frame.proofs.Taking.{more, noisier, drop-take, lineAt, line-cut, line-decided, line-found, line-failed}
+use Rattle.frame.proofs.Taking.{more, noisier, lineAt, line-cut, line-decided, line-found, line-failed}
 use Rattle.frame.proofs.Scanning.{AtUndecided, ScanFacts, scan-facts, scan-passed}
 use Rattle.frame.proofs.Scanning.{step-refused, step-frame, step-undecided, step-ended, step-end}
 

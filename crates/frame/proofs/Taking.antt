@@ -1,13 +1,13 @@
 -- How a line call takes bytes, by what the checks say of all bytes that it may take.
 -- Assumes nothing.
 use Prim.Native.Nat.{ℕ, zero, suc, _+_, _-_, _≤_, _<_, max, zero-le}
-use native.Mathlib.Nat.{add-zero, zero-add, add-assoc, sub-zero, zero-sub, suc-sub-suc, not-suc-le-zero, le-refl, le-trans}
+use native.Mathlib.Nat.{add-zero, zero-add, add-assoc, not-suc-le-zero, le-refl, le-trans}
 use native.Mathlib.Numerals.{one-add}
 use native.Mathlib.Omega.{arith}
 use mathlib.Core.Path.{_≡_, refl, sym, ap, ap₂, _∙_}
 use mathlib.Core.List.{List, [], _∷_, _++_}
 use lib.ListN.{length, getD, take, drop, length-append}
-use lib.Seq.{drop-cons, drop-length, take-suc, take-nil, take-length, take-append-seam, drop-append-seam}
+use lib.Seq.{drop-cons, drop-length, take-suc, take-length, take-append-seam, drop-append-seam}
 use Rattle.frame.specs.Checks.{Verdict, cut, refused, frame}
 use Rattle.frame.specs.Framing.{checks, read}
 use Rattle.frame.specs.Rule.{nothing, noiseByte, handed, join}
@@ -15,6 +15,7 @@ use Rattle.frame.specs.Reader.{Settled, settleAs, settle, Called, stoppe
 use Rattle.frame.specs.Recovery.{HeldIsHeard}
 use Rattle.frame.specs.Scan.{judgedBytes}
 use Rattle.frame.specs.declared.framing.Framing.{Framing}
+use Rattle.frame.proofs.Lists.{drop-take}
 use Rattle.frame.proofs.Framings.{frame-sized}
 use Rattle.frame.proofs.Rules.{join-nothing}
 use Rattle.frame.proofs.Prefixes.{enough, too-few, front-undecided, judged-there, refused-sized}
@@ -26,13 +27,6 @@ more d c = record { taken = d + c .taken; out = c .out; held = c .held }
 -- A call with k bytes of noise more.
 abbrev pub noisier : ℕ → Called → Called
 noisier k c = record { taken = c .taken; out = record { frames = c .out .frames; noise = k + c .out .noise }; held = c .held }
-
--- The rest of a front.
-pub drop-take : (k m : ℕ) (s : List ℕ) → drop k (take m s) ≡ take (m - k) (drop k s)
-drop-take zero m s = rw sub-zero
-drop-take (suc k) zero s = rw zero-sub
-drop-take (suc k) (suc m) [] = sym (take-nil (suc m - suc k))
-drop-take (suc k) (suc m) (b ∷ s) = rw suc-sub-suc (drop-take k m s)
 
 -- Noise that came out before a byte was taken does not change the call.
 noise-more :

@@ -1,8 +1,9 @@
 -- What the functions behind the public calls answer. Only their contracts cite these definitions.
-use Prim.Native.Nat.{ℕ, zero, suc, _+_, _*_}
+use Prim.Native.Nat.{ℕ, zero, suc, _+_, _*_, _≤_}
 use mathlib.Core.List.{List, [], _∷_, map}
-use mathlib.Core.Bool.{cond}
-use lib.ListN.{take, drop}
+use mathlib.Core.Path.{_≡_}
+use mathlib.Core.Bool.{Bool, true, cond, _&&_}
+use lib.ListN.{length, take, drop}
 use Rattle.frame.specs.Checks.{Verdict, cut, refused, frame}
 use Rattle.frame.specs.Ascii.{isDigit, digitValue, pairs}
 use Rattle.frame.specs.Refusal.{numberOf}
@@ -15,6 +16,16 @@ use Rattle.frame.specs.declared.framing.Judged.the-variants.{Undecided, 
 abbrev pub decoded : List ℕ → List ℕ
 decoded s = pairs (map digitValue s)
 
+-- Every element passes the test.
+abbrev pub every : (ℕ → Bool) → List ℕ → Bool
+every test [] = true
+every test (c ∷ s) = test c && every test s
+
+-- Every character is a digit.
+abbrev pub Digits : List ℕ → Type 0
+Digits [] = Unit {0}
+Digits (c ∷ s) = (isDigit c ≡ true) × Digits s
+
 -- The payload of n bytes of the frame at the front of s.
 abbrev pub payloadAt : Framing → List ℕ → ℕ → List ℕ
 payloadAt Binary s n = take n (drop 4 s)
@@ -24,6 +35,11 @@ payloadAt Ascii s n = decoded (take (2 * n) (drop 1 s))
 abbrev pub payloadEnd : Framing → ℕ → ℕ
 payloadEnd Binary n = 4 + n
 payloadEnd Ascii n = 1 + 2 * n
+
+-- A payload of n bytes can be taken out of s: it is there, and in digits where they are decoded.
+abbrev pub Packed : Framing → List ℕ → ℕ → Type 0
+Packed Binary s n = payloadEnd Binary n ≤ length s
+Packed Ascii s n = (payloadEnd Ascii n ≤ length s) × Digits (take (2 * n) (drop 1 s))
 
 -- The length of a frame with a payload of n bytes.
 abbrev pub frameLength : Framing → ℕ → ℕ

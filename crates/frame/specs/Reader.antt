@@ -1,5 +1,5 @@
 -- The line reader's calls. Document 01, "The leftmost rule and the line reader" and "Refusal numbers".
-use Prim.Native.Nat.{ℕ, zero, suc, _+_}
+use Prim.Native.Nat.{ℕ, suc}
 use mathlib.Core.Path.{_≡_}
 use mathlib.Core.List.{List, [], _∷_, _++_}
 use mathlib.Core.Bool.{Bool, true, false, cond}

@@ -3,14 +3,16 @@
 use Prim.Native.Nat.{ℕ, zero, suc, _+_, _-_, _≤_, max}
 use mathlib.Core.Path.{_≡_}
 use mathlib.Core.List.{List, [], _∷_, _++_}
-use mathlib.Core.Bool.{Bool, true, false}
+use mathlib.Core.Bool.{Bool, true, false, not}
+use lib.Dec.{eqb}
 use lib.ListN.{length, take, drop}
 use Rattle.frame.specs.Checks.{Verdict, cut, refused, frame}
 use Rattle.frame.specs.Framing.{read, limit}
-use Rattle.frame.specs.Judged.{payloadAt}
-use Rattle.frame.specs.Rule.{Output}
+use Rattle.frame.specs.Ascii.{colon}
+use Rattle.frame.specs.Judged.{payloadAt, every}
 use Rattle.frame.specs.Reader.{Called, ended, Holds, AfterQuiet, feedValuesOf, quietValuesOf, valuesAt, bufferAt}
 use Rattle.frame.specs.declared.framing.Framing.{Framing}
+use Rattle.frame.specs.declared.framing.Framing.the-variants.{Binary, Ascii}
 use Rattle.frame.specs.declared.scan.ScanResult.{ScanResult}
 use Rattle.frame.specs.declared.scan.ScanEnd.{ScanEnd}
 use Rattle.frame.specs.declared.scan.ScanEnd.the-variants.{Frame, Undecided, Passed}
@@ -19,6 +21,7 @@ use Rattle.frame.specs.declared.reader.Fed.{Fed}
 use Rattle.frame.specs.declared.reader.Quieted.{Quieted}
 use Rattle.frame.specs.declared.reader.Joined.{Joined}
 use Rattle.frame.specs.declared.reader.Before.{Before}
+use Rattle.frame.specs.declared.reader.Told.{Told}
 
 -- The judge of a segment that goes on, or has ended.
 abbrev pub judging : Bool → Framing → List ℕ → Verdict
@@ -55,6 +58,21 @@ scanFrom judge zero place reach s = record { place = place; reach = reach; stop 
 scanFrom judge (suc n) place reach s =
     let later : Scanned = scanFrom judge n (suc place) (max reach (place + judgedBytes (judge s))) (drop 1 s) in
     scanAs (judge s) place reach later
+
+-- The first byte of every frame.
+abbrev pub startOf : Framing → ℕ
+startOf Binary = 0xA5
+startOf Ascii = colon
+
+-- c is another byte than b.
+abbrev pub other : ℕ → ℕ → Bool
+other b c = not (eqb c b)
+
+-- The bytes of s from one place to another, which is no further than `stop`, are all others than b.
+pub record Skips (b : ℕ) (s : List ℕ) (from stop to : ℕ) : Type 0 where
+  pub onward : from ≤ to
+  pub inside : to ≤ stop
+  pub others : every (other b) (take (to - from) (drop from s)) ≡ true
 
 -- The result that an answer of `scan` stands for.
 abbrev pub stopOf : Framing → List ℕ → ScanEnd → Stop
@@ -113,7 +131,21 @@ pub record Answered (f : Framing) (c : Called) (buf : List ℕ) (fed : Fed) (buf
   pub state : Holds f (c .held) (fed .reader)
   pub buffer : buf′ ≡ bufferAt (c .out .frames) buf
 
--- After a quiet: the same, with the state that follows.
+-- A function behind it tells what c gives, where the bytes held afterwards are a part of w.
+pub record Tells (c : Called) (w buf : List ℕ) (told : Told) (buf′ : List ℕ) : Type 0 where
+  pub values : feedValuesOf (told .answer) ≡ valuesAt c
+  pub held : take (told .end - told .from) (drop (told .from) w) ≡ c .held
+  pub inside : told .from ≤ told .end
+  pub there : told .end ≤ length w
+  pub most : told .end ≤ told .from + 517
+  pub buffer : buf′ ≡ bufferAt (c .out .frames) buf
+
+-- The answer that was told, with a state that holds that part of w.
+pub record Keeps (f : Framing) (w : List ℕ) (told : Told) (fed : Fed) : Type 0 where
+  pub answer : fed .answer ≡ told .answer
+  pub state : Holds f (take (told .end - told .from) (drop (told .from) w)) (fed .reader)
+
+-- After a quiet: the same as `Answered`, with the state that follows.
 pub record QuietAnswered (f : Framing) (c : Called) (buf : List ℕ) (q : Quieted) (buf′ : List ℕ) : Type 0 where
   pub values : quietValuesOf (q .answer) ≡ valuesAt c
   pub state : AfterQuiet f c (c .out .frames) (q .reader)
@@ -138,11 +170,17 @@ pub record Answerable (f : Framing) (w : List ℕ) (r : Scanned) (before : Befor
   pub small : before .noise ≤ 517
   pub room : 256 ≤ length buf
 
--- What `feed_chunk` and `feed_held` are called with.
+-- What `feed_chunk`, `feed_places` and `feed_held` are called with.
 pub record ChunkFed (f : Framing) (chunk : List ℕ) (reach noise : ℕ) (buf : List ℕ) : Type 0 where
   pub reached : reach ≤ length chunk
   pub before : reach ≤ limit f
   pub noise-small : noise ≤ 517
+  pub room : 256 ≤ length buf
+
+pub record PlacesFed (f : Framing) (w : List ℕ) (count : ℕ) (chunk buf : List ℕ) : Type 0 where
+  pub bytes : w ≡ joined f (take count w) chunk
+  pub inside : count ≤ length w
+  pub held : count ≤ limit f
   pub room : 256 ≤ length buf
 
 pub record HeldFed (r : Reader) (chunk : List ℕ) (buf : List ℕ) : Type 0 where

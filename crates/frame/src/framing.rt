@@ -6,9 +6,8 @@ use crate::refusal::Refusal;
 ghost use mathlib.Core.Path.{_≡_};
 ghost use Prim.Native.Nat.{_≤_};
 ghost use lib.ListN.{length};
-ghost use Rattle.frame.specs.Checks.{Payload};
 ghost use Rattle.frame.specs.Framing.{read, layout, inFront};
-ghost use Rattle.frame.specs.Judged.{verdictOf, payloadAt, payloadEnd, frameLength};
+ghost use Rattle.frame.specs.Judged.{verdictOf, payloadAt, Packed, frameLength};
 
 // How frames are laid out on the line.
 pub enum Framing {
@@ -39,7 +38,7 @@ pub(crate) fn judge(framing: Framing, s: &[u8]) -> Judged
 
 // Puts the payload of `len` bytes of the frame at the front of s into the front of buf.
 pub(crate) fn unpack(framing: Framing, s: &[u8], len: usize, buf: &mut [u8])
-    requires { ⌜ (payloadEnd framing len ≤ length (now s)) × (len ≤ length (now buf)) ⌝ }
+    requires { ⌜ Packed framing (now s) len × (len ≤ length (now buf)) ⌝ }
     ensures { λ _. ⌜ now (buf .exit) ≡ inFront (payloadAt framing (now (s .entry)) len) (now (buf .entry)) ⌝ }
 {
     match framing {

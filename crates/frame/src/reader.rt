@@ -8,12 +8,13 @@ use crate::scan::ScanResult;
 use crate::scan::scan;
 use crate::scan::smaller;
 ghost use mathlib.Core.Path.{_≡_};
-ghost use Prim.Native.Nat.{_≤_};
-ghost use lib.ListN.{length};
+ghost use Prim.Native.Nat.{_+_, _≤_};
+ghost use lib.ListN.{length, take};
 ghost use Rattle.frame.specs.Framing.{limit, inFront};
-ghost use Rattle.frame.specs.Judged.{payloadAt, payloadEnd};
+ghost use Rattle.frame.specs.Judged.{payloadAt, Packed};
 ghost use Rattle.frame.specs.Reader.{newReader, heldIn, quiet, Holds, Feeds, Quiets};
-ghost use Rattle.frame.specs.Scan.{scanned, calledBy, scanChunk, scanLine, Joins, Answerable, ChunkFed, HeldFed, Answered, QuietAnswered};
+ghost use Rattle.frame.specs.Scan.{scanned, calledBy, scanChunk, scanLine, Joins, Answerable, ChunkFed, HeldFed, Tells, Keeps, Answered, QuietAnswered};
+ghost use Rattle.frame.specs.Scan.{PlacesFed};
 
 // A reader's state, by value: its framing and the bytes that it holds, the first `count` of `held`.
 pub struct Reader {
@@ -63,6 +64,13 @@ struct Joined {
     size: usize,
 }
 
+// What a call over a slice answers, and the part of the slice that is held after it.
+struct Told {
+    answer: FeedAnswer,
+    from: usize,
+    end: usize,
+}
+
 // What was there before a scan: held bytes in front of the chunk, noise bytes settled, and the chunk's length.
 struct Before {
     base: usize,
@@ -97,7 +105,7 @@ fn hold(framing: Framing, s: &[u8]) -> Reader
 
 // Puts the payload of the frame at the front of s into the front of buf, and gives a state that holds the bytes of rest.
 fn hand_out(framing: Framing, s: &[u8], len: usize, rest: &[u8], buf: &mut [u8]) -> Reader
-    requires { ⌜ (payloadEnd framing len ≤ length (now s)) × (len ≤ length (now buf)) × (length (now rest) ≤ 517) ⌝ }
+    requires { ⌜ Packed framing (now s) len × (len ≤ length (now buf)) × (length (now rest) ≤ 517) ⌝ }
     ensures { λ r. ⌜ (Holds framing (now (rest .entry)) r) × (now (buf .exit) ≡ inFront (payloadAt framing (now (s .entry)) len) (now (buf .entry))) ⌝ }
 {
     unpack(framing, s, len, buf);
@@ -121,10 +129,10 @@ fn join(reader: Reader, chunk: &[u8]) -> Joined
     Joined { bytes, size }
 }
 
-// The answer to a scan of w, and the state that follows.
-fn answer(framing: Framing, w: &[u8], found: ScanResult, before: Before, buf: &mut [u8]) -> Fed
+// The answer to a scan of w.
+fn answer(framing: Framing, w: &[u8], found: ScanResult, before: Before, buf: &mut [u8]) -> Told
     requires { ⌜ Answerable framing (now w) (scanned framing (now w) found) before (now buf) ⌝ }
-    ensures { λ r. ⌜ Answered framing (calledBy before (now (w .entry)) (scanned framing (now (w .entry)) found)) (now (buf .entry)) r (now (buf .exit)) ⌝ }
+    ensures { λ r. ⌜ Tells (calledBy before (now (w .entry)) (scanned framing (now (w .entry)) found)) (now (w .entry)) (now (buf .entry)) r (now (buf .exit)) ⌝ }
 {
     let place = found.place;
     let far = found.reach;
@@ -133,33 +141,32 @@ fn answer(framing: Framing, w: &[u8], found: ScanResult, before: Before, buf: &m
     let taken = before.size;
     match end {
         ScanEnd::Frame { used, len } => {
-            let next = place + used;
             let taken = far - before.base;
-            let reader = hand_out(framing, &w[place..], len, &w[next..far], buf);
-            Fed {
-                reader: reader,
+            unpack(framing, &w[place..], len, buf);
+            Told {
                 answer: FeedAnswer::Frame { taken, noise, len },
+                from: place + used,
+                end: far,
             }
         }
-        ScanEnd::Undecided => {
-            let reader = hold(framing, &w[place..]);
-            Fed {
-                reader: reader,
-                answer: FeedAnswer::NeedsMore { taken, noise },
-            }
-        }
-        ScanEnd::Passed => Fed {
-            reader: Reader::new(framing),
+        ScanEnd::Undecided => Told {
             answer: FeedAnswer::NeedsMore { taken, noise },
+            from: place,
+            end: w.len(),
+        },
+        ScanEnd::Passed => Told {
+            answer: FeedAnswer::NeedsMore { taken, noise },
+            from: 0,
+            end: 0,
         },
     }
 }
 
 // Finds the next frame in a chunk of which the first `reach` bytes were judged before, where `noise` bytes before the chunk were settled and
 // none is held.
-fn feed_chunk(framing: Framing, chunk: &[u8], reach: usize, noise: usize, buf: &mut [u8]) -> Fed
+fn feed_chunk(framing: Framing, chunk: &[u8], reach: usize, noise: usize, buf: &mut [u8]) -> Told
     requires { ⌜ ChunkFed framing (now chunk) reach noise (now buf) ⌝ }
-    ensures { λ r. ⌜ Answered framing (scanChunk framing noise reach (now (chunk .entry))) (now (buf .entry)) r (now (buf .exit)) ⌝ }
+    ensures { λ r. ⌜ Tells (scanChunk framing noise reach (now (chunk .entry))) (now (chunk .entry)) (now (buf .entry)) r (now (buf .exit)) ⌝ }
 {
     let size = chunk.len();
     let found = scan(framing, chunk, size, reach, false);
@@ -171,30 +178,59 @@ fn feed_chunk(framing: Framing, chunk: &[u8], reach: usize, noise: usize, buf: &
     answer(framing, chunk, found, before, buf)
 }
 
-// Finds the next frame where bytes are held: at the places among them first, then in the chunk.
-fn feed_held(reader: Reader, chunk: &[u8], buf: &mut [u8]) -> Fed
-    requires { ⌜ HeldFed reader (now chunk) (now buf) ⌝ }
-    ensures { λ r. ⌜ Answered (reader .framing) (scanLine (reader .framing) (heldIn reader) (now (chunk .entry))) (now (buf .entry)) r (now (buf .exit)) ⌝ }
+// The state that holds the told part of w, with the answer.
+fn keep(framing: Framing, w: &[u8], told: Told) -> Fed
+    requires { ⌜ (told .from ≤ told .end) × (told .end ≤ length (now w)) × (told .end ≤ told .from + 517) ⌝ }
+    ensures { λ r. ⌜ Keeps framing (now (w .entry)) told r ⌝ }
 {
-    let framing = reader.framing;
-    let count = reader.count;
-    let joined = join(reader, chunk);
-    let size = joined.size;
-    let bytes = joined.bytes;
-    let whole = &bytes[..];
-    let w = &whole[..size];
+    let from = told.from;
+    let end = told.end;
+    let answer = told.answer;
+    let reader = hold(framing, &w[from..end]);
+    Fed { reader, answer }
+}
+
+// Finds the next frame where the first `count` bytes of w were held and the others are the chunk's: at the places of the held bytes first, then
+// in the chunk.
+fn feed_places(framing: Framing, w: &[u8], count: usize, chunk: &[u8], buf: &mut [u8]) -> Fed
+    requires { ⌜ PlacesFed framing (now w) count (now chunk) (now buf) ⌝ }
+    ensures { λ r. ⌜ Answered framing (scanLine framing (take count (now (w .entry))) (now (chunk .entry))) (now (buf .entry)) r (now (buf .exit)) ⌝ }
+{
     let found = scan(framing, w, count, count, false);
     let far = found.reach;
     let end = found.end;
     if let ScanEnd::Passed = end {
-        return feed_chunk(framing, chunk, far - count, count, buf);
+        let told = feed_chunk(framing, chunk, far - count, count, buf);
+        return keep(framing, chunk, told);
     }
     let before = Before {
         base: count,
         noise: 0,
         size: chunk.len(),
     };
-    answer(framing, w, found, before, buf)
+    let told = answer(framing, w, found, before, buf);
+    keep(framing, w, told)
+}
+
+// Finds the next frame where bytes are held. A chunk that fits behind them in a copy of the state's array is put there.
+fn feed_held(reader: Reader, chunk: &[u8], buf: &mut [u8]) -> Fed
+    requires { ⌜ HeldFed reader (now chunk) (now buf) ⌝ }
+    ensures { λ r. ⌜ Answered (reader .framing) (scanLine (reader .framing) (heldIn reader) (now (chunk .entry))) (now (buf .entry)) r (now (buf .exit)) ⌝ }
+{
+    let framing = reader.framing;
+    let count = reader.count;
+    if chunk.len() <= limit_of(framing) - count {
+        let size = count + chunk.len();
+        let mut held = reader.held;
+        put(&mut held, count, chunk);
+        let whole = &held[..];
+        return feed_places(framing, &whole[..size], count, chunk, buf);
+    }
+    let joined = join(reader, chunk);
+    let size = joined.size;
+    let bytes = joined.bytes;
+    let whole = &bytes[..];
+    feed_places(framing, &whole[..size], count, chunk, buf)
 }
 
 // The next frame in the bytes that end a segment.
@@ -275,7 +311,18 @@ impl Reader {
             };
         }
         if count == 0 {
-            return feed_chunk(framing, chunk, 0, 0, buf);
+            let told = feed_chunk(framing, chunk, 0, 0, buf);
+            let from = told.from;
+            let end = told.end;
+            // Nothing is held afterwards either: the state is not copied.
+            if from == end {
+                let answer = told.answer;
+                return Fed {
+                    reader: self,
+                    answer: answer,
+                };
+            }
+            return keep(framing, chunk, told);
         }
         feed_held(self, chunk, buf)
     }

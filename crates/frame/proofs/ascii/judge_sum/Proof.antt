@@ -1,7 +1,7 @@
 -- `frame::ascii::judge_sum` meets its contract: each way out is one of the laws on what stands behind the colon.
 -- Assumes nothing.
 use borrow.Author.Needs.{needs}
-use Rattle.frame.proofs.AsciiJudge.{Summed, line-checksum, line-cut, line-footer, line-frame}
+use Rattle.frame.proofs.AsciiJudge.{line-all-digits, Summed, line-checksum, line-cut, line-footer, line-frame}
 use Rattle.frame.proofs.ascii.judge_sum.Statement.{statement}
 use Rattle.frame.proofs.ascii.judge_sum.Tie as tie
 
@@ -22,7 +22,7 @@ part-pair-sum-end : tie.Need-part-pair-sum-end
 part-pair-sum-end c = search needs
 
 pair-sum-requires : tie.Need-pair-sum-requires
-pair-sum-requires c κs = search needs
+pair-sum-requires c κs = let a = c .before .before .args in (search needs, line-all-digits (a .s .now) (a .count) (c .before .before .pre .0 .0))
 
 add-t13 : tie.Need-add-t13
 add-t13 c = search needs

@@ -1,12 +1,11 @@
 -- `frame::binary::judge` meets its contract: each way out is one of the laws on the start bytes and the length.
 -- Assumes nothing.
-use Prim.Native.Nat.{ℕ, _+_, _*_, _-_, _≤_}
+use Prim.Native.Nat.{ℕ, _+_, _*_}
 use native.Mathlib.Omega.{arith}
 use mathlib.Core.Logic.{inl, inr}
-use mathlib.Core.Path.{_≡_, refl, sym, ap, ap₂, _∙_}
+use mathlib.Core.Path.{_≡_, ap₂, _∙_}
 use borrow.Author.Needs.{needs}
-use lib.ListN.{length, getD}
-use Rattle.frame.specs.Checks.{behind}
+use lib.ListN.{getD}
 use Rattle.frame.proofs.BinaryJudge.{judge-empty, judge-first, judge-one, judge-second, judge-short, judge-length, judge-rest}
 use Rattle.frame.proofs.binary.judge.Statement.{statement}
 use Rattle.frame.proofs.binary.judge.Tie as tie

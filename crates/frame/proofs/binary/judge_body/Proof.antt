@@ -1,12 +1,11 @@
 -- `frame::binary::judge_body` meets its contract: each way out is one of the laws on what stands behind the length.
 -- Assumes nothing.
-use Prim.Native.Nat.{ℕ, _+_}
+use Prim.Native.Nat.{ℕ}
 use native.Mathlib.Nat.{add-sub-cancel-left}
 use native.Mathlib.Omega.{arith}
 use mathlib.Core.Path.{_≡_, sym, ap, _∙_}
 use borrow.Author.Needs.{needs}
 use lib.ListN.{take, drop}
-use Rattle.frame.specs.Checks.{behind, frame}
 use Rattle.frame.specs.Binary.{xorOf}
 use Rattle.frame.proofs.BinaryJudge.{body-short, body-checksum, body-no-footer, body-footer, body-frame}
 use Rattle.frame.proofs.binary.judge_body.Statement.{statement}

@@ -1,8 +1,6 @@
 use borrow.Author.Needs.{needs}
 use Rattle.frame.proofs.framing.frame_len.Statement.{statement}
 use Rattle.frame.proofs.framing.frame_len.Tie as tie
-use Rattle.frame.proofs.framing.frame_len.Reads as reads
-use Rattle.frame.proofs.framing.frame_len.Lts as lts
 
 -- src/framing.rt:56:28
 enum-told : tie.Need-enum-told

@@ -1,10 +1,6 @@
 use borrow.Author.Needs.{needs}
 use Rattle.frame.proofs.framing.judge.Statement.{statement}
 use Rattle.frame.proofs.framing.judge.Tie as tie
-use Rattle.frame.proofs.framing.judge.Reads as reads
-use Rattle.frame.proofs.framing.judge.Lts as lts
-use Rattle.frame.proofs.ascii.judge.Reads as ascii-judge-reads
-use Rattle.frame.proofs.binary.judge.Reads as binary-judge-reads
 
 -- src/framing.rt:34:28
 enum-told : tie.Need-enum-told

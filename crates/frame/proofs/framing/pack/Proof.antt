@@ -1,10 +1,6 @@
 use borrow.Author.Needs.{needs}
 use Rattle.frame.proofs.framing.pack.Statement.{statement}
 use Rattle.frame.proofs.framing.pack.Tie as tie
-use Rattle.frame.proofs.framing.pack.Reads as reads
-use Rattle.frame.proofs.framing.pack.Lts as lts
-use Rattle.frame.proofs.ascii.pack.Reads as ascii-pack-reads
-use Rattle.frame.proofs.binary.pack.Reads as binary-pack-reads
 
 -- src/framing.rt:67:50
 enum-told : tie.Need-enum-told

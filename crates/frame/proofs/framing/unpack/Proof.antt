@@ -2,16 +2,13 @@ use borrow.Author.Needs.{needs}
 use Prim.Native.Nat.{ℕ, _+_, _*_, _-_}
 use native.Mathlib.Nat.{add-sub-cancel-left}
 use mathlib.Core.Path.{ap, _∙_}
-use lib.ListN.{take, drop}
+use native.Mathlib.Omega.{arith}
+use lib.ListN.{take, drop, length-take}
 use Rattle.frame.specs.Framing.{inFront}
 use Rattle.frame.specs.Judged.{decoded}
 use Rattle.frame.proofs.Lists.{paste-front}
 use Rattle.frame.proofs.framing.unpack.Statement.{statement}
 use Rattle.frame.proofs.framing.unpack.Tie as tie
-use Rattle.frame.proofs.framing.unpack.Reads as reads
-use Rattle.frame.proofs.framing.unpack.Lts as lts
-use Rattle.frame.proofs.ascii.decode.Reads as decode-reads
-use Rattle.frame.proofs.copy.put.Reads as put-reads
 
 -- src/framing.rt:45:38
 enum-told : tie.Need-enum-told
@@ -59,11 +56,16 @@ part-decode-start c = search needs
 
 -- src/framing.rt:46:41
 part-decode-end : tie.Need-part-decode-end
-part-decode-end c = (rw (c .enum-told2 .given .1) at (c .before .before .before .before .pre)) .0
+part-decode-end c = (rw (c .enum-told2 .given .1) at (c .before .before .before .before .pre)) .0 .0
 
 -- src/framing.rt:46:27
 decode-requires : tie.Need-decode-requires
-decode-requires c κs = search needs
+decode-requires c κs =
+    let s = c .before .before .before .before .before .before in
+    let p = rw (c .before .before .enum-told2 .given .1) at (s .pre) in (
+      omega (arith, length-take (1 + 2 * s .args .len - 1) (drop 1 (s .args .s .now))),
+      rw (add-sub-cancel-left 1 (2 * s .args .len)) (p .0 .1),
+    )
 
 -- src/framing.rt:40:1
 same-length : tie.Need-same-length

@@ -5,16 +5,14 @@ use Prim.Native.Nat.{zero-le}
 use mathlib.Core.Path.{subst}
 use borrow.Author.Needs.{needs}
 use lib.ListN.{length}
-use Rattle.frame.specs.Scan.{Scanned, scanned, calledBy, Answered}
+use Rattle.frame.specs.Scan.{Scanned, scanned, calledBy, Tells}
 use Rattle.frame.proofs.Readers.{answerable}
 use Rattle.frame.proofs.reader.feed_chunk.Statement.{statement}
 use Rattle.frame.proofs.reader.feed_chunk.Tie as tie
 
--- src/reader.rt:165:9
 scan-requires : tie.Need-scan-requires
 scan-requires c κs = search needs
 
--- src/reader.rt:171:5
 answer-requires : tie.Need-answer-requires
 answer-requires c κs =
     let a = c .before .before .before .before .args in
@@ -22,17 +20,15 @@ answer-requires c κs =
     answerable (a .framing) (a .chunk .now) (length (a .chunk .now)) (a .reach) (scanned (a .framing) (a .chunk .now) (c .before .scan .result)) _
     (a .buf .now) (le-refl (length (a .chunk .now))) (p .reached) (p .before) (c .before .scan .ensures) zero-le (p .noise-small) (p .room)
 
--- src/reader.rt:160:1
 same-length : tie.Need-same-length
 same-length c = search needs
 
--- src/reader.rt:160:1
 returns : tie.Need-returns
 returns c =
     let a = c .before .before .before .before .before .before .before .args in
     subst
     (λ (x : Scanned).
-    Answered (a .framing) (calledBy (record { base = 0; noise = a .noise; size = length (a .chunk .now) }) (a .chunk .now) x) (a .buf .now)
+    Tells (calledBy (record { base = 0; noise = a .noise; size = length (a .chunk .now) }) (a .chunk .now) x) (a .chunk .now) (a .buf .now)
     (c .before .before .answer .result) (c .before .before .answer .last .1 .1 .1 .1 .0))
     (c .before .before .before .before .scan .ensures) (c .before .before .answer .ensures)
 

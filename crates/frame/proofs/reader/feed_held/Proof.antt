@@ -1,23 +1,17 @@
--- `frame::reader::feed_held` meets its contract: a place among the held bytes gives the answer, or all of them fail and the chunk is fed.
+-- `frame::reader::feed_held` meets its contract: in either array the held bytes stand with the chunk's behind them.
 -- Assumes nothing.
-use Prim.Native.Nat.{ℕ, _+_, _-_, _≤_, zero-le, min}
-use native.Mathlib.Nat.{le-refl}
+use Prim.Native.Nat.{ℕ, _+_, _≤_}
 use native.Mathlib.Omega.{arith}
 use mathlib.Core.List.{List}
-use mathlib.Core.Bool.{false}
-use mathlib.Core.Logic.{⊎-elim}
-use mathlib.Core.Path.{_≡_, refl, sym, ap, ap₂, _∙_, subst}
+use mathlib.Core.Path.{_≡_, sym, ap, _∙_, subst}
 use borrow.Author.Needs.{needs}
-use lib.ListN.{length, take, length-append, length-take}
+use lib.ListN.{length, take}
 use lib.Seq.{length-take-le}
 use Rattle.frame.specs.Framing.{limit}
-use Rattle.frame.specs.Reader.{Called, heldIn}
-use Rattle.frame.specs.Scan.{Scanned, passed, scanned, stopOf, judging, scanFrom, scanHeld, joined, calledBy, scanChunk, Answered}
-use Rattle.frame.specs.declared.scan.ScanEnd.{ScanEnd}
-use Rattle.frame.specs.declared.scan.ScanEnd.the-variants.{Passed}
+use Rattle.frame.specs.Reader.{heldIn}
+use Rattle.frame.specs.Scan.{joined, scanLine, Answered}
 use Rattle.frame.proofs.Framings.{limit-most}
-use Rattle.frame.proofs.Scanning.{ScanFacts, scan-facts}
-use Rattle.frame.proofs.Readers.{answerable, held-passed, held-found, passed-end}
+use Rattle.frame.proofs.Readers.{appended, places-held, places-fed}
 use Rattle.frame.proofs.reader.feed_held.Statement.{statement}
 use Rattle.frame.proofs.reader.feed_held.Tie as tie
 
@@ -31,140 +25,110 @@ count-is c =
     let r = c .args .reader in
     length-take-le (r .count) (r .held) (omega (arith, c .pre .held, limit-most (r .framing), array c))
 
--- The joined bytes are the held ones and at most as many of the chunk as a frame has.
-long : (c : tie.After-join) → let a = c .before .before .before .args in
-    length (take (c .join .result .size) (c .join .result .bytes)) ≡ a .reader .count + min (limit (a .reader .framing)) (length (a .chunk .now))
-long c =
-    let a = c .before .before .before .args in
-    let part = take (limit (a .reader .framing)) (a .chunk .now) in
-    ap length (c .join .ensures .bytes)
-    ∙ length-append (heldIn (a .reader)) part
-    ∙ ap₂ (λ (m n : ℕ). m + n) (count-is (c .before .before .before)) (length-take (limit (a .reader .framing)) (a .chunk .now))
+-- A chunk that fits is no longer than the limit less the held bytes.
+fits : (c : tie.Then1) → let a = c .before .before .before .before .args in a .reader .count + length (a .chunk .now) ≤ limit (a .reader .framing)
+fits c = omega (arith, c .if1 .taken, c .before .limit-of .ensures, c .before .before .before .before .pre .held)
 
--- The scan is that of the held bytes' places.
-scan-is : (c : tie.After-scan) → let a = c .before .before .before .before .before .before .before .args in
-    let j = c .before .before .before .before .join .result in
-    scanned (a .reader .framing) (take (j .size) (j .bytes)) (c .scan .result) ≡ scanHeld (a .reader .framing) (heldIn (a .reader)) (a .chunk .now)
-scan-is c =
+-- The state's array with the chunk behind the held bytes.
+together : (c : tie.After-put) → let a = c .before .before .before .before .before .before .before .args in
+    take (a .reader .count + length (a .chunk .now)) (c .put .last .0) ≡ joined (a .reader .framing) (heldIn (a .reader)) (a .chunk .now)
+together c =
     let a = c .before .before .before .before .before .before .before .args in
-    c .scan .ensures
-    ∙ ap₂ (λ (n : ℕ) (l : List ℕ). scanFrom (judging false (a .reader .framing)) n 0 n l)
-    (sym (count-is (c .before .before .before .before .before .before .before)))
-    (c .before .before .before .before .join .ensures .bytes)
+    let r = a .reader in
+    let n = fits (c .before .before .before) in
+    ap (take (r .count + length (a .chunk .now))) (c .put .ensures)
+    ∙ appended (r .framing) (r .held) (a .chunk .now) (r .count) (omega (arith, n, limit-most (r .framing), array (c .before .before .before .before .before .before .before))) (omega (arith, n))
 
-facts : (c : tie.After-scan) → let a = c .before .before .before .before .before .before .before .args in
-    let j = c .before .before .before .before .join .result in
-    ScanFacts false (a .reader .framing) (take (j .size) (j .bytes)) (a .reader .count) (a .reader .count)
-    (scanned (a .reader .framing) (take (j .size) (j .bytes)) (c .scan .result))
-facts c =
-    let a = c .before .before .before .before .before .before .before .args in
-    let j = c .before .before .before .before .join .result in
-    let l = long (c .before .before .before .before) in
-    scan-facts false (a .reader .framing) (take (j .size) (j .bytes)) (a .reader .count) (a .reader .count) (omega (arith, l)) (omega (arith, l))
-    (scanned (a .reader .framing) (take (j .size) (j .bytes)) (c .scan .result)) (c .scan .ensures)
+limit-of-requires : tie.Need-limit-of-requires
+limit-of-requires c κs = search needs
 
--- Where the scan did not pass, its stop says so.
-not-passed : (c : tie.At-match-keys2) → c .before .scan .result .end ≡ Passed → ⊥
-not-passed c e = ⊎-elim (λ (q : _). let z : _≡_ {A = ℕ} 2 0 = cc in omega arith) (λ q. let z : _≡_ {A = ℕ} 2 1 = cc in omega arith) (c .match .keys2)
+sub-if1 : tie.Need-sub-if1
+sub-if1 c = search needs
 
--- src/reader.rt:181:9
-join-requires : tie.Need-join-requires
-join-requires c κs = search needs
+add-size : tie.Need-add-size
+add-size c = search needs
 
--- src/reader.rt:184:9
+slice-aggregate-put : tie.Need-slice-aggregate-put
+slice-aggregate-put c = search needs
+
+put-requires : tie.Need-put-requires
+put-requires c κs = omega (arith, fits (c .before .before), limit-most (c .before .before .before .before .before .before .args .reader .framing), array (c .before .before .before .before .before .before))
+
 slice-aggregate-whole : tie.Need-slice-aggregate-whole
 slice-aggregate-whole c = search needs
 
--- src/reader.rt:185:9
-slice-aggregate-w : tie.Need-slice-aggregate-w
-slice-aggregate-w c = c .before .before .before .join .ensures .size ∙ ap length (sym (c .before .before .before .join .ensures .bytes))
+slice-aggregate-feed-places : tie.Need-slice-aggregate-feed-places
+slice-aggregate-feed-places c =
+    sym
+    (length-take-le _ (c .before .before .before .put .last .0)
+    (omega (arith, fits (c .before .before .before .before .before .before), limit-most (c .before .before .before .before .before .before .before .before .before .before .args .reader .framing), array (c .before .before .before .before .before .before .before .before .before .before), c .before .before .before .put .kept .0)))
 
--- src/reader.rt:186:9
-scan-requires : tie.Need-scan-requires
-scan-requires c κs = let l = long (c .before .before .before) in (omega (arith, l), omega (arith, l))
+feed-places-requires : tie.Need-feed-places-requires
+feed-places-requires c κs =
+    let a = c .before .before .before .before .before .before .before .before .before .before .before .args in
+    let p = c .before .before .before .before .before .before .before .before .before .before .before .pre in
+    places-fed (a .reader .framing) (heldIn (a .reader)) (a .chunk .now) _ (a .reader .count) (together (c .before .before .before .before)) (count-is (c .before .before .before .before .before .before .before .before .before .before .before)) (a .buf .now)
+    (p .held) (p .room)
 
--- src/reader.rt:190:43
-enum-told : tie.Need-enum-told
-enum-told c = search needs
-
--- src/reader.rt:190:43
-sub-feed-chunk : tie.Need-sub-feed-chunk
-sub-feed-chunk c = facts (c .before .before) .far
-
--- src/reader.rt:190:9
-feed-chunk-requires : tie.Need-feed-chunk-requires
-feed-chunk-requires c κs =
-    let a = c .before .before .before .before .before .before .before .before .before .before .args in
-    let h = facts (c .before .before .before) in
-    let l = long (c .before .before .before .before .before .before .before) in
-    let p = c .before .before .before .before .before .before .before .before .before .before .pre in
-    record {
-      reached = omega (arith, h .there, h .far, l);
-      before = omega (arith, h .there, h .far, l);
-      noise-small = omega (arith, p .held, limit-most (a .reader .framing));
-      room = p .room;
-    }
-
--- src/reader.rt:190:9
 same-length : tie.Need-same-length
 same-length c = search needs
 
--- src/reader.rt:190:9
 returns : tie.Need-returns
 returns c =
-    let a = c .before .before .before .before .before .before .before .before .before .before .before .before .before .args in
-    let j = c .before .before .before .before .before .before .before .before .before .before .join .result in
-    let x = scanned (a .reader .framing) (take (j .size) (j .bytes)) (c .before .before .before .before .before .before .scan .result) in
-    let st : x .stop ≡ passed = ap (stopOf (a .reader .framing) _) (c .before .before .before .before .enum-told .given .1) in
+    let a = c .before .before .before .before .before .before .before .before .before .before .before .before .before .before .args in
+    let k = c .before .before .feed-places in
     subst
-    (λ (k : Called). Answered (a .reader .framing) k (a .buf .now) (c .before .before .feed-chunk .result) (c .before .before .feed-chunk .last .1 .1 .1 .1 .0))
-    (ap (λ (n : ℕ). scanChunk (a .reader .framing) n (x .reach - n) (a .chunk .now)) (sym (count-is (c .before .before .before .before .before .before .before .before .before .before .before .before .before)))
-    ∙ sym (held-passed (a .reader .framing) (heldIn (a .reader)) (a .chunk .now) x (scan-is (c .before .before .before .before .before .before)) st))
-    (c .before .before .feed-chunk .ensures)
+    (λ (h : List ℕ).
+    Answered (a .reader .framing) (scanLine (a .reader .framing) h (a .chunk .now)) (a .buf .now) (k .result) (k .last .1 .1 .1 .1 .0))
+    (places-held (a .reader .framing) (heldIn (a .reader)) (a .chunk .now) _ (a .reader .count) (together (c .before .before .before .before .before .before .before)) (count-is (c .before .before .before .before .before .before .before .before .before .before .before .before .before .before)))
+    (k .ensures)
 
--- src/reader.rt:197:5
-answer-requires : tie.Need-answer-requires
-answer-requires c κs =
+join-requires : tie.Need-join-requires
+join-requires c κs = search needs
+
+slice-aggregate-whole-2 : tie.Need-slice-aggregate-whole-2
+slice-aggregate-whole-2 c = search needs
+
+slice-aggregate-feed-places-2 : tie.Need-slice-aggregate-feed-places-2
+slice-aggregate-feed-places-2 c = let j = c .before .before .before .join .ensures in j .size ∙ ap length (sym (j .bytes))
+
+feed-places-requires-2 : tie.Need-feed-places-requires-2
+feed-places-requires-2 c κs =
     let a = c .before .before .before .before .before .before .before .before .before .args in
-    let j = c .before .before .before .before .before .before .join .result in
     let p = c .before .before .before .before .before .before .before .before .before .pre in
-    let l = long (c .before .before .before .before .before .before) in
-    answerable (a .reader .framing) (take (j .size) (j .bytes)) (a .reader .count) (a .reader .count)
-    (scanned (a .reader .framing) (take (j .size) (j .bytes)) (c .before .before .scan .result)) _ (a .buf .now)
-    (omega (arith, l)) (omega (arith, l)) (p .held) (c .before .before .scan .ensures) (le-refl (a .reader .count)) zero-le (p .room)
+    places-fed (a .reader .framing) (heldIn (a .reader)) (a .chunk .now) _ (a .reader .count) (c .before .before .before .before .join .ensures .bytes) (count-is (c .before .before .before .before .before .before .before .before .before)) (a .buf .now)
+    (p .held) (p .room)
 
--- src/reader.rt:175:1
 same-length-2 : tie.Need-same-length-2
 same-length-2 c = search needs
 
--- src/reader.rt:175:1
 returns-2 : tie.Need-returns-2
 returns-2 c =
     let a = c .before .before .before .before .before .before .before .before .before .before .before .before .args in
-    let j = c .before .before .before .before .before .before .before .before .before .join .result in
-    let x = scanned (a .reader .framing) (take (j .size) (j .bytes)) (c .before .before .before .before .before .scan .result) in
+    let k = c .before .before .feed-places2 in
     subst
-    (λ (k : Called). Answered (a .reader .framing) k (a .buf .now) (c .before .before .answer .result) (c .before .before .answer .last .1 .1 .1 .1 .0))
-    (ap₂ (λ (n : ℕ) (l : List ℕ). calledBy (record { base = n; noise = 0; size = length (a .chunk .now) }) l x) (sym (count-is (c .before .before .before .before .before .before .before .before .before .before .before .before)))
-    (c .before .before .before .before .before .before .before .before .before .join .ensures .bytes)
-    ∙ sym
-    (held-found (a .reader .framing) (heldIn (a .reader)) (a .chunk .now) x (scan-is (c .before .before .before .before .before))
-    (λ q. not-passed (c .before .before .before .before) (passed-end (a .reader .framing) _ _ q))))
-    (c .before .before .answer .ensures)
+    (λ (h : List ℕ).
+    Answered (a .reader .framing) (scanLine (a .reader .framing) h (a .chunk .now)) (a .buf .now) (k .result) (k .last .1 .1 .1 .1 .0))
+    (places-held (a .reader .framing) (heldIn (a .reader)) (a .chunk .now) _ (a .reader .count) (c .before .before .before .before .before .before .before .join .ensures .bytes) (count-is (c .before .before .before .before .before .before .before .before .before .before .before .before)))
+    (k .ensures)
 
 pub feed-held-spec : {M : Type 1} → statement M
 feed-held-spec =
     tie.close
     (tie.spec
-    join-requires
+    limit-of-requires
+    sub-if1
+    add-size
+    slice-aggregate-put
+    put-requires
     slice-aggregate-whole
-    slice-aggregate-w
-    scan-requires
-    enum-told
-    sub-feed-chunk
-    feed-chunk-requires
+    slice-aggregate-feed-places
+    feed-places-requires
     same-length
     returns
-    answer-requires
+    join-requires
+    slice-aggregate-whole-2
+    slice-aggregate-feed-places-2
+    feed-places-requires-2
     same-length-2
     returns-2)

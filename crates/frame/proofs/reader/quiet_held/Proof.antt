@@ -1,21 +1,20 @@
 -- `frame::reader::quiet_held` meets its contract: the scan of the bytes that end the segment gives what the quiet call gives.
 -- Assumes nothing.
-use Prim.Native.Nat.{ℕ, _+_, _-_, _≤_, zero-le}
+use Prim.Native.Nat.{ℕ, _+_, _≤_, zero-le}
 use native.Mathlib.Nat.{le-refl}
 use native.Mathlib.Omega.{arith}
 use mathlib.Core.Bool.{true, true≢false}
 use mathlib.Core.List.{List, [], _∷_}
-use mathlib.Core.Path.{_≡_, refl, sym, ap, _∙_, subst}
+use mathlib.Core.Path.{refl, sym, ap, _∙_, subst}
 use borrow.Author.Needs.{needs}
 use lib.ListN.{length, drop, length-drop}
-use Rattle.frame.specs.Checks.{frame}
-use Rattle.frame.specs.Framing.{read, inFront}
-use Rattle.frame.specs.Judged.{payloadAt, payloadEnd}
-use Rattle.frame.specs.Reader.{Called, Holds, quiet}
-use Rattle.frame.specs.Scan.{Scanned, found, scanned, stopOf, QuietAnswered}
+use Rattle.frame.specs.Framing.{inFront}
+use Rattle.frame.specs.Judged.{payloadAt, Packed}
+use Rattle.frame.specs.Reader.{Holds, quiet}
+use Rattle.frame.specs.Scan.{scanned, stopOf}
 use Rattle.frame.proofs.Lists.{take-rest}
-use Rattle.frame.proofs.Framings.{payload-there, payload-size, limit-most}
-use Rattle.frame.proofs.Scanning.{ScanFacts, scan-facts, AtFrame, scan-found, scan-undecided}
+use Rattle.frame.proofs.Framings.{payload-there, payload-packed, payload-size, limit-most}
+use Rattle.frame.proofs.Scanning.{scan-facts, AtFrame, scan-found, scan-undecided}
 use Rattle.frame.proofs.ScanCalls.{scan-quiet-found, scan-quiet-passed}
 use Rattle.frame.proofs.Readers.{quiet-right}
 use Rattle.frame.proofs.reader.quiet_held.Statement.{statement}
@@ -93,7 +92,7 @@ hand-out-requires c κs =
     let e = at-frame (c .before .before .before) .is-frame in
     let h = payload-there (a .framing) at used len e in
     let m = payload-size (a .framing) at (payloadAt (a .framing) at len) used e in (
-      subst (λ (l : List ℕ). payloadEnd (a .framing) len ≤ length l) (sym (take-rest (a .s .now) (r .place))) (h .0),
+      subst (λ (l : List ℕ). Packed (a .framing) l len) (sym (take-rest (a .s .now) (r .place))) (payload-packed (a .framing) at used len e),
       omega (arith, h .1, m .1),
       subst (λ (l : List ℕ). length l ≤ 517) (sym (take-rest (a .s .now) (r .place + used)))
           (omega (arith, length-drop (r .place + used) (a .s .now), limit-most (a .framing))),

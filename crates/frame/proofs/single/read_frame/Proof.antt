@@ -1,13 +1,12 @@
 -- `frame::single::read_frame` meets its contract: each answer is one of the cases of its promise, by the verdict that `judge` gives.
 -- Assumes nothing.
-use native.Mathlib.Omega.{arith}
 use mathlib.Core.Path.{_≡_, ap, _∙_, subst, sym}
 use borrow.Author.Needs.{needs}
 use Rattle.frame.specs.Checks.{frame}
 use Rattle.frame.specs.Framing.{read}
 use Rattle.frame.specs.Judged.{verdictOf, payloadAt}
 use Rattle.frame.specs.Single.{Reads}
-use Rattle.frame.proofs.Framings.{payload-there}
+use Rattle.frame.proofs.Framings.{payload-there, payload-packed}
 use Rattle.frame.proofs.Singles.{reads-cut, reads-refused, reads-short, reads-frame}
 use Rattle.frame.proofs.single.read_frame.Statement.{statement}
 use Rattle.frame.proofs.single.read_frame.Tie as tie
@@ -46,7 +45,7 @@ returns c =
 unpack-requires : tie.Need-unpack-requires
 unpack-requires c κs =
     let a = c .before .before .before .before .before .before .before .before .args in
-    (payload-there (a .framing) (a .s .now) (c .before .before .before .used .given .0 .0) (c .before .before .before .used .given .0 .1 .0) (found (c .before .before)) .0, c .before .if1 .left)
+    (payload-packed (a .framing) (a .s .now) (c .before .before .before .used .given .0 .0) (c .before .before .before .used .given .0 .1 .0) (found (c .before .before)), c .before .if1 .left)
 
 -- src/single.rt:25:1
 returns-2 : tie.Need-returns-2

@@ -1,18 +1,16 @@
 -- `frame::reader::Reader::feed` meets its contract: the refusals in their order, and otherwise what the scan gives, which is the line call's.
 -- Assumes nothing.
-use Prim.Native.Nat.{ℕ, zero-le}
+use Prim.Native.Nat.{ℕ}
 use native.Mathlib.Omega.{arith}
-use mathlib.Core.List.{List, []}
-use mathlib.Core.Path.{_≡_, refl, sym, ap, _∙_, subst}
+use mathlib.Core.List.{List}
+use mathlib.Core.Path.{_≡_, refl, sym, ap, subst}
 use borrow.Author.Needs.{needs}
 use lib.ListN.{length, take}
-use Rattle.frame.specs.Framing.{limit}
 use Rattle.frame.specs.Reader.{Called, heldIn, line, Holds, feedRefusal, feedValuesOf, Feeds}
 use Rattle.frame.specs.Scan.{scanChunk, scanLine, scanFrom, Answered}
-use Rattle.frame.specs.declared.framing.Framing.{Framing}
 use Rattle.frame.specs.declared.reader.Reader.{Reader}
 use Rattle.frame.specs.declared.reader.Fed.{Fed}
-use Rattle.frame.proofs.Readers.{refuses, answers, feed-state, feed-buffer, feed-chunk, feed-accepted}
+use Rattle.frame.proofs.Readers.{none-answers, kept-answers, refuses, answers, feed-state, feed-buffer, feed-chunk, feed-accepted}
 use Rattle.frame.proofs.ScanCalls.{scan-line}
 use Rattle.frame.proofs.reader.Reader.feed.Statement.{statement}
 use Rattle.frame.proofs.reader.Reader.feed.Tie as tie
@@ -31,63 +29,77 @@ nothing-held : (r : Reader) (chunk : List ℕ) → r .count ≡ 0 → scanChunk 
 unfolding scanLine scanFrom
 nothing-held r chunk e = ap (λ (n : ℕ). scanLine (r .framing) (take n (r .held)) chunk) (sym e)
 
--- src/reader.rt:258:12
+-- No refusal stands against the call.
+accepted : (c : tie.Else3) → let a = c .before .before .before .before .before .before .args in feedRefusal (a .self) (length (a .buf .now)) (length (a .chunk .now)) ≡ 0
+accepted c =
+    let a = c .before .before .before .before .before .before .args in
+    feed-accepted (a .self) (length (a .buf .now)) (length (a .chunk .now)) (omega (arith, c .before .before .before .limit-of .ensures, c .before .before .if1 .left))
+    (c .before .if2 .left) (c .if3 .left)
+
 limit-of-requires : tie.Need-limit-of-requires
 limit-of-requires c κs = search needs
 
--- src/reader.rt:259:13
 returns : tie.Need-returns
 returns c =
     let a = c .before .before .before .before .args in
     refuses (feedRefusal (a .self) (length (a .buf .now)) (length (a .chunk .now))) _ _ (a .self) (a .buf .now) 16
     (feed-state (a .self) (length (a .buf .now)) (length (a .chunk .now)) (omega (arith, c .before .limit-of .ensures, c .if1 .taken))) refl
 
--- src/reader.rt:265:13
 returns-2 : tie.Need-returns-2
 returns-2 c =
     let a = c .before .before .before .before .before .args in
     refuses (feedRefusal (a .self) (length (a .buf .now)) (length (a .chunk .now))) _ _ (a .self) (a .buf .now) 13
     (feed-buffer (a .self) (length (a .buf .now)) (length (a .chunk .now)) (omega (arith, c .before .before .limit-of .ensures, c .before .if1 .left)) (c .if2 .taken)) refl
 
--- src/reader.rt:271:13
 returns-3 : tie.Need-returns-3
 returns-3 c =
     let a = c .before .before .before .before .before .before .args in
     refuses (feedRefusal (a .self) (length (a .buf .now)) (length (a .chunk .now))) _ _ (a .self) (a .buf .now) 15
     (feed-chunk (a .self) (length (a .buf .now)) (length (a .chunk .now)) (omega (arith, c .before .before .before .limit-of .ensures, c .before .before .if1 .left)) (c .before .if2 .left) (c .if3 .taken)) refl
 
--- src/reader.rt:277:13
 feed-chunk-requires : tie.Need-feed-chunk-requires
 feed-chunk-requires c κs = search needs
 
--- src/reader.rt:277:13
 same-length : tie.Need-same-length
 same-length c = search needs
 
--- src/reader.rt:277:13
 returns-4 : tie.Need-returns-4
 returns-4 c =
-    let a = c .before .before .before .before .before .before .before .before .before .before .before .args in
-    right (a .self) (a .chunk .now) (a .buf .now) (c .before .before .feed-chunk .result) (c .before .before .feed-chunk .last .1 .1 .1 .1 .0)
-    (feed-accepted (a .self) (length (a .buf .now)) (length (a .chunk .now)) (omega (arith, c .before .before .before .before .before .before .before .before .limit-of .ensures, c .before .before .before .before .before .before .before .if1 .left)) (c .before .before .before .before .before .before .if2 .left) (c .before .before .before .before .before .if3 .left))
-    (subst (λ (x : Called). Answered (a .self .framing) x (a .buf .now) (c .before .before .feed-chunk .result) (c .before .before .feed-chunk .last .1 .1 .1 .1 .0))
-    (nothing-held (a .self) (a .chunk .now) (c .before .before .before .before .if4 .taken)) (c .before .before .feed-chunk .ensures))
+    let a = c .before .before .before .before .before .before .before .before .before .before .before .before .args in
+    let k = c .before .before .before .feed-chunk in
+    let z = c .before .before .before .before .before .if4 .taken in
+    let fed : Fed = record { reader = a .self; answer = k .result .answer } in
+    right (a .self) (a .chunk .now) (a .buf .now) fed (k .last .1 .1 .1 .1 .0) (accepted (c .before .before .before .before .before .before))
+    (subst (λ (x : Called). Answered (a .self .framing) x (a .buf .now) fed (k .last .1 .1 .1 .1 .0)) (nothing-held (a .self) (a .chunk .now) z)
+    (none-answers (scanChunk (a .self .framing) 0 0 (a .chunk .now)) (a .chunk .now) (a .buf .now) (k .result) _ (k .ensures) (a .self) z (c .if5 .taken)))
 
--- src/reader.rt:279:9
-feed-held-requires : tie.Need-feed-held-requires
-feed-held-requires c κs = search needs
+keep-requires : tie.Need-keep-requires
+keep-requires c κs = search needs
 
--- src/reader.rt:253:5
 same-length-2 : tie.Need-same-length-2
 same-length-2 c = search needs
 
--- src/reader.rt:253:5
 returns-5 : tie.Need-returns-5
 returns-5 c =
+    let a = c .before .before .before .before .before .before .before .before .before .before .before .before .before .args in
+    let k = c .before .before .before .before .feed-chunk in
+    right (a .self) (a .chunk .now) (a .buf .now) (c .keep .result) (k .last .1 .1 .1 .1 .0) (accepted (c .before .before .before .before .before .before .before))
+    (subst (λ (x : Called). Answered (a .self .framing) x (a .buf .now) (c .keep .result) (k .last .1 .1 .1 .1 .0))
+    (nothing-held (a .self) (a .chunk .now) (c .before .before .before .before .before .before .if4 .taken))
+    (kept-answers (scanChunk (a .self .framing) 0 0 (a .chunk .now)) (a .chunk .now) (a .buf .now) (k .result) _ (k .ensures) (a .self .framing)
+    (c .keep .result) (c .keep .ensures)))
+
+feed-held-requires : tie.Need-feed-held-requires
+feed-held-requires c κs = search needs
+
+same-length-3 : tie.Need-same-length-3
+same-length-3 c = search needs
+
+returns-6 : tie.Need-returns-6
+returns-6 c =
     let a = c .before .before .before .before .before .before .before .before .before .before .before .args in
     right (a .self) (a .chunk .now) (a .buf .now) (c .before .before .feed-held .result) (c .before .before .feed-held .last .1 .1 .0)
-    (feed-accepted (a .self) (length (a .buf .now)) (length (a .chunk .now)) (omega (arith, c .before .before .before .before .before .before .before .before .limit-of .ensures, c .before .before .before .before .before .before .before .if1 .left)) (c .before .before .before .before .before .before .if2 .left) (c .before .before .before .before .before .if3 .left))
-    (c .before .before .feed-held .ensures)
+    (accepted (c .before .before .before .before .before)) (c .before .before .feed-held .ensures)
 
 pub feed-spec : {M : Type 1} → statement M
 feed-spec =
@@ -100,6 +112,9 @@ feed-spec =
     feed-chunk-requires
     same-length
     returns-4
-    feed-held-requires
+    keep-requires
     same-length-2
-    returns-5)
+    returns-5
+    feed-held-requires
+    same-length-3
+    returns-6)

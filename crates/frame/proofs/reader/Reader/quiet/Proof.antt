@@ -1,9 +1,9 @@
 -- `frame::reader::Reader::quiet` meets its contract: the refusals in their order, and otherwise the quiet of the held bytes.
 -- Assumes nothing.
 use native.Mathlib.Omega.{arith}
-use mathlib.Core.Path.{_≡_, refl, sym, ap, _∙_, subst}
+use mathlib.Core.Path.{_≡_, refl, sym}
 use borrow.Author.Needs.{needs}
-use lib.ListN.{length, take, length-take}
+use lib.ListN.{length, length-take}
 use lib.Seq.{length-take-le}
 use Rattle.frame.specs.Reader.{quietRefusal}
 use Rattle.frame.proofs.Framings.{limit-most}

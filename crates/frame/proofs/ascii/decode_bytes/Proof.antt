@@ -1,17 +1,18 @@
--- `frame::ascii::decode` meets its contract. The loop's invariant: dst begins with the bytes before i, and is else as it came. The measure is what
+-- `frame::ascii::decode_bytes` meets its contract. The loop's invariant: dst begins with the bytes before i, and is else as it came. The measure is what
 -- is left of the count of bytes.
 -- Assumes nothing.
 use Prim.Native.Nat.{_-_, _≤_, _<_}
 use mathlib.Core.Path.{_≡_, refl}
 use mathlib.Core.List.{_++_}
+use borrow.Author.Needs.{needs}
 use native.Mathlib.Omega.{arith}
 use lib.ListN.{length, take, drop, length-set}
 use lib.Seq.{take-length}
 use Rattle.frame.specs.Judged.{decoded}
 use Rattle.frame.proofs.Lists.{wrote-next}
 use Rattle.frame.proofs.AsciiLeaves.{decoded-at, length-decoded}
-use Rattle.frame.proofs.ascii.decode.Statement.{statement}
-use Rattle.frame.proofs.ascii.decode.Tie as tie
+use Rattle.frame.proofs.ascii.decode_bytes.Statement.{statement}
+use Rattle.frame.proofs.ascii.decode_bytes.Tie as tie
 
 abbrev Inv-loop : tie.InvT-loop
 Inv-loop src dst₀ n i₀ dst i = (i ≤ n) × (length dst ≡ length dst₀) × (dst ≡ take i (decoded src) ++ drop i dst₀)
@@ -26,7 +27,7 @@ mul-byte-at : tie.Need-mul-byte-at Inv-loop μ-loop
 mul-byte-at c = omega arith
 
 byte-at-requires : tie.Need-byte-at-requires Inv-loop μ-loop
-byte-at-requires c κs = omega arith
+byte-at-requires c κs = search needs
 
 slice-write-dst : tie.Need-slice-write-dst Inv-loop μ-loop
 slice-write-dst c = omega arith
@@ -55,8 +56,8 @@ returns c =
     let all : l .i ≡ length s = omega (arith, length-decoded (c .before .before .before .before .args .src .now)) in
     cc (l .inv .2, take-length s)
 
-pub decode-spec : {M : Type 1} → statement M
-decode-spec =
+pub decode-bytes-spec : {M : Type 1} → statement M
+decode-bytes-spec =
     tie.close
     (tie.spec
     Inv-loop
