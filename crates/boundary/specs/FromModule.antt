@@ -1,5 +1,5 @@
 -- Messages from the module as numbers. The kinds: 0 a refusal, 1 simple, 2 extended, 3 a response, 4 a standard status, 5 a remote status. A field that
--- a kind does not have is 0.
+-- a kind does not have is 0 in reading and is not looked at in writing.
 use Prim.Native.Nat.{ℕ}
 use mathlib.Core.List.{List, []}
 use mathlib.Core.Bool.{cond}

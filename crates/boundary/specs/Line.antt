@@ -31,7 +31,7 @@ readerIn f r = record { framing = f; held = r .held; count = r .count }
 abbrev pub newFlat : ℕ → LineReader
 newFlat n = record { framing = n; held = replicate 517 0; count = 0 }
 
--- The promise of a call by an answer of the frame crate that keeps its own promise: what crosses is that answer.
+-- There is an answer that keeps the frame crate's promise, and it is what crosses.
 pub record Crosses (A : Type 0) (Promised : A → Type 0) (flat : A → LineFed) (fed : LineFed) : Type 0 where
   pub answer : A
   pub promised : Promised answer

@@ -1,4 +1,4 @@
--- The statuses as numbers. A field that a status does not have is 0.
+-- The statuses as numbers. A field that a status does not have is 0 in reading and is not looked at in writing.
 use Prim.Native.Nat.{ℕ}
 use Rattle.message.specs.declared.status.StandardStatus.{StandardStatus}
 use Rattle.message.specs.declared.status.RemoteStatus.{RemoteStatus}

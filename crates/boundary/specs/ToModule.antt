@@ -1,5 +1,5 @@
 -- Messages to the module as numbers. The kinds: 0 a refusal, 1 simple, 2 extended to a plain address, 3 extended to an extended address, 4 a change of
--- outputs. A field that a kind does not have is 0.
+-- outputs. A field that a kind does not have is 0 in reading and is not looked at in writing.
 use Prim.Native.Nat.{ℕ}
 use mathlib.Core.List.{List, []}
 use mathlib.Core.Bool.{cond}

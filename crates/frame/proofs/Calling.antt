@@ -13,13 +13,14 @@ use lib.Seq.{take-append-seam}
 use Rattle.frame.specs.Refusal.{numberOf}
 use Rattle.frame.specs.Rule.{Output, nothing, join}
 use Rattle.frame.specs.Reader.{Called, line, quiet, heldIn, Holds, Values, refusalValues, feedValuesOf, quietValuesOf, calledValues}
-use Rattle.frame.specs.Reader.{valuesAt, bufferAt, feedRefusal, quietRefusal, Promise, Feeds, AfterQuiet, Quiets, newReader}
+use Rattle.frame.specs.Reader.{valuesAt, bufferAt, feedRefusal, quietRefusal, firstRefusal, Promise, Feeds, AfterQuiet, Quiets, newReader}
 use Rattle.frame.specs.Calls.{FeedIsRefused, QuietIsRefused, takenIn, feedOut, quietOut, IsEmpty, IsQuietFrame, Phase, offering}
 use Rattle.frame.specs.Calls.{ending, over, Calls, fed, taken, quieted, emptied, feedRefused, quietRefused, done}
-use Rattle.frame.specs.Draining.{FeedTells, QuietTells}
+use Rattle.frame.specs.Draining.{FeedTells, QuietTells, FirstIsFeed}
 use Rattle.frame.specs.Recovery.{CallsFollowRule}
 use Rattle.frame.specs.Driving.{lastState, EndsFresh}
 use Rattle.frame.specs.declared.framing.Framing.{Framing}
+use Rattle.frame.specs.declared.framing.Framing.the-variants.{Binary, Ascii}
 use Rattle.frame.specs.declared.refusal.Refusal.{Refusal}
 use Rattle.frame.specs.declared.refusal.Refusal.the-variants.{Start, Cut, Length, Checksum, Footer, Character, Buffer, Payload, Chunk}
 use Rattle.frame.specs.declared.refusal.Refusal.the-variants.{State}
@@ -34,7 +35,7 @@ use Rattle.frame.proofs.Rules.{given, given-nil}
 use Rattle.frame.proofs.Settling.{line-rule, line-one, quiet-rule, quiet-one, quiet-left}
 
 -- No refusal has the number 0.
-number-some : (r : Refusal) → eqb (numberOf r) 0 ≡ false
+pub number-some : (r : Refusal) → eqb (numberOf r) 0 ≡ false
 number-some Start = refl
 number-some Cut = refl
 number-some Length = refl
@@ -196,6 +197,22 @@ quiet-tells r buf a buf′ p =
           let z = quiet-refused (a .answer) n in
           let h = refusing p z in
           (numbered p false z, ap (λ (v : Values). v .number) (h .0), h .1, h .2);
+    }
+
+-- The refusals of a first call are those of a new reader's line call.
+first-number : (f : Framing) (room size : ℕ) → feedRefusal (newReader f) room size ≡ firstRefusal room size
+first-number Binary room size = refl
+first-number Ascii room size = refl
+
+-- A first call is the line call of a new reader.
+pub first-is-feed : FirstIsFeed
+first-is-feed f chunk buf a buf′ r h e k =
+    let zero-is : eqb (firstRefusal (length buf) (length chunk)) 0 ≡ true = ap (λ (n : ℕ). eqb n 0) e in
+    let number = first-number f (length buf) (length chunk) in
+    let t = h .answers zero-is in
+    record {
+      refuses = λ z. absurd (true≢false (sym zero-is ∙ ap (λ (n : ℕ). eqb n 0) (sym number) ∙ z));
+      answers = λ z. (t .values, subst (λ (l : List ℕ). Holds f l r) (t .held) k, t .buffer);
     }
 
 -- A state that holds h stands for h before what follows.

@@ -14,11 +14,12 @@ use Rattle.frame.specs.Framing.{limit, inFront}
 use Rattle.frame.specs.Judged.{payloadAt}
 use Rattle.frame.specs.Reader.{Called, Values, Holds, feedValuesOf, valuesAt, refusalValues, bufferAt, quietRefusal, feedRefusal, Promise}
 use Rattle.frame.specs.Scan.{Stop, found, undecided, passed, stopOf, judging, Scanned, scanFrom, calledAs, calledBy, scanChunk, joined}
-use Rattle.frame.specs.Scan.{scanHeld, beforeHeld, thenChunk, scanLine, Usable, Answerable, Tells, Keeps, Answered, QuietAnswered, PlacesFed}
+use Rattle.frame.specs.Reader.{Tells}
+use Rattle.frame.specs.Scan.{scanHeld, beforeHeld, thenChunk, scanLine, Usable, Answerable, Keeps, Answered, QuietAnswered, PlacesFed}
 use Rattle.frame.specs.declared.framing.Framing.{Framing}
 use Rattle.frame.specs.declared.reader.Reader.{Reader}
 use Rattle.frame.specs.declared.reader.Before.{Before}
-use Rattle.frame.specs.declared.reader.Told.{Told}
+use Rattle.frame.specs.declared.reader.First.{First}
 use Rattle.frame.specs.declared.reader.Fed.{Fed}
 use Rattle.frame.specs.declared.reader.Quieted.{Quieted}
 use Rattle.frame.specs.declared.reader.FeedAnswer.the-variants.{Frame as FeedFrame, NeedsMore}
@@ -34,7 +35,7 @@ none-held r e = record { framing = refl; count = e; bytes = ap (λ (n : ℕ). ta
 
 module _ (f : Framing) (w : List ℕ) (before : Before) (place reach : ℕ) (end : ScanEnd) (buf : List ℕ) where
   -- What is told of a scan that stopped so.
-  abbrev Right : ScanEnd → Told → List ℕ → Type 0
+  abbrev Right : ScanEnd → First → List ℕ → Type 0
   Right x told buf′ = Tells (calledAs (stopOf f (drop place w) x) before w place reach) w buf told buf′
 
   -- It stopped at a frame.
@@ -77,7 +78,7 @@ module _ (f : Framing) (w : List ℕ) (before : Before) (place reach : ℕ) (end
       (sym e)
       (record { values = refl; held = refl; inside = omega arith; there = omega arith; most = omega arith; buffer = refl })
 
-module _ (c : Called) (w buf : List ℕ) (told : Told) (buf′ : List ℕ) (h : Tells c w buf told buf′) where
+module _ (c : Called) (w buf : List ℕ) (told : First) (buf′ : List ℕ) (h : Tells c w buf told buf′) where
   -- With the state that holds the told part, it is the answer.
   pub kept-answers : (f : Framing) (fed : Fed) → Keeps f w told fed → Answered f c buf fed buf′
   kept-answers f fed k =

@@ -6,7 +6,7 @@ use Rattle.frame.specs.Claims.{LayoutReads, OneSpelling, DecisionStands,
 use Rattle.frame.specs.Recovery.{BytesAddUp, TakenIsInside, NeedsMoreIsTrue, HeldIsHeard, CallsFollowRule, CleanLine, AsciiRecovers, BinaryRecovers}
 use Rattle.frame.specs.Recovery.{LateFramesComeBack, AsciiCallsRecover, BinaryCallsRecover, CleanCalls}
 use Rattle.frame.specs.Draining.{LineDrains, NeedsMoreIsDrained, DrainFollowsRule, QuietFollowsRule, EmptyIsDrained}
-use Rattle.frame.specs.Draining.{FeedTells, QuietTells, DrainIsSized, RuleIsSized}
+use Rattle.frame.specs.Draining.{FeedTells, QuietTells, FirstIsFeed, DrainIsSized, RuleIsSized}
 use Rattle.frame.specs.Driving.{CanDrive, DrivesAreShort, StateNeverRefused, FeedStaysInLimit, QuietStaysInLimit, EndsFresh}
 use Rattle.frame.specs.RecoveryExamples.{LostAndBack, ProvisoNeeded}
 use Rattle.frame.specs.declared.framing.Framing.{Framing}
@@ -77,6 +77,9 @@ feed-tells = calling.feed-tells
 
 pub quiet-tells : QuietTells
 quiet-tells = calling.quiet-tells
+
+pub first-is-feed : FirstIsFeed
+first-is-feed = calling.first-is-feed
 
 pub drain-is-sized : (f : Framing) → DrainIsSized f
 drain-is-sized = draining.drain-is-sized

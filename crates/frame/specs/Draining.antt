@@ -1,18 +1,20 @@
--- What the calls over one chunk, or of one quiet, give together. Document 01, "The leftmost rule and the line reader": the caller calls again
+-- What the calls over one chunk, or of one quiet, give together, said of each call: it gives the first part, and the calls after it the rest. Document 01, "The leftmost rule and the line reader": the caller calls again
 -- with the rest, even an empty rest, until more bytes are needed; a quiet is repeated until it is empty.
-use Prim.Native.Nat.{ℕ, zero, suc, _+_, _≤_}
+use Prim.Native.Nat.{ℕ, zero, suc, _+_, _-_, _≤_}
 use mathlib.Core.Path.{_≡_}
 use mathlib.Core.List.{List, [], _∷_, _++_}
 use mathlib.Core.Bool.{false}
 use lib.Dec.{eqb}
-use lib.ListN.{length, drop}
+use lib.ListN.{length, take, drop}
 use Rattle.frame.specs.Checks.{Verdict, cut, refused, frame}
 use Rattle.frame.specs.Framing.{read}
 use Rattle.frame.specs.Rule.{Output, nothing, noiseByte, handed, join, passAfter, rule, payloads}
 use Rattle.frame.specs.Reader.{Settled, line, quiet, heldIn, Holds, feedValuesOf, quietValuesOf, feedRefusal, quietRefusal, Feeds, AfterQuiet, Quiets}
+use Rattle.frame.specs.Reader.{newReader, firstRefusal, Firsts}
 use Rattle.frame.specs.Calls.{FeedIsRefused, QuietIsRefused, takenIn, feedOut, quietOut}
 use Rattle.frame.specs.declared.reader.Reader.{Reader}
 use Rattle.frame.specs.declared.reader.Fed.{Fed}
+use Rattle.frame.specs.declared.reader.First.{First}
 use Rattle.frame.specs.declared.reader.Quieted.{Quieted}
 use Rattle.frame.specs.declared.framing.Framing.{Framing}
 
@@ -41,7 +43,7 @@ LineDrains f =
     (held chunk : List ℕ) →
     drain f (held ++ chunk) ≡ before (line f held chunk .out) (drain f (line f held chunk .held ++ drop (line f held chunk .taken) chunk))
 
--- Where nothing comes out of a line call, all is drained.
+-- Where no frame comes out of a line call, all is drained.
 abbrev pub NeedsMoreIsDrained : Framing → Type 0
 NeedsMoreIsDrained f =
     (held chunk : List ℕ) → line f held chunk .out .frames ≡ [] →
@@ -56,12 +58,12 @@ DrainFollowsRule f =
 abbrev pub QuietFollowsRule : Framing → Type 0
 QuietFollowsRule f = (held : List ℕ) → payloads (rule f held) ≡ join (quiet f held .out) (payloads (rule f (quiet f held .held)))
 
--- Where nothing comes out of a quiet call, nothing is held.
+-- Where no frame comes out of a quiet call, nothing is held.
 abbrev pub EmptyIsDrained : Framing → Type 0
 EmptyIsDrained f = (held : List ℕ) → quiet f held .out .frames ≡ [] → quiet f held .held ≡ []
 
 -- What the answer of a line call says. Not refused: what it hands out, the bytes that it takes and the state that follows are those of the call;
--- refused: the number, and state and buffer stay. A payload is within the buffer.
+-- refused: the number, and state and buffer stay. A payload is within the buffer as it then is.
 pub record FeedSays (r : Reader) (chunk buf : List ℕ) (a : Fed) (buf′ : List ℕ) : Type 0 where
   pub inside : feedValuesOf (a .answer) .len ≤ length buf′
   pub answered :
@@ -95,6 +97,13 @@ pub record QuietSays (r : Reader) (buf : List ℕ) (a : Quieted) (buf′ : List 
 
 abbrev pub QuietTells : Type 0
 QuietTells = (r : Reader) (buf : List ℕ) (a : Quieted) (buf′ : List ℕ) → Quiets r buf a buf′ → QuietSays r buf a buf′
+
+-- A first call is the line call of a new reader: with any state that holds the told part of the chunk, its answer is that call's.
+abbrev pub FirstIsFeed : Type 0
+FirstIsFeed =
+    (f : Framing) (chunk buf : List ℕ) (a : First) (buf′ : List ℕ) (r : Reader) → Firsts f chunk buf a buf′ →
+    firstRefusal (length buf) (length chunk) ≡ 0 → Holds f (take (a .end - a .from) (drop (a .from) chunk)) r →
+    Feeds (newReader f) chunk buf (record { reader = r; answer = a .answer }) buf′
 
 -- The sum of a number over a list.
 abbrev pub total : (List ℕ → ℕ) → List (List ℕ) → ℕ

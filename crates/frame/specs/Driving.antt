@@ -65,7 +65,7 @@ Offers (feedRefused offered buf buf′ a p n later) chunks = ⊥
 Offers (quietRefused buf buf′ a p n later) chunks = ⊥
 Offers done chunks = chunks ≡ []
 
--- A caller gets a segment through a new reader in these chunks, with no more calls than chunks and bytes, and one.
+-- A caller gets a segment through a new reader in these chunks, with no more calls than the chunks plus the bytes plus one.
 pub record Driven (f : Framing) (chunks : List (List ℕ)) : Type 0 where
   pub out : Output (List ℕ)
   pub calls : Calls offering (newReader f) (concat chunks) out
@@ -75,7 +75,7 @@ pub record Driven (f : Framing) (chunks : List (List ℕ)) : Type 0 where
 abbrev pub CanDrive : Framing → Type 0
 CanDrive f = (chunks : List (List ℕ)) → All (λ chunk. length chunk ≤ 65536) chunks → Driven f chunks
 
--- However a caller offers a segment in chunks, the calls are no more than chunks and bytes, and one.
+-- However a caller offers a segment in chunks, the calls are no more than the chunks plus the bytes plus one.
 abbrev pub DrivesAreShort : Framing → Type 0
 DrivesAreShort f =
     (chunks : List (List ℕ)) (out : Output (List ℕ)) (calls : Calls offering (newReader f) (concat chunks) out) → Offers calls chunks →

@@ -1,5 +1,5 @@
 -- The line reader's calls. Document 01, "The leftmost rule and the line reader" and "Refusal numbers".
-use Prim.Native.Nat.{ℕ, suc}
+use Prim.Native.Nat.{ℕ, suc, _+_, _-_, _≤_}
 use mathlib.Core.Path.{_≡_}
 use mathlib.Core.List.{List, [], _∷_, _++_}
 use mathlib.Core.Bool.{Bool, true, false, cond}
@@ -14,11 +14,12 @@ use Rattle.frame.specs.declared.reader.Reader.{Reader}
 use Rattle.frame.specs.declared.reader.Fed.{Fed}
 use Rattle.frame.specs.declared.reader.FeedAnswer.{FeedAnswer}
 use Rattle.frame.specs.declared.reader.FeedAnswer.the-variants.{Frame as FeedFrame, NeedsMore, Refused as FeedRefused}
+use Rattle.frame.specs.declared.reader.First.{First}
 use Rattle.frame.specs.declared.reader.Quieted.{Quieted}
 use Rattle.frame.specs.declared.reader.QuietAnswer.{QuietAnswer}
 use Rattle.frame.specs.declared.reader.QuietAnswer.the-variants.{Frame as QuietFrame, Empty, Refused as QuietRefused}
 
--- Held bytes after judging: what they gave, at most one payload and the noise, and the bytes still held.
+-- Bytes after judging: what they gave, and those that are still held.
 pub record Settled : Type 0 where
   pub out : Output (List ℕ)
   pub rest : List ℕ
@@ -151,3 +152,23 @@ Quiets r buf q buf′ =
     Promise (quietRefusal r (length buf)) (quiet (r .framing) (heldIn r))
     (AfterQuiet (r .framing) (quiet (r .framing) (heldIn r)) (quiet (r .framing) (heldIn r) .out .frames)) r buf
     (quietValuesOf (q .answer)) (q .reader) buf′
+
+-- What c gives, where the bytes held afterwards are a part of w: from `from` up to `end`.
+pub record Tells (c : Called) (w buf : List ℕ) (told : First) (buf′ : List ℕ) : Type 0 where
+  pub values : feedValuesOf (told .answer) ≡ valuesAt c
+  pub held : take (told .end - told .from) (drop (told .from) w) ≡ c .held
+  pub inside : told .from ≤ told .end
+  pub there : told .end ≤ length w
+  pub most : told .end ≤ told .from + 517
+  pub buffer : buf′ ≡ bufferAt (c .out .frames) buf
+
+-- The refusals of a first call: 13, 15. 0: none.
+abbrev pub firstRefusal : ℕ → ℕ → ℕ
+firstRefusal room size = cond (leb 256 room) (cond (leb size 65536) 0 15) 13
+
+-- The promise of a first call: what a new reader's line call gives, without the state.
+pub record Firsts (f : Framing) (chunk buf : List ℕ) (a : First) (buf′ : List ℕ) : Type 0 where
+  pub refuses :
+      (eqb (firstRefusal (length buf) (length chunk)) 0 ≡ false) →
+      (feedValuesOf (a .answer) ≡ refusalValues (firstRefusal (length buf) (length chunk))) × (a .from ≡ 0) × (a .end ≡ 0) × (buf′ ≡ buf)
+  pub answers : (eqb (firstRefusal (length buf) (length chunk)) 0 ≡ true) → Tells (line f [] chunk) chunk buf a buf′

@@ -154,12 +154,12 @@ BytesAddUp f = (s : List ℕ) → usedBytes (rule f s .frames) + rule f s .noise
 abbrev pub TakenIsInside : Framing → Type 0
 TakenIsInside f = (held chunk : List ℕ) → line f held chunk .taken ≤ length chunk
 
--- A line call that hands out nothing has taken the whole chunk, and holds nothing or undecided bytes.
+-- A line call that hands out no frame has taken the whole chunk, and holds nothing or undecided bytes.
 abbrev pub NeedsMoreIsTrue : Framing → Type 0
 NeedsMoreIsTrue f =
     (held chunk : List ℕ) → line f held chunk .out .frames ≡ [] →
     (line f held chunk .taken ≡ length chunk) × ((line f held chunk .held ≡ []) ⊎ (read f (line f held chunk .held) ≡ cut))
 
--- A line call that holds nothing hands out the same, noise too, over the held bytes followed by the chunk.
+-- A line call hands out, noise too, what it would with nothing held and the held bytes put before the chunk.
 abbrev pub HeldIsHeard : Framing → Type 0
 HeldIsHeard f = (held chunk : List ℕ) → line f held chunk .out ≡ line f [] (held ++ chunk) .out

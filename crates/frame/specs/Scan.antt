@@ -21,7 +21,7 @@ use Rattle.frame.specs.declared.reader.Fed.{Fed}
 use Rattle.frame.specs.declared.reader.Quieted.{Quieted}
 use Rattle.frame.specs.declared.reader.Joined.{Joined}
 use Rattle.frame.specs.declared.reader.Before.{Before}
-use Rattle.frame.specs.declared.reader.Told.{Told}
+use Rattle.frame.specs.declared.reader.First.{First}
 
 -- The judge of a segment that goes on, or has ended.
 abbrev pub judging : Bool → Framing → List ℕ → Verdict
@@ -131,17 +131,8 @@ pub record Answered (f : Framing) (c : Called) (buf : List ℕ) (fed : Fed) (buf
   pub state : Holds f (c .held) (fed .reader)
   pub buffer : buf′ ≡ bufferAt (c .out .frames) buf
 
--- A function behind it tells what c gives, where the bytes held afterwards are a part of w.
-pub record Tells (c : Called) (w buf : List ℕ) (told : Told) (buf′ : List ℕ) : Type 0 where
-  pub values : feedValuesOf (told .answer) ≡ valuesAt c
-  pub held : take (told .end - told .from) (drop (told .from) w) ≡ c .held
-  pub inside : told .from ≤ told .end
-  pub there : told .end ≤ length w
-  pub most : told .end ≤ told .from + 517
-  pub buffer : buf′ ≡ bufferAt (c .out .frames) buf
-
 -- The answer that was told, with a state that holds that part of w.
-pub record Keeps (f : Framing) (w : List ℕ) (told : Told) (fed : Fed) : Type 0 where
+pub record Keeps (f : Framing) (w : List ℕ) (told : First) (fed : Fed) : Type 0 where
   pub answer : fed .answer ≡ told .answer
   pub state : Holds f (take (told .end - told .from) (drop (told .from) w)) (fed .reader)
 

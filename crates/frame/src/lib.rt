@@ -11,6 +11,7 @@ mod single;
 pub use framing::Framing;
 pub use reader::Fed;
 pub use reader::FeedAnswer;
+pub use reader::First;
 pub use reader::QuietAnswer;
 pub use reader::Quieted;
 pub use reader::Reader;

@@ -12,8 +12,8 @@ ghost use Prim.Native.Nat.{_+_, _≤_};
 ghost use lib.ListN.{length, take};
 ghost use Rattle.frame.specs.Framing.{limit, inFront};
 ghost use Rattle.frame.specs.Judged.{payloadAt, Packed};
-ghost use Rattle.frame.specs.Reader.{newReader, heldIn, quiet, Holds, Feeds, Quiets};
-ghost use Rattle.frame.specs.Scan.{scanned, calledBy, scanChunk, scanLine, Joins, Answerable, ChunkFed, HeldFed, Tells, Keeps, Answered, QuietAnswered};
+ghost use Rattle.frame.specs.Reader.{newReader, heldIn, quiet, Holds, Feeds, Quiets, Tells, Firsts};
+ghost use Rattle.frame.specs.Scan.{scanned, calledBy, scanChunk, scanLine, Joins, Answerable, ChunkFed, HeldFed, Keeps, Answered, QuietAnswered};
 ghost use Rattle.frame.specs.Scan.{PlacesFed};
 
 // A reader's state, by value: its framing and the bytes that it holds, the first `count` of `held`.
@@ -64,11 +64,11 @@ struct Joined {
     size: usize,
 }
 
-// What a call over a slice answers, and the part of the slice that is held after it.
-struct Told {
-    answer: FeedAnswer,
-    from: usize,
-    end: usize,
+// What a new reader's line call answers to a chunk, and the part of the chunk that it would hold.
+pub struct First {
+    pub answer: FeedAnswer,
+    pub from: usize,
+    pub end: usize,
 }
 
 // What was there before a scan: held bytes in front of the chunk, noise bytes settled, and the chunk's length.
@@ -130,7 +130,7 @@ fn join(reader: Reader, chunk: &[u8]) -> Joined
 }
 
 // The answer to a scan of w.
-fn answer(framing: Framing, w: &[u8], found: ScanResult, before: Before, buf: &mut [u8]) -> Told
+fn answer(framing: Framing, w: &[u8], found: ScanResult, before: Before, buf: &mut [u8]) -> First
     requires { ⌜ Answerable framing (now w) (scanned framing (now w) found) before (now buf) ⌝ }
     ensures { λ r. ⌜ Tells (calledBy before (now (w .entry)) (scanned framing (now (w .entry)) found)) (now (w .entry)) (now (buf .entry)) r (now (buf .exit)) ⌝ }
 {
@@ -143,18 +143,18 @@ fn answer(framing: Framing, w: &[u8], found: ScanResult, before: Before, buf: &m
         ScanEnd::Frame { used, len } => {
             let taken = far - before.base;
             unpack(framing, &w[place..], len, buf);
-            Told {
+            First {
                 answer: FeedAnswer::Frame { taken, noise, len },
                 from: place + used,
                 end: far,
             }
         }
-        ScanEnd::Undecided => Told {
+        ScanEnd::Undecided => First {
             answer: FeedAnswer::NeedsMore { taken, noise },
             from: place,
             end: w.len(),
         },
-        ScanEnd::Passed => Told {
+        ScanEnd::Passed => First {
             answer: FeedAnswer::NeedsMore { taken, noise },
             from: 0,
             end: 0,
@@ -164,7 +164,7 @@ fn answer(framing: Framing, w: &[u8], found: ScanResult, before: Before, buf: &m
 
 // Finds the next frame in a chunk of which the first `reach` bytes were judged before, where `noise` bytes before the chunk were settled and
 // none is held.
-fn feed_chunk(framing: Framing, chunk: &[u8], reach: usize, noise: usize, buf: &mut [u8]) -> Told
+fn feed_chunk(framing: Framing, chunk: &[u8], reach: usize, noise: usize, buf: &mut [u8]) -> First
     requires { ⌜ ChunkFed framing (now chunk) reach noise (now buf) ⌝ }
     ensures { λ r. ⌜ Tells (scanChunk framing noise reach (now (chunk .entry))) (now (chunk .entry)) (now (buf .entry)) r (now (buf .exit)) ⌝ }
 {
@@ -179,7 +179,7 @@ fn feed_chunk(framing: Framing, chunk: &[u8], reach: usize, noise: usize, buf: &
 }
 
 // The state that holds the told part of w, with the answer.
-fn keep(framing: Framing, w: &[u8], told: Told) -> Fed
+fn keep(framing: Framing, w: &[u8], told: First) -> Fed
     requires { ⌜ (told .from ≤ told .end) × (told .end ≤ length (now w)) × (told .end ≤ told .from + 517) ⌝ }
     ensures { λ r. ⌜ Keeps framing (now (w .entry)) told r ⌝ }
 {
@@ -325,6 +325,28 @@ impl Reader {
             return keep(framing, chunk, told);
         }
         feed_held(self, chunk, buf)
+    }
+
+    // The line call of a new reader without its state: what `Reader::new(framing).feed(chunk, buf)` answers, and the part of the chunk that it would hold.
+    // Whoever has the chunk at hand saves the copies of a state. Refused with 13, 15 as `feed` is.
+    pub fn first(framing: Framing, chunk: &[u8], buf: &mut [u8]) -> First
+        ensures { λ r. ⌜ Firsts framing (now (chunk .entry)) (now (buf .entry)) r (now (buf .exit)) ⌝ }
+    {
+        if buf.len() < Reader::MAX_PAYLOAD {
+            return First {
+                answer: FeedAnswer::Refused(Refusal::Buffer),
+                from: 0,
+                end: 0,
+            };
+        }
+        if 65536 < chunk.len() {
+            return First {
+                answer: FeedAnswer::Refused(Refusal::Chunk),
+                from: 0,
+                end: 0,
+            };
+        }
+        feed_chunk(framing, chunk, 0, 0, buf)
     }
 
     // The line was quiet: the held bytes end their segment. Gives the next frame in them, as `feed` does, or a new reader's state. Call it

@@ -1,7 +1,7 @@
 -- Laws on a listing that goes on call by call: what is put so far, and what is left to be listed.
 -- Assumes nothing.
-use Prim.Native.Nat.{ℕ, suc, _+_, _*_, _≤_, _<_, suc-le-suc}
-use native.Mathlib.Nat.{add-zero, add-assoc, zero-add}
+use Prim.Native.Nat.{ℕ, zero, suc, _+_, _*_, _≤_, _<_, suc-le-suc}
+use native.Mathlib.Nat.{add-zero, zero-add, le-trans}
 use native.Mathlib.Omega.{arith}
 use mathlib.Core.Path.{_≡_, refl, sym, ap, ap₂, _∙_, subst}
 use mathlib.Core.List.{List, [], _∷_, _++_, append-nil}
@@ -34,14 +34,11 @@ use Rattle.frame.specs.declared.refusal.Refusal.the-variants.{Buffer}
 use Rattle.listing.specs.Line.{lineOf, linesOf}
 use Rattle.listing.specs.Listing.{valuesOf, chunkRefusal, ListsChunk, endRefusal, ListsQuiet}
 use Rattle.listing.specs.declared.list.Listed.{Listed}
+use Rattle.listing.specs.declared.list.Spot.{Spot}
 use Rattle.listing.specs.declared.list.ListAnswer.the-variants.{Lines, Refused}
-use Rattle.listing.proofs.Texts.{Going, going, going-room, going-next, going-part, going-done}
+use Rattle.listing.specs.Parts.{Going, Progress, spot, behind, CanClean, Cleans}
+use Rattle.listing.proofs.Texts.{going, going-room, going-next, going-part, going-done, going-on}
 use Rattle.listing.proofs.Fits.{lines-short}
-
--- Of `whole`, `left` is still to be listed; the lines before it end at `end`, and `noise` bytes of noise were counted.
-pub record Progress (whole left : Output (List ℕ)) (out₀ : List ℕ) (end noise : ℕ) (out : List ℕ) : Type 0 where
-  pub text : Going out₀ 0 (linesOf (whole .frames)) (linesOf (left .frames)) end out
-  pub noises : noise + left .noise ≡ whole .noise
 
 -- A frame, after noise.
 abbrev pub one : List ℕ → ℕ → Output (List ℕ)
@@ -52,25 +49,25 @@ abbrev pub none : ℕ → Output (List ℕ)
 none n = record { frames = []; noise = n }
 
 -- All is left.
-progress : (whole : Output (List ℕ)) (out : List ℕ) → Progress whole whole out 0 0 out
-progress whole out = record { text = going out 0 refl; noises = zero-add (whole .noise) }
+pub progress : (whole : Output (List ℕ)) (out : List ℕ) (at base : ℕ) → Progress whole whole out at base at base out
+progress whole out at base = record { text = going out at refl; noises = refl }
 
-module _ {whole left : Output (List ℕ)} {out₀ out : List ℕ} {end noise : ℕ} (g : Progress whole left out₀ end noise out) where
+module _ {whole left : Output (List ℕ)} {out₀ out : List ℕ} {at base end noise : ℕ} (g : Progress whole left out₀ at base end noise out) where
   -- A frame's line is to be put next.
   text-next : (p : List ℕ) (n : ℕ) (later : Output (List ℕ)) → left ≡ join (one p n) later →
-      Going out₀ 0 (linesOf (whole .frames)) (lineOf p ++ linesOf (later .frames)) end out
+      Going out₀ at (linesOf (whole .frames)) (lineOf p ++ linesOf (later .frames)) end out
   unfolding join
   text-next p n later e = rw e at (g .text)
 
-  module _ (room : 0 + length (linesOf (whole .frames)) ≤ length out₀) where
+  module _ (room : at + length (linesOf (whole .frames)) ≤ length out₀) where
     -- There is room for it.
-    progress-room : (p : List ℕ) (n : ℕ) (later : Output (List ℕ)) → left ≡ join (one p n) later → end + length (lineOf p) ≤ length out
+    pub progress-room : (p : List ℕ) (n : ℕ) (later : Output (List ℕ)) → left ≡ join (one p n) later → end + length (lineOf p) ≤ length out
     progress-room p n later e = going-part (lineOf p) (linesOf (later .frames)) room (text-next p n later e)
 
     -- It is put.
-    progress-frame :
+    pub progress-frame :
         (p : List ℕ) (n : ℕ) (later : Output (List ℕ)) {next : ℕ} {after : List ℕ} → left ≡ join (one p n) later → Puts out end (lineOf p) next after →
-        Progress whole later out₀ next (noise + n) after
+        Progress whole later out₀ at base next (noise + n) after
     unfolding join
     progress-frame p n later e q =
         record {
@@ -79,11 +76,11 @@ module _ {whole left : Output (List ℕ)} {out₀ out : List ℕ} {end noise : �
         }
 
     -- Noise is all that was left.
-    progress-end : (n : ℕ) → left ≡ none n → Puts out₀ 0 (linesOf (whole .frames)) end out × (noise + n ≡ whole .noise)
+    progress-end : (n : ℕ) → left ≡ none n → Puts out₀ at (linesOf (whole .frames)) end out × (noise + n ≡ base + whole .noise)
     progress-end n e = (going-done room (rw e at (g .text)), omega (arith, g .noises, ap (λ (o : Output (List ℕ)). o .noise) e))
 
   -- The noise so far is no more than all of it.
-  progress-noise : (n : ℕ) → n ≤ left .noise → noise + n ≤ whole .noise
+  pub progress-noise : (n : ℕ) → n ≤ left .noise → noise + n ≤ base + whole .noise
   progress-noise n l = omega (arith, g .noises)
 
 -- Text in the front of a buffer.
@@ -121,7 +118,7 @@ pub held-few : (r : Reader) → length (heldIn r) ≤ r .count
 held-few r = omega (arith, length-take (r .count) (r .held))
 
 -- A line call that is not refused gives the first part of what is left.
-step-drain :
+pub step-drain :
     (r : Reader) (rest old buf : List ℕ) (fed : Fed) → Feeds r rest old fed buf → (FeedIsRefused (fed .answer) → ⊥) →
     (drain (r .framing) (heldIn r ++ rest)
     ≡ before (feedOut (fed .answer) buf) (drain (r .framing) (heldIn (fed .reader) ++ drop (takenIn (fed .answer)) rest)))
@@ -164,7 +161,7 @@ pub record Feeding (reader : Reader) (chunk out₀ : List ℕ) (fed : Fed) (done
   pub inside : done ≤ length chunk
   pub rest : drain (reader .framing) (heldIn r ++ drop done chunk) .rest ≡ drain (reader .framing) (heldIn reader ++ chunk) .rest
   pub progress :
-      Progress (drain (reader .framing) (heldIn reader ++ chunk) .out) (drain (reader .framing) (heldIn r ++ drop done chunk) .out) out₀ end noise out
+      Progress (drain (reader .framing) (heldIn reader ++ chunk) .out) (drain (reader .framing) (heldIn r ++ drop done chunk) .out) out₀ 0 0 end noise out
   pub stays :
       ((feedRefusal reader 256 (length chunk) ≡ 0) × (feedRefusal r 256 (length (drop done chunk)) ≡ 0))
       ⊎ ((r ≡ reader) × (done ≡ 0) × (out ≡ out₀))
@@ -181,9 +178,118 @@ feeding reader chunk buf₀ buf out fed feeds full =
       framing = refl;
       inside = omega arith;
       rest = refl;
-      progress = progress (drain (reader .framing) (heldIn reader ++ chunk) .out) out;
+      progress = progress (drain (reader .framing) (heldIn reader ++ chunk) .out) out 0 0;
       stays = inr (refl, refl, refl);
     }
+
+-- The calls so far gave the state r, none was refused, and all that is listed has room.
+pub record Midway (reader : Reader) (chunk out₀ : List ℕ) (r : Reader) (done end noise : ℕ) (out : List ℕ) : Type 0 where
+  pub framing : r .framing ≡ reader .framing
+  pub within : r .count ≤ limit (r .framing)
+  pub free : feedRefusal reader 256 (length chunk) ≡ 0
+  pub inside : done ≤ length chunk
+  pub rest : drain (reader .framing) (heldIn r ++ drop done chunk) .rest ≡ drain (reader .framing) (heldIn reader ++ chunk) .rest
+  pub progress :
+      Progress (drain (reader .framing) (heldIn reader ++ chunk) .out) (drain (reader .framing) (heldIn r ++ drop done chunk) .out) out₀ 0 0 end noise out
+  pub room : 0 + length (linesOf (drain (reader .framing) (heldIn reader ++ chunk) .out .frames)) ≤ length out₀
+
+-- The noise of a chunk that is not refused is small.
+noise-small : (reader : Reader) (chunk : List ℕ) → feedRefusal reader 256 (length chunk) ≡ 0 →
+    drain (reader .framing) (heldIn reader ++ chunk) .out .noise ≤ 66053
+noise-small reader chunk e =
+    let l = feed-free reader (length chunk) e in
+    let size = simp length-append at (drain-is-sized (reader .framing) (heldIn reader ++ chunk)) in
+    omega (arith, held-few reader, limit-most (reader .framing))
+
+-- The next call from there.
+pub fed-again :
+    {reader : Reader} {chunk out₀ : List ℕ} {r : Reader} {done end noise : ℕ} {out buf buf′ : List ℕ} {fed : Fed} →
+    Midway reader chunk out₀ r done end noise out → Feeds r (drop done chunk) buf fed buf′ → length buf ≡ 256 →
+    Feeding reader chunk out₀ fed done end noise buf′ out
+fed-again {reader} {chunk} {out₀} {r} {done} {end} {noise} {out} {buf} m feeds full =
+    record {
+      r = r;
+      old = buf;
+      feeds = feeds;
+      full = full;
+      framing = m .framing;
+      inside = m .inside;
+      rest = m .rest;
+      progress = m .progress;
+      stays =
+          inl (m .free, feed-frees r (length (drop done chunk)) (m .within) (omega (arith, length-drop done chunk, feed-free reader (length chunk) (m .free) .1)));
+    }
+
+-- A state that counts no bytes holds none.
+none-held : (r : Reader) (s : List ℕ) → r .count ≡ 0 → heldIn r ++ s ≡ s
+none-held r s e = ap (λ (n : ℕ). take n (r .held) ++ s) e
+
+-- Where nothing is held there, all that follows has room.
+pub clean-room :
+    {reader : Reader} {chunk out₀ : List ℕ} {r : Reader} {done end noise : ℕ} {out : List ℕ} →
+    Midway reader chunk out₀ r done end noise out → CanClean (r .framing) (r .count) chunk (spot done end noise) out
+clean-room {reader} {chunk} {out₀} {r} {done} {end} {noise} {out} m e =
+    let same : drain (reader .framing) (heldIn r ++ drop done chunk) ≡ behind (r .framing) chunk (spot done end noise) =
+    ap₂ (λ (f : Framing) (s : List ℕ). drain f s) (sym (m .framing)) (none-held r (drop done chunk) e) in
+    let room = going-room (m .room) (m .progress .text) in
+    let all = m .progress .noises in
+    record {
+      inside = m .inside;
+      small = feed-free reader (length chunk) (m .free) .1;
+      room = rw (← same) room;
+      few = rw (← same) (omega (arith, noise-small reader chunk (m .free)));
+    }
+
+-- And behind what is listed of it the calls go on.
+pub clean-step :
+    {reader : Reader} {chunk out₀ : List ℕ} {r : Reader} {done end noise : ℕ} {out out′ : List ℕ} {s : Spot} →
+    Midway reader chunk out₀ r done end noise out → Cleans (r .framing) (r .count) chunk (spot done end noise) out s out′ →
+    Midway reader chunk out₀ r (s .done) (s .end) (s .noise) out′
+    × (length (drain (r .framing) (heldIn r ++ drop (s .done) chunk) .out .frames) ≤ length (drain (r .framing) (heldIn r ++ drop done chunk) .out .frames))
+clean-step {reader} {chunk} {out₀} {r} {done} {end} {noise} {out} {out′} {s} m k = by (r .count) refl
+  where
+    by : (n : ℕ) → r .count ≡ n →
+        Midway reader chunk out₀ r (s .done) (s .end) (s .noise) out′
+        × (length (drain (r .framing) (heldIn r ++ drop (s .done) chunk) .out .frames) ≤ length (drain (r .framing) (heldIn r ++ drop done chunk) .out .frames))
+    by zero e =
+        let c = k .clean e in
+        let before-is : drain (reader .framing) (heldIn r ++ drop done chunk) ≡ behind (r .framing) chunk (spot done end noise) =
+        ap₂ (λ (f : Framing) (l : List ℕ). drain f l) (sym (m .framing)) (none-held r (drop done chunk) e) in
+        let after-is : drain (reader .framing) (heldIn r ++ drop (s .done) chunk) ≡ behind (r .framing) chunk s =
+        ap₂ (λ (f : Framing) (l : List ℕ). drain f l) (sym (m .framing)) (none-held r (drop (s .done) chunk) e) in (
+          record {
+            framing = m .framing;
+            within = m .within;
+            free = m .free;
+            inside = c .inside;
+            rest = ap (λ (st : Settled). st .rest) after-is ∙ c .rest ∙ sym (ap (λ (st : Settled). st .rest) before-is) ∙ m .rest;
+            progress =
+                record {
+                  text =
+                      subst (λ (st : Settled). Going out₀ 0 (linesOf (drain (reader .framing) (heldIn reader ++ chunk) .out .frames)) (linesOf (st .out .frames)) (s .end) out′)
+                      (sym after-is)
+                      (going-on (m .room)
+                      (subst (λ (st : Settled). Going out₀ 0 (linesOf (drain (reader .framing) (heldIn reader ++ chunk) .out .frames)) (linesOf (st .out .frames)) end out) before-is (m .progress .text))
+                      (c .progress .text));
+                  noises =
+                      omega (
+                        arith,
+                        ap (λ (st : Settled). st .out .noise) after-is,
+                        ap (λ (st : Settled). st .out .noise) before-is,
+                        c .progress .noises,
+                        m .progress .noises,
+                      );
+                };
+            room = m .room;
+          },
+          rw (none-held r (drop (s .done) chunk) e, none-held r (drop done chunk) e) (c .fewer),
+        )
+    by (suc n) e =
+        let same = k .stays (λ (z : r .count ≡ 0). absurd (omega arith)) in (
+          subst (λ (x : Spot). Midway reader chunk out₀ r (x .done) (x .end) (x .noise) out′) (sym (same .0))
+              (subst (λ (o : List ℕ). Midway reader chunk out₀ r done end noise o) (sym (same .1)) m),
+          rw (same .0) (omega arith),
+        )
 
 module _ {reader : Reader} {chunk out₀ : List ℕ} {fed : Fed} {done end noise : ℕ} {buf out : List ℕ} (g : Feeding reader chunk out₀ fed done end noise buf out) where
   abbrev whole : Output (List ℕ)
@@ -272,27 +378,22 @@ module _ {reader : Reader} {chunk out₀ : List ℕ} {fed : Fed} {done end noise
           omega (arith, ap (λ (o : Output (List ℕ)). o .noise) out-left) in
           omega (arith, progress-noise (g .progress) more l)
 
-      -- The next call.
-      pub feeding-next :
-          {next : ℕ} {after buf′ : List ℕ} {fed′ : Fed} → Puts out end (lineOf (take len buf)) next after →
-          Feeds (fed .reader) (drop (done + taken) chunk) buf fed′ buf′ → length buf ≡ 256 →
-          Feeding reader chunk out₀ fed′ (done + taken) next (noise + more) buf′ after
-      feeding-next p feeds full =
+      -- Behind it the calls go on.
+      pub frame-step :
+          {next : ℕ} {after : List ℕ} → Puts out end (lineOf (take len buf)) next after →
+          Midway reader chunk out₀ (fed .reader) (done + taken) next (noise + more) after
+      frame-step p =
           let old = feed-free (g .r) (length (drop done chunk)) (free not-refused .1) in
           let kept = feed-stays-in-limit (g .r) (drop done chunk) (g .old) fed buf (g .feeds) (old .0) in
-          let small = feed-free reader (length chunk) (free not-refused .0) .1 in
           record {
-            r = fed .reader;
-            old = buf;
-            feeds = feeds;
-            full = full;
             framing = kept .0 ∙ g .framing;
+            within = rw (kept .0) (kept .1);
+            free = free not-refused .0;
             inside = frame-taken;
             rest = sym (ap (λ (st : Settled). st .rest) frame-left) ∙ g .rest;
             progress =
                 progress-frame (g .progress) (fits-room not-refused h) (take len buf) more (left (drop (done + taken) chunk)) out-left p;
-            stays =
-                inl (free not-refused .0, feed-frees (fed .reader) (length (drop (done + taken) chunk)) (rw (kept .0) (kept .1)) (omega (arith, length-drop (done + taken) chunk)));
+            room = fits-room not-refused h;
           }
 
   -- More bytes are needed.
@@ -330,7 +431,7 @@ module _ {reader : Reader} {chunk out₀ : List ℕ} {fed : Fed} {done end noise
         record {
           refuses = λ z. absurd (true≢false (sym (ap (λ (k : ℕ). eqb k 0) number) ∙ z));
           answers = λ z. (
-            ap valuesOf ea ∙ (λ i. record { number = 0; len = front .0 i; noise = done-all .1 i }),
+            ap valuesOf ea ∙ (λ i. record { number = 0; len = front .0 i; noise = (done-all .1 ∙ zero-add (whole .noise)) i }),
             subst (Holds (reader .framing) (drain (reader .framing) (heldIn reader ++ chunk) .rest)) (sym er)
                 (subst (λ (l : List ℕ). Holds (reader .framing) l (fed .reader)) (sym (ap (λ (st : Settled). st .rest) (more-left .0)) ∙ g .rest) (more-left .1)),
             front .1,
@@ -384,13 +485,15 @@ left-most r chunk old buf fed done (FeedFrame taken more len) feeds e =
 left-most r chunk old buf fed done (NeedsMore taken more) feeds e = omega arith
 left-most r chunk old buf fed done (FeedRefused refusal) feeds e = omega arith
 
--- Behind a frame's answer they are fewer.
+-- Behind a frame's answer they are fewer, the more so behind others that were listed.
 pub left-less :
-    (chunk buf buf′ : List ℕ) (fed fed′ : Fed) (done : ℕ) {taken more len : ℕ} → fed .answer ≡ FeedFrame taken more len →
-    Feeds (fed .reader) (drop (done + taken) chunk) buf fed′ buf′ →
-    leftAt (fed′ .answer) (fed′ .reader) chunk (done + taken) < leftAt (fed .answer) (fed .reader) chunk done
-left-less chunk buf buf′ fed fed′ done {taken} e feeds =
-    rw e (suc-le-suc (left-most (fed .reader) chunk buf buf′ fed′ (done + taken) (fed′ .answer) feeds refl))
+    (chunk buf buf′ : List ℕ) (fed fed′ : Fed) (done later : ℕ) {taken more len : ℕ} → fed .answer ≡ FeedFrame taken more len →
+    Feeds (fed .reader) (drop later chunk) buf fed′ buf′ →
+    length (drain (fed .reader .framing) (heldIn (fed .reader) ++ drop later chunk) .out .frames)
+    ≤ length (drain (fed .reader .framing) (heldIn (fed .reader) ++ drop (done + taken) chunk) .out .frames) →
+    leftAt (fed′ .answer) (fed′ .reader) chunk later < leftAt (fed .answer) (fed .reader) chunk done
+left-less chunk buf buf′ fed fed′ done later e feeds l =
+    rw e (suc-le-suc (le-trans (left-most (fed .reader) chunk buf buf′ fed′ later (fed′ .answer) feeds refl) l))
 
 -- A buffer that is too short.
 pub chunk-refused :
@@ -456,7 +559,7 @@ pub record Quieting (reader : Reader) (out₀ : List ℕ) (q : Quieted) (end noi
   pub quiets : Quiets r old q buf
   pub full : length old ≡ 256
   pub framing : r .framing ≡ reader .framing
-  pub progress : Progress (ruled (reader .framing) reader) (ruled (reader .framing) r) out₀ end noise out
+  pub progress : Progress (ruled (reader .framing) reader) (ruled (reader .framing) r) out₀ 0 0 end noise out
   pub stays : ((quietRefusal reader 256 ≡ 0) × (quietRefusal r 256 ≡ 0)) ⊎ ((r ≡ reader) × (out ≡ out₀))
 
 -- The first call.
@@ -468,7 +571,7 @@ quieting reader buf₀ buf out q quiets full =
       quiets = quiets;
       full = full;
       framing = refl;
-      progress = progress (ruled (reader .framing) reader) out;
+      progress = progress (ruled (reader .framing) reader) out 0 0;
       stays = inr (refl, refl);
     }
 
@@ -561,7 +664,7 @@ module _ {reader : Reader} {out₀ : List ℕ} {q : Quieted} {end noise : ℕ} {
         record {
           refuses = λ z. absurd (true≢false (sym (ap (λ (k : ℕ). eqb k 0) number) ∙ z));
           answers = λ z. (
-            ap valuesOf ea ∙ (λ i. record { number = 0; len = front .0 i; noise = all .1 i }),
+            ap valuesOf ea ∙ (λ i. record { number = 0; len = front .0 i; noise = (all .1 ∙ zero-add (ruled (reader .framing) reader .noise)) i }),
             er ∙ empty-left .1,
             front .1,
           );

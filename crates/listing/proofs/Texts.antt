@@ -14,14 +14,7 @@ use lib.Seq.{getD-set-same, getD-set-other, drop-cons}
 use Rattle.frame.specs.Ascii.{digitOf, hex}
 use Rattle.message.specs.Parts.{Puts}
 use Rattle.message.proofs.Putting.{puts-none, puts-append, puts-length, puts-two}
-use Rattle.listing.specs.Parts.{Pairs, spaceIf, fields}
-
--- Part of a text is put into a buffer, and the rest is to follow.
-pub record Going (out₀ : List ℕ) (at : ℕ) (whole rest : List ℕ) (end : ℕ) (out : List ℕ) : Type 0 where
-  pub done : List ℕ
-  pub puts : Puts out₀ at done end out
-  pub all : done ++ rest ≡ whole
-  pub long : length out ≡ length out₀
+use Rattle.listing.specs.Parts.{Pairs, spaceIf, fields, Going}
 
 -- Nothing is put yet.
 pub going : (out : List ℕ) (at : ℕ) {whole rest : List ℕ} → rest ≡ whole → Going out at whole rest at out
@@ -124,3 +117,15 @@ pub going-part :
     {out₀ whole out : List ℕ} {at end : ℕ} (part rest : List ℕ) → at + length whole ≤ length out₀ → Going out₀ at whole (part ++ rest) end out →
     end + length part ≤ length out
 going-part part rest room g = omega (arith, simp length-append at (going-room room g))
+
+-- Some parts, and then others.
+pub going-on :
+    {out₀ out after whole rest left : List ℕ} {at end next : ℕ} → at + length whole ≤ length out₀ → Going out₀ at whole rest end out →
+    Going out end rest left next after → Going out₀ at whole left next after
+going-on {out₀} {out} {after} {whole} {rest} {left} room g h =
+    record {
+      done = g .done ++ h .done;
+      puts = puts-append (omega arith) (g .puts) (h .puts);
+      all = append-assoc (g .done) (h .done) left ∙ ap (λ (s : List ℕ). g .done ++ s) (h .all) ∙ g .all;
+      long = h .long ∙ g .long;
+    }

@@ -76,7 +76,7 @@ remoteLine m =
 unfoldable pub refusalLine : ℕ → List ℕ
 refusalLine n = text "refused " ++ decimal n
 
--- The line of what a payload p means.
+-- The line of a message with data, and of one without.
 abbrev pub deliveryLine : Delivery → List ℕ → List ℕ
 deliveryLine (SimpleDelivery m) dat = simpleLine m dat
 deliveryLine (ExtendedDelivery m) dat = receptionLine m dat
@@ -86,6 +86,7 @@ noticeLine (IsResponse m) = responseLine m
 noticeLine (Standard m) = standardLine m
 noticeLine (Remote m) = remoteLine m
 
+-- The line of what a payload p means.
 abbrev pub meaningLine : List ℕ → Meaning Delivery Notice → List ℕ
 meaningLine p (refused n) = refusalLine n
 meaningLine p (carrying m start) = deliveryLine m (drop start p)

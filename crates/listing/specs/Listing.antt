@@ -44,7 +44,7 @@ pub record Promise (number : ℕ) (o : Output (List ℕ)) (Next : Reader → Typ
       (valuesOf (a .answer) ≡ record { number = 0; len = length (linesOf (o .frames)); noise = o .noise })
       × Next (a .reader) × (out′ ≡ inFront (linesOf (o .frames)) out)
 
--- The refusals of a chunk: 13, then those of a line call with a buffer of 256 bytes.
+-- The refusals of a chunk: 13 for a buffer under 132,106 bytes, twice a chunk's most and the bytes held, then the line call's own: 16, 15.
 abbrev pub chunkRefusal : Reader → ℕ → ℕ → ℕ
 chunkRefusal r room size = cond (leb 132106 room) (feedRefusal r 256 size) 13
 
@@ -54,7 +54,7 @@ ListsChunk r chunk out a out′ =
     let d : Settled = drain (r .framing) (heldIn r ++ chunk) in
     Promise (chunkRefusal r (length out) (length chunk)) (d .out) (Holds (r .framing) (d .rest)) r out a out′
 
--- The refusals of a quiet: 13, then those of a quiet call with a buffer of 256 bytes.
+-- The refusals of a quiet: 13 for a buffer under 1,034 bytes, twice the bytes held, then the quiet call's own: 16.
 abbrev pub endRefusal : Reader → ℕ → ℕ
 endRefusal r room = cond (leb 1034 room) (quietRefusal r 256) 13
 
@@ -63,24 +63,26 @@ abbrev pub ListsQuiet : Reader → List ℕ → Listed → List ℕ → Type 0
 ListsQuiet r out a out′ =
     Promise (endRefusal r (length out)) (payloads (rule (r .framing) (heldIn r))) (λ r′. r′ ≡ newReader (r .framing)) r out a out′
 
--- The total of noise.
+-- The total of noise: 13 for a buffer under 27 bytes, which any 64-bit number's line fits in.
 pub record ListsTotal (noise : ℕ) (out : List ℕ) (a : WriteAnswer) (out′ : List ℕ) : Type 0 where
   pub answers : writingOf a ≡ cond (leb 27 (length out)) (record { number = 0; len = length (noiseLine noise) }) (noWriting 13)
   pub leaves : out′ ≡ cond (leb 27 (length out)) (inFront (noiseLine noise) out) out
 
--- The text is within the buffer, and the noise of a chunk or a quiet is no more than its bytes and those held.
+-- The text is within the buffer, which keeps its length. A chunk has at most 65,536 bytes of noise and 517 that were held, a quiet 517.
 abbrev pub ChunkIsSmall : Type 0
 ChunkIsSmall =
     (r : Reader) (chunk out : List ℕ) (a : Listed) (out′ : List ℕ) → ListsChunk r chunk out a out′ →
-    (valuesOf (a .answer) .len ≤ length out′) × (valuesOf (a .answer) .noise ≤ 66053)
+    (valuesOf (a .answer) .len ≤ length out) × (length out′ ≡ length out) × (valuesOf (a .answer) .noise ≤ 66053)
 
 abbrev pub QuietIsSmall : Type 0
 QuietIsSmall =
     (r : Reader) (out : List ℕ) (a : Listed) (out′ : List ℕ) → ListsQuiet r out a out′ →
-    (valuesOf (a .answer) .len ≤ length out′) × (valuesOf (a .answer) .noise ≤ 517)
+    (valuesOf (a .answer) .len ≤ length out) × (length out′ ≡ length out) × (valuesOf (a .answer) .noise ≤ 517)
 
 abbrev pub TotalIsSmall : Type 0
-TotalIsSmall = (noise : ℕ) (out : List ℕ) (a : WriteAnswer) (out′ : List ℕ) → ListsTotal noise out a out′ → writingOf a .len ≤ length out′
+TotalIsSmall =
+    (noise : ℕ) (out : List ℕ) (a : WriteAnswer) (out′ : List ℕ) → ListsTotal noise out a out′ →
+    (writingOf a .len ≤ length out) × (length out′ ≡ length out)
 
 -- What the chunks of a segment give where `held` is held before them, and then its quiet.
 abbrev pub given : Framing → List ℕ → List (List ℕ) → Output (List ℕ)
@@ -96,3 +98,27 @@ abbrev pub ExampleIsListed : Type 0
 ExampleIsListed =
     listing Ascii (text "ab:00010203FA" ++ (carriageReturn ∷ lineFeed ∷ (text ":DBA1120171" ++ (carriageReturn ∷ lineFeed ∷ []))))
     ≡ text "simple 00 01 0203" ++ (lineFeed ∷ (text "response 12 ok" ++ (lineFeed ∷ (text "noise 2" ++ (lineFeed ∷ [])))))
+
+-- A line of each kind, from frames of these payloads.
+abbrev pub payloadsShown : List (List ℕ)
+payloadsShown =
+    (0x78 ∷ 0x00 ∷ [])
+    ∷ (0x00 ∷ 0xA0 ∷ 0xFE ∷ 0x00 ∷ 0x00 ∷ 0x00 ∷ 0x00 ∷ 0x00 ∷ 0x00 ∷ 0x01 ∷ 0x01 ∷ 0x0A ∷ 0x00 ∷ 0x02 ∷ 0x11 ∷ 0xBC ∷ [])
+    ∷ (0xDB ∷ 0xA1 ∷ 0x13 ∷ 0x00 ∷ [])
+    ∷ (0x78 ∷ 0x81 ∷ 0x15 ∷ 0x01 ∷ 0x75 ∷ 0x81 ∷ 0x00 ∷ 0x00 ∷ 0x38 ∷ 0x00 ∷ 0x26 ∷ 0xC9 ∷ 0x00 ∷ 0x0C ∷ 0x04 ∷ 0x22 ∷ 0x01 ∷ 0x00
+    ∷ 0xFF ∷ 0xFF ∷ 0xFF ∷ 0xFF ∷ 0xFF ∷ [])
+    ∷ (0x78 ∷ 0x81 ∷ 0x0F ∷ 0x01 ∷ 0x75 ∷ 0x81 ∷ 0x00 ∷ 0x00 ∷ 0x38 ∷ 0x00 ∷ 0x26 ∷ 0xC9 ∷ 0x00 ∷ 0xBE ∷ 0xEF ∷ 0x00 ∷ 0x01 ∷ 0x00 ∷ 0x00
+    ∷ 0x00 ∷ [])
+    ∷ (0x01 ∷ [])
+    ∷ (0xDB ∷ 0xA1 ∷ 0x01 ∷ 0x02 ∷ [])
+    ∷ []
+
+abbrev pub KindsAreListed : Type 0
+KindsAreListed =
+    linesOf payloadsShown
+    ≡ text "simple 78 00 -"
+    ++ (lineFeed ∷ (text "extended 00 FE 00000000 00000101 0A 11BC"
+    ++ (lineFeed ∷ (text "response 13 fail"
+    ++ (lineFeed ∷ (text "standard 78 81000038 75 0C04 01"
+    ++ (lineFeed ∷ (text "remote 78 81000038 75 BEEF"
+    ++ (lineFeed ∷ (text "refused 7" ++ (lineFeed ∷ (text "refused 11" ++ (lineFeed ∷ [])))))))))))))

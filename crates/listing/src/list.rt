@@ -4,11 +4,13 @@ use crate::put::pairs;
 use crate::put::put_decimal;
 use crate::put::put_text;
 use frame::FeedAnswer;
+use frame::Framing;
 use frame::QuietAnswer;
 use frame::Reader;
 use frame::Refusal;
 use frame::WriteAnswer;
 ghost use mathlib.Core.Path.{_≡_};
+ghost use Rattle.listing.specs.Parts.{Pairs, spot, CanClean, Cleans};
 ghost use Rattle.listing.specs.Listing.{ListsChunk, ListsQuiet, ListsTotal};
 
 // The room that the text of any chunk, of any quiet, and of any total fits in.
@@ -30,6 +32,19 @@ pub struct Listed {
     pub answer: ListAnswer,
 }
 
+// Where the listing of a chunk stands: the bytes of the chunk that are taken, the end of the text, and the bytes of noise.
+struct Spot {
+    done: usize,
+    end: usize,
+    noise: usize,
+}
+
+fn spot_at(done: usize, end: usize, noise: usize) -> Spot
+    ensures { λ r. ⌜ r ≡ spot done end noise ⌝ }
+{
+    Spot { done, end, noise }
+}
+
 fn lines(reader: Reader, len: usize, noise: usize) -> Listed
     ensures { λ r. ⌜ (r .reader ≡ reader) × (r .answer ≡ ListAnswer.Lines len noise) ⌝ }
 {
@@ -48,6 +63,42 @@ fn refused(reader: Reader, refusal: Refusal) -> Listed
     }
 }
 
+// Lists the frames from the spot on, where `held` bytes are held, as long as none is held before or behind them, and gives the spot behind them. These are
+// nearly all frames of a line, and for them no state is made or copied.
+fn list_clean(
+    table: &[u8; 512],
+    framing: Framing,
+    held: usize,
+    chunk: &[u8],
+    start: Spot,
+    out: &mut [u8],
+) -> Spot
+    requires { ⌜ (Pairs (now table)) × (CanClean framing held (now chunk) start (now out)) ⌝ }
+    ensures { λ r. ⌜ Cleans framing held (now (chunk .entry)) start (now (out .entry)) r (now (out .exit)) ⌝ }
+{
+    if held != 0 {
+        return start;
+    }
+    let mut buf = [0u8; 256];
+    let mut done = start.done;
+    let mut end = start.end;
+    let mut total = start.noise;
+    loop {
+        let first = Reader::first(framing, &chunk[done..], &mut buf);
+        let answer = first.answer;
+        let FeedAnswer::Frame { taken, noise, len } = answer else {
+            return spot_at(done, end, total);
+        };
+        if first.from != first.end {
+            return spot_at(done, end, total);
+        }
+        let whole = &buf[..];
+        end = put_line(table, &whole[..len], out, end);
+        done += taken;
+        total += noise;
+    }
+}
+
 // Feeds a chunk to the reader to its end, and puts a line for each frame into the front of out, whose other bytes stay. Refused with 13 where out has
 // under CHUNK_ROOM bytes, then with 16 and 15 as `feed` is; a refusal leaves state and buffer.
 pub fn list_chunk(reader: Reader, chunk: &[u8], out: &mut [u8]) -> Listed
@@ -59,22 +110,23 @@ pub fn list_chunk(reader: Reader, chunk: &[u8], out: &mut [u8]) -> Listed
     let table = pairs();
     let mut buf = [0u8; 256];
     let mut fed = reader.feed(chunk, &mut buf);
-    let mut done: usize = 0;
-    let mut end: usize = 0;
-    let mut total: usize = 0;
+    let mut spot = spot_at(0, 0, 0);
     loop {
         let answer = fed.answer;
         match answer {
             FeedAnswer::Frame { taken, noise, len } => {
                 let whole = &buf[..];
-                end = put_line(&table, &whole[..len], out, end);
-                done += taken;
-                total += noise;
+                let end = put_line(&table, &whole[..len], out, spot.end);
+                let next = spot_at(spot.done + taken, end, spot.noise + noise);
+                let state = fed.reader;
+                let framing = state.framing;
+                spot = list_clean(&table, framing, state.count, chunk, next, out);
+                let done = spot.done;
                 fed = fed.reader.feed(&chunk[done..], &mut buf);
             }
             FeedAnswer::NeedsMore { taken: _, noise } => {
                 let reader = fed.reader;
-                return lines(reader, end, total + noise);
+                return lines(reader, spot.end, spot.noise + noise);
             }
             FeedAnswer::Refused(refusal) => {
                 let reader = fed.reader;

@@ -11,7 +11,9 @@ list-quiet-requires : tie.Need-list-quiet-requires
 list-quiet-requires c κs = search needs
 
 write-text-requires : tie.Need-write-text-requires
-write-text-requires c κs = quiet-is-small _ _ _ _ (c .before .before .before .list-quiet .ensures) .0
+write-text-requires c κs =
+    let q = quiet-is-small _ _ _ _ (c .before .before .before .list-quiet .ensures) in
+    omega (arith, q .0, q .1)
 
 same-length : tie.Need-same-length
 same-length c = search needs
@@ -23,7 +25,7 @@ noise-of-requires : tie.Need-noise-of-requires
 noise-of-requires c κs = search needs
 
 add-list-total : tie.Need-add-list-total
-add-list-total c = omega (arith, c .before .before .before .before .before .before .before .before .before .pre, c .noise-of .ensures, quiet-is-small _ _ _ _ (c .before .before .before .before .before .before .list-quiet .ensures) .1)
+add-list-total c = omega (arith, c .before .before .before .before .before .before .before .before .before .pre, c .noise-of .ensures, quiet-is-small _ _ _ _ (c .before .before .before .before .before .before .list-quiet .ensures) .2)
 
 list-total-requires : tie.Need-list-total-requires
 list-total-requires c κs = search needs
@@ -32,10 +34,14 @@ enum-known-len : tie.Need-enum-known-len
 enum-known-len c = search needs
 
 slice-reshare-prefix-write-all : tie.Need-slice-reshare-prefix-write-all
-slice-reshare-prefix-write-all c = omega (arith, rw (c .before .len .given .1) at (total-is-small _ _ _ _ (c .before .before .before .before .before .list-total .ensures)))
+slice-reshare-prefix-write-all c =
+    let t = total-is-small _ _ _ _ (c .before .before .before .before .before .list-total .ensures) in
+    omega (arith, rw (c .before .len .given .1) at (t .0), t .1)
 
 slice-aggregate-write-all : tie.Need-slice-aggregate-write-all
-slice-aggregate-write-all c = front _ (c .before .before .before .before .before .before .list-total .last .1 .0) (rw (c .before .before .len .given .1) at (total-is-small _ _ _ _ (c .before .before .before .before .before .before .list-total .ensures)))
+slice-aggregate-write-all c =
+    let t = total-is-small _ _ _ _ (c .before .before .before .before .before .before .list-total .ensures) in
+    front _ (c .before .before .before .before .before .before .list-total .last .1 .0) (omega (arith, rw (c .before .before .len .given .1) at (t .0), t .1))
 
 write-all-requires : tie.Need-write-all-requires
 write-all-requires c κs = search needs

@@ -62,7 +62,9 @@ slice-aggregate-write-text : tie.Need-slice-aggregate-write-text Inv-loop μ-loo
 slice-aggregate-write-text c = sym (c .before .before .list-chunk .kept .1 .1 .0 ∙ c .before .before .before .before .before .before .before .before .before .before .before .before .loop .inv .1)
 
 write-text-requires : tie.Need-write-text-requires Inv-loop μ-loop
-write-text-requires c κs = chunk-is-small _ _ _ _ _ (c .before .before .list-chunk .ensures) .0
+write-text-requires c κs =
+    let q = chunk-is-small _ _ _ _ _ (c .before .before .list-chunk .ensures) in
+    omega (arith, q .0, q .1)
 
 returns-2 : tie.Need-returns-2 Inv-loop μ-loop
 returns-2 c = search needs
@@ -71,7 +73,7 @@ noise-of-requires : tie.Need-noise-of-requires Inv-loop μ-loop
 noise-of-requires c κs = search needs
 
 add-noise : tie.Need-add-noise Inv-loop μ-loop
-add-noise c = omega (arith, c .noise-of .ensures, chunk-is-small _ _ _ _ _ (c .before .before .before .before .before .list-chunk .ensures) .1, c .before .before .before .before .before .before .before .before .before .before .before .before .before .before .before .loop .inv .2, c .before .before .before .before .before .before .before .before .before .before .before .before .before .before .loop-test .taken)
+add-noise c = omega (arith, c .noise-of .ensures, chunk-is-small _ _ _ _ _ (c .before .before .before .before .before .list-chunk .ensures) .2, c .before .before .before .before .before .before .before .before .before .before .before .before .before .before .before .loop .inv .2, c .before .before .before .before .before .before .before .before .before .before .before .before .before .before .loop-test .taken)
 
 sub-reads : tie.Need-sub-reads Inv-loop μ-loop
 sub-reads c = search needs
@@ -83,7 +85,7 @@ loop-again : tie.Need-loop-again Inv-loop μ-loop
 loop-again c = (
   c .before .before .before .before .before .before .before .before .before .before .before .before .before .read .kept .1 .0 ∙ c .before .before .before .before .before .before .before .before .before .before .before .before .before .before .before .before .loop .inv .0,
   c .before .before .before .before .before .before .list-chunk .kept .1 .1 .0 ∙ c .before .before .before .before .before .before .before .before .before .before .before .before .before .before .before .before .loop .inv .1,
-  omega (arith, c .before .noise-of .ensures, chunk-is-small _ _ _ _ _ (c .before .before .before .before .before .before .list-chunk .ensures) .1, c .before .before .before .before .before .before .before .before .before .before .before .before .before .before .before .before .loop .inv .2, c .before .before .before .before .before .before .before .before .before .before .before .before .before .before .before .loop-test .taken),
+  omega (arith, c .before .noise-of .ensures, chunk-is-small _ _ _ _ _ (c .before .before .before .before .before .before .list-chunk .ensures) .2, c .before .before .before .before .before .before .before .before .before .before .before .before .before .before .before .before .loop .inv .2, c .before .before .before .before .before .before .before .before .before .before .before .before .before .before .before .loop-test .taken),
 )
 
 slice-aggregate-finish-2 : tie.Need-slice-aggregate-finish-2 Inv-loop μ-loop

@@ -5,7 +5,8 @@ use Prim.Native.Nat.{zero-le}
 use mathlib.Core.Path.{subst}
 use borrow.Author.Needs.{needs}
 use lib.ListN.{length}
-use Rattle.frame.specs.Scan.{Scanned, scanned, calledBy, Tells}
+use Rattle.frame.specs.Scan.{Scanned, scanned, calledBy}
+use Rattle.frame.specs.Reader.{Tells}
 use Rattle.frame.proofs.Readers.{answerable}
 use Rattle.frame.proofs.reader.feed_chunk.Statement.{statement}
 use Rattle.frame.proofs.reader.feed_chunk.Tie as tie

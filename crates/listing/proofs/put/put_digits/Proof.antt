@@ -7,7 +7,8 @@ use mathlib.Core.Path.{refl}
 use borrow.Author.Needs.{needs}
 use lib.ListN.{length, drop}
 use Rattle.frame.specs.Ascii.{hex}
-use Rattle.listing.proofs.Texts.{Going, going, going-room, going-next, going-done, hex-next, drop-all}
+use Rattle.listing.specs.Parts.{Going}
+use Rattle.listing.proofs.Texts.{going, going-room, going-next, going-done, hex-next, drop-all}
 use Rattle.listing.proofs.put.put_digits.Statement.{statement}
 use Rattle.listing.proofs.put.put_digits.Tie as tie
 

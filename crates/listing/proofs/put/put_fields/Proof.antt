@@ -6,8 +6,8 @@ use native.Mathlib.Omega.{arith}
 use mathlib.Core.Path.{refl}
 use borrow.Author.Needs.{needs}
 use lib.ListN.{length, drop, length-append}
-use Rattle.listing.specs.Parts.{fields}
-use Rattle.listing.proofs.Texts.{Going, going, going-room, going-next, going-done, fields-next, drop-all}
+use Rattle.listing.specs.Parts.{fields, Going}
+use Rattle.listing.proofs.Texts.{going, going-room, going-next, going-done, fields-next, drop-all}
 use Rattle.listing.proofs.put.put_fields.Statement.{statement}
 use Rattle.listing.proofs.put.put_fields.Tie as tie
 
