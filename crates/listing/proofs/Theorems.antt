@@ -51,16 +51,18 @@ module _ {number : ℕ} {o : Output (List ℕ)} {Next : Reader → Type 0} {r : 
   small : (none : Bool) → eqb number 0 ≡ none → (most : ℕ) → (number ≡ 0 → Small most) →
       (valuesOf (a .answer) .len ≤ length out) × (length out′ ≡ length out) × (valuesOf (a .answer) .noise ≤ most)
   small false e most h =
-      let v = p .refuses e in
-      ( omega (arith, ap (λ (x : Values). x .len) (v .0)),
+      let v = p .refuses e in (
+        omega (arith, ap (λ (x : Values). x .len) (v .0)),
         ap length (v .2),
-        omega (arith, ap (λ (x : Values). x .noise) (v .0)))
+        omega (arith, ap (λ (x : Values). x .noise) (v .0)),
+      )
   small true e most h =
       let v = p .answers e in
-      let k = h (eqb-true number 0 e) in
-      ( omega (arith, ap (λ (x : Values). x .len) (v .0)),
+      let k = h (eqb-true number 0 e) in (
+        omega (arith, ap (λ (x : Values). x .len) (v .0)),
         ap length (v .2) ∙ simp (length-append, length-drop) (omega arith),
-        omega (arith, ap (λ (x : Values). x .noise) (v .0)))
+        omega (arith, ap (λ (x : Values). x .noise) (v .0)),
+      )
 
 -- A refusal number of 0 is the second test's, and the first is passed.
 passed : (room most n : ℕ) → cond (leb most room) n 13 ≡ 0 → (most ≤ room) × (n ≡ 0)
