@@ -1,13 +1,13 @@
 -- What the calls behind booth-list promise, and what they print of a whole segment. Document 01, end of "Frames to check against": the input's end is
 -- the quiet.
-use Prim.Native.Nat.{ℕ, _≤_}
+use Prim.Native.Nat.{ℕ, _+_, _≤_}
 use mathlib.Core.Path.{_≡_}
 use mathlib.Core.List.{List, [], _∷_, _++_}
 use mathlib.Core.Bool.{true, false, cond}
 use lib.Dec.{leb, eqb}
-use lib.ListN.{length}
+use lib.ListN.{length, take}
 use Rattle.frame.specs.Ascii.{carriageReturn, lineFeed}
-use Rattle.frame.specs.Framing.{inFront}
+use Rattle.frame.specs.Framing.{limit, inFront}
 use Rattle.frame.specs.Refusal.{numberOf}
 use Rattle.frame.specs.Rule.{Output, join, rule, payloads}
 use Rattle.frame.specs.Reader.{Settled, heldIn, newReader, Holds, feedRefusal, quietRefusal}
@@ -92,6 +92,32 @@ given f held (chunk ∷ chunks) = let d : Settled = drain f (held ++ chunk) in j
 -- However a segment is cut into chunks, the lines of all of them and of the quiet, and then the total of their noise, are the segment's listing.
 abbrev pub AnyCutIsListed : Type 0
 AnyCutIsListed = (f : Framing) (chunks : List (List ℕ)) → printed (given f [] chunks) ≡ listing f (concat chunks)
+
+-- A call was not refused.
+abbrev pub Listing : ListAnswer → Type 0
+Listing (Lines len noise) = Unit {0}
+Listing (Refused r) = ⊥
+
+-- A run over a segment's chunks from a reader's state: a call for each chunk that keeps the promise of `list_chunk` and gets the state that the last one gave
+-- back, then one that keeps that of `list_quiet`. What it prints is the text of each answer, in order, and its noise is their sum.
+pub data Run : Reader → List (List ℕ) → List ℕ → ℕ → Type 0 where
+  chunked : {r : Reader} {chunks : List (List ℕ)} {printed′ : List ℕ} {noise : ℕ} (chunk out out′ : List ℕ) (a : Listed) →
+      ListsChunk r chunk out a out′ → Listing (a .answer) → Run (a .reader) chunks printed′ noise →
+      Run r (chunk ∷ chunks) (take (valuesOf (a .answer) .len) out′ ++ printed′) (valuesOf (a .answer) .noise + noise)
+  quieted : {r : Reader} (out out′ : List ℕ) (a : Listed) → ListsQuiet r out a out′ → Listing (a .answer) →
+      Run r [] (take (valuesOf (a .answer) .len) out′) (valuesOf (a .answer) .noise)
+
+-- Whatever its chunks, a run from a new reader prints the segment's listing, with the line of its noise last.
+abbrev pub RunIsListing : Type 0
+RunIsListing =
+    (f : Framing) (chunks : List (List ℕ)) (text′ : List ℕ) (noise : ℕ) → Run (newReader f) chunks text′ noise →
+    text′ ++ noiseLine noise ≡ listing f (concat chunks)
+
+-- Whatever state a chunk is listed with, held bytes within the limit stay within it, and the framing stays: no later call refuses the state.
+abbrev pub ChunkStaysInLimit : Type 0
+ChunkStaysInLimit =
+    (r : Reader) (chunk out : List ℕ) (a : Listed) (out′ : List ℕ) → ListsChunk r chunk out a out′ → r .count ≤ limit (r .framing) →
+    (a .reader .framing ≡ r .framing) × (a .reader .count ≤ limit (r .framing))
 
 -- Document 01's example, byte for byte.
 abbrev pub ExampleIsListed : Type 0
