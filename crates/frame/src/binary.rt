@@ -89,17 +89,13 @@ pub(crate) fn judge(s: &[u8]) -> Judged
         return Judged::Undecided;
     }
     let word = wide(s[2]) * 256 + wide(s[3]);
+    let refusal = Refusal::Length;
+    let judged = 4;
     if word < 0x8001 {
-        return Judged::Failed {
-            refusal: Refusal::Length,
-            judged: 4,
-        };
+        return Judged::Failed { refusal, judged };
     }
     if 0x8100 < word {
-        return Judged::Failed {
-            refusal: Refusal::Length,
-            judged: 4,
-        };
+        return Judged::Failed { refusal, judged };
     }
     judge_body(s, word - 0x8000)
 }

@@ -114,11 +114,9 @@ pub(crate) fn scan(framing: Framing, s: &[u8], stop: usize, reach: usize, ended:
         match judge(framing, &s[place..]) {
             Judged::Undecided => {
                 if !ended {
-                    return ScanResult {
-                        place: place,
-                        reach: far,
-                        end: ScanEnd::Undecided,
-                    };
+                    let end = ScanEnd::Undecided;
+                    let reach = far;
+                    return ScanResult { place, reach, end };
                 }
                 far = larger(far, place);
             }
@@ -126,18 +124,14 @@ pub(crate) fn scan(framing: Framing, s: &[u8], stop: usize, reach: usize, ended:
                 far = larger(far, place + judged);
             }
             Judged::Frame { used, len } => {
-                return ScanResult {
-                    place: place,
-                    reach: larger(far, place + used),
-                    end: ScanEnd::Frame { used, len },
-                };
+                let end = ScanEnd::Frame { used, len };
+                let reach = larger(far, place + used);
+                return ScanResult { place, reach, end };
             }
         }
         place += 1;
     }
-    ScanResult {
-        place: place,
-        reach: far,
-        end: ScanEnd::Passed,
-    }
+    let end = ScanEnd::Passed;
+    let reach = far;
+    ScanResult { place, reach, end }
 }
