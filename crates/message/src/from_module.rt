@@ -13,7 +13,7 @@ use crate::write::write_parts;
 use frame::Framing;
 ghost use mathlib.Core.Path.{_≡_};
 ghost use Prim.Native.Nat.{_≤_};
-ghost use lib.ListN.{length};
+ghost use lib.ListN.{length, getD};
 ghost use Rattle.message.specs.FromModule.{fromModuleOf, readFromModule, responseMeaning, receptionMeaning, statusMeaning, standardMeaning, remoteMeaning};
 ghost use Rattle.message.specs.FromModule.{receptionRefusal, receptionLayout, deliveryRefusal, deliveryLayout, noticeRefusal, noticeLayout, outcomeByte};
 ghost use Rattle.message.specs.Status.{standardLayout, remoteLayout};
@@ -113,14 +113,11 @@ fn read_reception(payload: &[u8]) -> FromModule
     }
 }
 
-// Reads a standard status of 23 bytes.
+// Reads a standard status of 23 bytes, whose fixed byte is right.
 fn read_standard(payload: &[u8]) -> FromModule
-    requires { ⌜ length (now payload) ≡ 23 ⌝ }
+    requires { ⌜ (length (now payload) ≡ 23) × (getD (now payload) 3 0 ≡ 0x01) ⌝ }
     ensures { λ r. ⌜ fromModuleOf r ≡ standardMeaning (now (payload .entry)) ⌝ }
 {
-    if payload[3] != 0x01 {
-        return FromModule::Refused(Refusal::Field);
-    }
     FromModule::Notice(Notice::Standard(StandardStatus {
         sender: payload[0],
         identifier: payload[2],
@@ -141,17 +138,11 @@ fn read_standard(payload: &[u8]) -> FromModule
     }))
 }
 
-// Reads a remote status of 20 bytes.
+// Reads a remote status of 20 bytes, whose fixed bytes are right.
 fn read_remote(payload: &[u8]) -> FromModule
-    requires { ⌜ length (now payload) ≡ 20 ⌝ }
+    requires { ⌜ (length (now payload) ≡ 20) × (getD (now payload) 2 0 ≡ 0x0F) × (getD (now payload) 3 0 ≡ 0x01) ⌝ }
     ensures { λ r. ⌜ fromModuleOf r ≡ remoteMeaning (now (payload .entry)) ⌝ }
 {
-    if payload[2] != 0x0F {
-        return FromModule::Refused(Refusal::Field);
-    }
-    if payload[3] != 0x01 {
-        return FromModule::Refused(Refusal::Field);
-    }
     FromModule::Notice(Notice::Remote(RemoteStatus {
         sender: payload[0],
         lqi: payload[4],
@@ -166,15 +157,25 @@ fn read_remote(payload: &[u8]) -> FromModule
     }))
 }
 
-// Reads a status: the two are told apart by length.
+// Reads a status: the two are told apart by length. The fixed bytes are tested here, so that each message is made in one place, which the compiler
+// can follow to where it is used.
 fn read_status(payload: &[u8]) -> FromModule
     ensures { λ r. ⌜ fromModuleOf r ≡ statusMeaning (now (payload .entry)) ⌝ }
 {
     let len = payload.len();
     if len == 23 {
+        if payload[3] != 0x01 {
+            return FromModule::Refused(Refusal::Field);
+        }
         return read_standard(payload);
     }
     if len == 20 {
+        if payload[2] != 0x0F {
+            return FromModule::Refused(Refusal::Field);
+        }
+        if payload[3] != 0x01 {
+            return FromModule::Refused(Refusal::Field);
+        }
         return read_remote(payload);
     }
     FromModule::Refused(Refusal::Length)
@@ -200,17 +201,17 @@ pub fn read_from_module(payload: &[u8]) -> FromModule
     if !is_plain(address) {
         return FromModule::Refused(Refusal::Address);
     }
-    if command < 0x80 {
-        return FromModule::Delivery {
-            delivery: Delivery::Simple(Simple { address, command }),
-            start: 2,
-        };
-    }
     if command == 0x81 {
         return read_status(payload);
     }
     if command == 0xA0 {
         return read_reception(payload);
+    }
+    if command < 0x80 {
+        return FromModule::Delivery {
+            delivery: Delivery::Simple(Simple { address, command }),
+            start: 2,
+        };
     }
     FromModule::Refused(Refusal::Command)
 }

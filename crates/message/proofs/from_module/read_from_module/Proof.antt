@@ -1,5 +1,6 @@
 -- `message::from_module::read_from_module` meets its contract: each way out is one of the cases of what reading gives.
 -- Assumes nothing.
+use native.Mathlib.Omega.{arith}
 use borrow.Author.Needs.{needs}
 use mathlib.Core.Path.{_≡_, sym, _∙_}
 use borrow.Author.Tests.{not-true, not-false}
@@ -48,30 +49,29 @@ returns-4 c =
     module-address _ (d .before .if1 .left) (d .if2 .left) (e .before .if3 .left)
     (sym (e .is-plain .ensures) ∙ not-true (e .is-plain .result) (c .if4 .taken))
 
-returns-5 : tie.Need-returns-5
-returns-5 c = sender-simple _ (c .if5 .taken) ∙ plain (c .before)
-
 read-status-requires : tie.Need-read-status-requires
 read-status-requires c κs = search needs
 
-returns-6 : tie.Need-returns-6
-returns-6 c =
-    c .read-status .ensures
-    ∙ (sender-status _ (c .before .before .if5 .left) (c .before .if6 .taken) ∙ plain (c .before .before .before))
+returns-5 : tie.Need-returns-5
+returns-5 c =
+    c .read-status .ensures ∙ (sender-status _ (omega (arith, c .before .if5 .taken)) (c .before .if5 .taken) ∙ plain (c .before .before))
 
 read-reception-requires : tie.Need-read-reception-requires
 read-reception-requires c κs = search needs
 
-returns-7 : tie.Need-returns-7
-returns-7 c =
+returns-6 : tie.Need-returns-6
+returns-6 c =
     let d = c .before .before in
     c .read-reception .ensures
-    ∙ (sender-reception _ (d .before .if5 .left) (d .if6 .left) (c .before .if7 .taken) ∙ plain (d .before .before))
+    ∙ (sender-reception _ (omega (arith, c .before .if6 .taken)) (d .if5 .left) (c .before .if6 .taken) ∙ plain (d .before))
+
+returns-7 : tie.Need-returns-7
+returns-7 c = sender-simple _ (c .if7 .taken) ∙ plain (c .before .before .before)
 
 returns-8 : tie.Need-returns-8
 returns-8 c =
     let d = c .before in
-    sender-command _ (d .before .if5 .left) (d .if6 .left) (c .if7 .left) ∙ plain (d .before .before)
+    sender-command _ (c .if7 .left) (d .before .if5 .left) (d .if6 .left) ∙ plain (d .before .before)
 
 pub read-from-module-spec : {M : Type 1} → statement M
 read-from-module-spec =
@@ -85,9 +85,9 @@ read-from-module-spec =
     returns-3
     is-plain-requires
     returns-4
-    returns-5
     read-status-requires
-    returns-6
+    returns-5
     read-reception-requires
+    returns-6
     returns-7
     returns-8)
