@@ -4,17 +4,17 @@ use Prim.Native.Nat.{ℕ, suc, _+_, _-_, _*_, _/_, _%_, _≤_, _<_}
 use native.Mathlib.Nat.{add-sub-cancel-left}
 use native.Mathlib.Omega.{arith}
 use mathlib.Core.Logic.{_⊎_, inl, inr, ⊎-elim}
-use mathlib.Core.Path.{_≡_, sym, ap, ap₂, _∙_}
+use mathlib.Core.Path.{_≡_, refl, sym, ap, ap₂, _∙_}
 use mathlib.Core.List.{List, map, dropLast}
-use mathlib.Core.Bool.{true, false}
-use borrow.Author.Tests.{lt-leb, ne-eqb}
+use mathlib.Core.Bool.{Bool, true, false}
+use borrow.Author.Tests.{lt-leb, ne-eqb, eqb-true, eqb-false}
 use lib.Dec.{leb, eqb}
 use lib.ListN.{length, getD, take, drop, length-drop, length-map, take-append-drop}
 use lib.Seq.{drop-drop, getD-drop, length-take-le, split-at, take-all, take-take}
 use Rattle.frame.specs.Checks.{Checks, fails, Verdict, cut, refused, frame, behind, run}
 use Rattle.frame.specs.Ascii.{colon, carriageReturn, lineFeed, digitValue, sum, digits, digitCount, lineEnd, afterDigits, ascii}
 use Rattle.frame.specs.Judged.{decoded, digitRun, Digits}
-use Rattle.frame.proofs.Numbers.{and-fails}
+use Rattle.frame.proofs.Numbers.{and-fails, le-or-lt}
 use Rattle.frame.proofs.Lists.{drop-last-take}
 use Rattle.frame.proofs.Trees.{behind-behind, pass-byte, fail-byte, cut-byte}
 use Rattle.frame.proofs.AsciiLeaves.{Counted, counted, length-decoded, decoded-take}
@@ -128,12 +128,12 @@ pub record Summed (s : List ℕ) (count n : ℕ) : Type 0 where
   pub return : getD s (1 + count) 0 ≡ carriageReturn
   pub enough : 4 ≤ count
   pub even : count % 2 ≡ 0
-  pub sum-is : n ≡ sum (decoded (take (1 + count - 1) (drop 1 s)))
+  pub sum-is : n ≡ sum (decoded (take count (drop 1 s)))
 
 module _ {s : List ℕ} {count n : ℕ} (h : Summed s count n) where
   -- The sum modulo 256.
   line-sum : n % 256 ≡ sum (decoded (take count (drop 1 s))) % 256
-  line-sum = ap (λ (k : ℕ). k % 256) (h .sum-is) ∙ ap (λ (k : ℕ). sum (decoded (take k (drop 1 s))) % 256) (add-sub-cancel-left 1 count)
+  line-sum = ap (λ (k : ℕ). k % 256) (h .sum-is)
 
   -- The count passes.
   line-enough : digitCount (length (map digitValue (take count (drop 1 s)))) ≡ true
@@ -172,6 +172,35 @@ module _ {s : List ℕ} {count n : ℕ} (h : Summed s count n) where
         line-ends
         ∙ ap (behind (1 + suc count)) (pass-byte lineFeed 5 _ s (1 + count + 1) l f)
         ∙ ap₂ frame (omega arith) (payload-is (drop 1 s) count (line-digits (h .stopped)))
+
+-- Where a frame stands there, its payload is what the digits but the last two stand for.
+pub line-payload :
+    {s : List ℕ} {count n : ℕ} → Summed s count n → (used : ℕ) (p : List ℕ) → line s ≡ frame used p →
+    p ≡ decoded (take (2 * (count / 2 - 1)) (drop 1 s))
+line-payload {s} {count} {n} h used p e =
+    by-test (eqb (n % 256) 0)
+    (λ z.
+    ⊎-elim (λ l. let no : frame used p ≡ cut = sym e ∙ line-cut h (eqb-true (n % 256) 0 z) l in cc)
+    (λ l. by-end (eqb-true (n % 256) 0 z) l)
+    (le-or-lt (length s) (1 + count + 1)))
+    (λ z. let no : frame used p ≡ refused (1 + count + 1) 4 = sym e ∙ line-checksum h (eqb-false (n % 256) 0 z) in cc)
+  where
+    Is : Type 0
+    Is = p ≡ decoded (take (2 * (count / 2 - 1)) (drop 1 s))
+
+    by-test : (q : Bool) → (q ≡ true → Is) → (q ≡ false → Is) → Is
+    by-test true f g = f refl
+    by-test false f g = g refl
+
+    by-end : n % 256 ≡ 0 → 1 + count + 1 < length s → Is
+    by-end z l =
+        by-test (eqb (getD s (1 + count + 1) 0) lineFeed)
+        (λ q.
+        let is : frame used p ≡ frame (1 + count + 2) (decoded (take (2 * (count / 2 - 1)) (drop 1 s))) =
+        sym e ∙ line-frame h z l (eqb-true (getD s (1 + count + 1) 0) lineFeed q)
+        in
+        cc)
+        (λ q. let no : frame used p ≡ refused (1 + count + 2) 5 = sym e ∙ line-footer h z l (eqb-false (getD s (1 + count + 1) 0) lineFeed q) in cc)
 
 module _ (s : List ℕ) where
   -- Nothing is there.

@@ -288,12 +288,12 @@ block-over s d b k i e h l m =
     rw (size, same) (wrote-part (decoded s) d k 16 i h l (omega (arith, length-decoded s)))
 
 -- The sum of two lists in a row.
-sum-append : (s t : List ℕ) → sum (s ++ t) ≡ sum s + sum t
+pub sum-append : (s t : List ℕ) → sum (s ++ t) ≡ sum s + sum t
 sum-append [] t = omega arith
 sum-append (a ∷ s) t = omega (arith, sum-append s t)
 
 -- The sum of bytes is at most 255 for each.
-sum-most : (s : List ℕ) → Bytes s → sum s ≤ 255 * length s
+pub sum-most : (s : List ℕ) → Bytes s → sum s ≤ 255 * length s
 sum-most [] h = omega arith
 sum-most (a ∷ s) h = omega (arith, h .0, sum-most s (h .1))
 

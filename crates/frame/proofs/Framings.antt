@@ -2,7 +2,7 @@
 -- Assumes nothing.
 use Prim.Native.Nat.{ℕ, _-_, _*_, _/_, _≤_, min}
 use native.Mathlib.Omega.{arith}
-use mathlib.Core.Path.{_≡_, sym, ap, _∙_, subst}
+use mathlib.Core.Path.{_≡_, refl, sym, ap, _∙_, subst}
 use mathlib.Core.List.{List}
 use lib.Dec.{lit≤}
 use lib.ListN.{length, take, drop, length-take, length-drop}
@@ -10,9 +10,11 @@ use Rattle.frame.specs.Checks.{frame}
 use Rattle.frame.specs.Ascii.{hex}
 use Rattle.frame.specs.Framing.{checks, read, layout, limit}
 use Rattle.frame.specs.Claims.{UndecidedIsShort, FrameIsSized}
-use Rattle.frame.specs.Judged.{payloadAt, payloadEnd, frameLength, decoded, Digits, Packed}
+use Rattle.frame.specs.Judged.{payloadAt, payloadEnd, frameLength, verdictOf, handedOut, decoded, Digits, Packed}
 use Rattle.frame.specs.declared.framing.Framing.{Framing}
 use Rattle.frame.specs.declared.framing.Framing.the-variants.{Binary, Ascii}
+use Rattle.frame.specs.declared.framing.Judged.{Judged}
+use Rattle.frame.specs.declared.framing.Judged.the-variants.{Undecided, Failed, Frame}
 use Rattle.frame.proofs.Trees.{Within, bounded, Bounded}
 use Rattle.frame.proofs.BinaryLaws.{binary-within, took-binary, length-binary}
 use Rattle.frame.proofs.AsciiLaws.{ascii-within, ascii-one-spelling, spelled-payload}
@@ -93,3 +95,9 @@ payload-packed Ascii s used len e =
 pub limit-most : (f : Framing) → limit f ≤ 517
 limit-most Binary = lit≤ tt
 limit-most Ascii = lit≤ tt
+
+-- A verdict that is no frame leaves the buffer.
+pub stays : (f : Framing) (s buf : List ℕ) (v : Judged) → ((used len : ℕ) → v ≡ Frame used len → ⊥) → handedOut (verdictOf f s v) buf ≡ buf
+stays f s buf Undecided h = refl
+stays f s buf (Failed r judged) h = refl
+stays f s buf (Frame used len) h = absurd (h used len refl)

@@ -5,8 +5,10 @@ pub mod Trees
 pub mod BinaryLaws
 pub mod BinaryJudge
 pub mod AsciiLeaves
+pub mod Words
 pub mod AsciiLaws
 pub mod AsciiJudge
+pub mod AsciiShort
 pub mod Framings
 pub mod Singles
 pub mod Shapes

@@ -1,7 +1,7 @@
 -- The promises of the line reader's calls at each of their ways out.
 -- Assumes nothing.
 use Prim.Native.Nat.{ℕ, _+_, _-_, _≤_, _<_, min}
-use native.Mathlib.Nat.{le-refl}
+use native.Mathlib.Nat.{le-refl, sub-self, sub-zero}
 use native.Mathlib.Omega.{arith}
 use mathlib.Core.Path.{_≡_, refl, sym, ap, ap₂, _∙_, subst}
 use mathlib.Core.List.{List, [], _++_}
@@ -10,12 +10,12 @@ use borrow.Author.Tests.{le-leb, lt-leb}
 use lib.Dec.{eqb}
 use lib.ListN.{length, take, drop, length-append, length-take}
 use lib.Seq.{paste, take-at, take-all, take-length, take-paste, length-take-le}
-use Rattle.frame.specs.Framing.{limit, inFront}
+use Rattle.frame.specs.Framing.{limit}
 use Rattle.frame.specs.Judged.{payloadAt}
 use Rattle.frame.specs.Reader.{Called, Values, Holds, feedValuesOf, valuesAt, refusalValues, bufferAt, quietRefusal, feedRefusal, Promise}
 use Rattle.frame.specs.Scan.{Stop, found, undecided, passed, stopOf, judging, Scanned, scanFrom, calledAs, calledBy, scanChunk, joined}
 use Rattle.frame.specs.Reader.{Tells}
-use Rattle.frame.specs.Scan.{scanHeld, beforeHeld, thenChunk, scanLine, Usable, Answerable, Keeps, Answered, QuietAnswered, PlacesFed}
+use Rattle.frame.specs.Scan.{scanHeld, beforeHeld, thenChunk, scanLine, stopBuffer, toldEnd, Usable, Answerable, Told, Keeps, Answered, QuietAnswered, PlacesFed}
 use Rattle.frame.specs.declared.framing.Framing.{Framing}
 use Rattle.frame.specs.declared.reader.Reader.{Reader}
 use Rattle.frame.specs.declared.reader.Before.{Before}
@@ -33,20 +33,19 @@ use Rattle.frame.proofs.Scanning.{Ends, scan-facts}
 pub none-held : (r : Reader) → r .count ≡ 0 → Holds (r .framing) [] r
 none-held r e = record { framing = refl; count = e; bytes = ap (λ (n : ℕ). take n (r .held)) e }
 
-module _ (f : Framing) (w : List ℕ) (before : Before) (place reach : ℕ) (end : ScanEnd) (buf : List ℕ) where
+module _ (f : Framing) (w : List ℕ) (before : Before) (place reach : ℕ) (end : ScanEnd) where
   -- What is told of a scan that stopped so.
-  abbrev Right : ScanEnd → First → List ℕ → Type 0
-  Right x told buf′ = Tells (calledAs (stopOf f (drop place w) x) before w place reach) w buf told buf′
+  abbrev Right : ScanEnd → First → Type 0
+  Right x told = Told before w (record { place = place; reach = reach; stop = stopOf f (drop place w) x }) told
 
   -- It stopped at a frame.
-  pub tells-frame :
-      (used len : ℕ) (buf′ : List ℕ) → end ≡ Frame used len → length (payloadAt f (drop place w) len) ≡ len →
-      place + used ≤ reach → reach ≤ length w → reach ≤ place + 517 → buf′ ≡ inFront (payloadAt f (drop place w) len) buf →
-      Right end (record { answer = FeedFrame (reach - before .base) (before .noise + place) len; from = place + used; end = reach }) buf′
-  tells-frame used len buf′ e l h k m is =
+  pub told-frame :
+      (used len : ℕ) → end ≡ Frame used len → length (payloadAt f (drop place w) len) ≡ len →
+      place + used ≤ reach → reach ≤ length w → reach ≤ place + 517 →
+      Right end (record { answer = FeedFrame (reach - before .base) (before .noise + place) len; from = place + used; end = reach })
+  told-frame used len e l h k m =
       subst
-      (λ (x : ScanEnd).
-      Right x (record { answer = FeedFrame (reach - before .base) (before .noise + place) len; from = place + used; end = reach }) buf′)
+      (λ (x : ScanEnd). Right x (record { answer = FeedFrame (reach - before .base) (before .noise + place) len; from = place + used; end = reach }))
       (sym e)
       (record {
         values =
@@ -57,26 +56,65 @@ module _ (f : Framing) (w : List ℕ) (before : Before) (place reach : ℕ) (end
         inside = h;
         there = k;
         most = omega arith;
-        buffer = is;
+        ends = refl;
       })
 
   -- It stopped at undecided bytes.
-  pub tells-undecided :
+  pub told-undecided :
       end ≡ Undecided → place ≤ length w → length w ≤ place + 517 →
-      Right end (record { answer = NeedsMore (before .size) (before .noise + place); from = place; end = length w }) buf
-  tells-undecided e h m =
+      Right end (record { answer = NeedsMore (before .size) (before .noise + place); from = place; end = length w })
+  told-undecided e h m =
       subst
-      (λ (x : ScanEnd). Right x (record { answer = NeedsMore (before .size) (before .noise + place); from = place; end = length w }) buf)
+      (λ (x : ScanEnd). Right x (record { answer = NeedsMore (before .size) (before .noise + place); from = place; end = length w }))
       (sym e)
-      (record { values = refl; held = take-rest w place; inside = h; there = omega arith; most = m; buffer = refl })
+      (record { values = refl; held = take-rest w place; inside = h; there = omega arith; most = m; ends = refl })
 
   -- It passed every place.
-  pub tells-passed : end ≡ Passed → Right end (record { answer = NeedsMore (before .size) (before .noise + place); from = 0; end = 0 }) buf
-  tells-passed e =
+  pub told-passed : end ≡ Passed → Right end (record { answer = NeedsMore (before .size) (before .noise + place); from = length w; end = length w })
+  told-passed e =
       subst
-      (λ (x : ScanEnd). Right x (record { answer = NeedsMore (before .size) (before .noise + place); from = 0; end = 0 }) buf)
+      (λ (x : ScanEnd). Right x (record { answer = NeedsMore (before .size) (before .noise + place); from = length w; end = length w }))
       (sym e)
-      (record { values = refl; held = refl; inside = omega arith; there = omega arith; most = omega arith; buffer = refl })
+      (record {
+        values = refl;
+        held = ap (λ (k : ℕ). take k (drop (length w) w)) (sub-self (length w));
+        inside = omega arith;
+        there = omega arith;
+        most = omega arith;
+        ends = refl;
+      })
+
+-- The buffer that a scan leaves is that of the call.
+call-buffer :
+    (stop : Stop) (before : Before) (w : List ℕ) (place reach : ℕ) (buf : List ℕ) →
+    stopBuffer stop buf ≡ bufferAt (calledAs stop before w place reach .out .frames) buf
+call-buffer (found used p) before w place reach buf = refl
+call-buffer undecided before w place reach buf = refl
+call-buffer passed before w place reach buf = refl
+
+-- What is told of a call, with the buffer that the scan has left.
+pub tells :
+    (before : Before) (w buf : List ℕ) (x : Scanned) (told : First) (buf′ : List ℕ) → Told before w x told →
+    buf′ ≡ stopBuffer (x .stop) buf → Tells (calledBy before w x) w buf told buf′
+tells before w buf x told buf′ h b =
+    record {
+      values = h .values;
+      held = h .held;
+      inside = h .inside;
+      there = h .there;
+      most = h .most;
+      buffer = b ∙ call-buffer (x .stop) before w (x .place) (x .reach) buf;
+    }
+
+-- Of a chunk, the held part ends with the bytes that were taken.
+pub ends-taken :
+    (noise : ℕ) (w : List ℕ) (x : Scanned) → toldEnd (x .stop) w (x .reach) ≡ calledBy (record { base = 0; noise = noise; size = length w }) w x .taken
+ends-taken noise w x = by-stop (x .stop)
+  where
+    by-stop : (stop : Stop) → toldEnd stop w (x .reach) ≡ calledAs stop (record { base = 0; noise = noise; size = length w }) w (x .place) (x .reach) .taken
+    by-stop (found used p) = sym (sub-zero (x .reach))
+    by-stop undecided = refl
+    by-stop passed = refl
 
 module _ (c : Called) (w buf : List ℕ) (told : First) (buf′ : List ℕ) (h : Tells c w buf told buf′) where
   -- With the state that holds the told part, it is the answer.
@@ -107,10 +145,9 @@ usable undecided f w n place reach h e = (e .is-cut, omega (arith, e .before))
 usable passed f w n place reach h e = (tt, omega (arith, e))
 
 pub answerable :
-    (f : Framing) (w : List ℕ) (n reach : ℕ) (x : Scanned) (before : Before) (buf : List ℕ) → n ≤ length w → reach ≤ length w →
-    reach ≤ limit f → x ≡ scanFrom (judging false f) n 0 reach w → before .base ≤ reach → before .noise ≤ 517 → 256 ≤ length buf →
-    Answerable f w x before buf
-answerable f w n reach x before buf l k m is b s r =
+    (f : Framing) (w : List ℕ) (n reach : ℕ) (x : Scanned) (before : Before) → n ≤ length w → reach ≤ length w → reach ≤ limit f →
+    x ≡ scanFrom (judging false f) n 0 reach w → before .base ≤ reach → before .noise ≤ 517 → Answerable f w x before
+answerable f w n reach x before l k m is b s =
     let h = scan-facts false f w n reach l k x is in
     let u = usable (x .stop) f w n (x .place) (x .reach) (omega (arith, h .near, limit-most f)) (h .ends) in
     record {
@@ -119,7 +156,6 @@ answerable f w n reach x before buf l k m is b s r =
       from = omega (arith, h .far);
       there = h .there;
       small = s;
-      room = r;
     }
 
 -- The held bytes' places all fail: the chunk's follow.

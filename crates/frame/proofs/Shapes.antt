@@ -56,13 +56,13 @@ cut-behind k (refused judged n) e = absurd (cut≢refused (k + judged) n (sym e)
 cut-behind k (frame used p) e = absurd (cut≢frame (k + used) p (sym e))
 
 -- The tree has failed.
-abbrev Fails : Checks → Type 0
+abbrev pub Fails : Checks → Type 0
 Fails (next t) = ⊥
 Fails (fails n) = Unit {0}
 Fails (whole p) = ⊥
 
 -- Wherever the tree takes a byte, it fails at the byte c.
-abbrev Bars : ℕ → Checks → Type 0
+abbrev pub Bars : ℕ → Checks → Type 0
 Bars c (next t) = Fails (t c) × ((b : ℕ) → Bars c (t b))
 Bars c (fails n) = Unit {0}
 Bars c (whole p) = Unit {0}
@@ -106,13 +106,17 @@ bars-digits (suc room) t h k =
     λ b. bars-digits room (λ ds e. t (digitValue b ∷ ds) e) (λ ds. h (digitValue b ∷ ds)) (λ ds e. k (digitValue b ∷ ds) e) in
     (h [], λ b. by-cond (Bars colon) (isDigit b) (digits room (λ ds e. t (digitValue b ∷ ds) e)) (t [] b) (λ _. more b) (k [] b))
 
+-- Behind an ASCII frame's first colon the checks fail at any other.
+pub bars-line : Bars colon (digits 514 afterDigits)
+unfolding afterDigits test
+bars-line = bars-digits 514 afterDigits (λ ds. tt) bars-ending
+
 -- No undecided start of an ASCII frame goes on over a colon.
 pub colon-stops : (b : ℕ) (s more : List ℕ) → read Ascii (b ∷ s) ≡ cut → IsRefused (read Ascii ((b ∷ s) ++ (colon ∷ more)))
-unfolding ascii byte afterDigits test
+unfolding ascii byte
 colon-stops b s more e =
     let t : Checks = cond (eqb b colon) (digits 514 afterDigits) (fails 1) in
-    let inside : Bars colon (digits 514 afterDigits) = bars-digits 514 afterDigits (λ ds. tt) bars-ending in
-    let h : Bars colon t = by-cond (Bars colon) (eqb b colon) (digits 514 afterDigits) (fails 1) (λ _. inside) tt in
+    let h : Bars colon t = by-cond (Bars colon) (eqb b colon) (digits 514 afterDigits) (fails 1) (λ _. bars-line) tt in
     refused-behind 1 (run t (s ++ (colon ∷ more))) (bars-stop colon t s more h (cut-behind 1 (run t s) e))
 
 -- An ASCII frame begins with a colon.

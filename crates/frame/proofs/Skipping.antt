@@ -1,32 +1,43 @@
 -- Laws of skipping: bytes that start no frame are passed as the scan would pass them one by one.
 -- Assumes nothing.
-use Prim.Native.Nat.{ℕ, zero, suc, _+_, _-_, _≤_, _<_, max}
+use Prim.Native.Nat.{ℕ, zero, suc, _+_, _-_, _≤_, _<_, max, min}
 use native.Mathlib.Nat.{add-zero, sub-self, le-refl}
+use native.Mathlib.Numerals.{add-one}
 use native.Mathlib.Omega.{arith}
-use mathlib.Core.Path.{_≡_, refl, ap, _∙_}
+use mathlib.Core.Path.{_≡_, refl, sym, ap, _∙_}
 use mathlib.Core.List.{List, [], _∷_, _++_}
-use mathlib.Core.Bool.{Bool, true, not, _&&_, and-assoc}
+use mathlib.Core.Bool.{Bool, true, cond, not, _&&_, and-assoc}
 use borrow.Author.Tests.{ne-eqb, eqb-false, not-true}
 use lib.Dec.{eqb}
 use lib.ListN.{length, getD, take, drop}
-use lib.Seq.{take-add, drop-drop}
-use Rattle.frame.specs.Checks.{refused}
+use lib.Seq.{take-add, take-take, drop-drop}
+use Rattle.frame.specs.Checks.{Checks, next, fails, whole, test, Verdict, cut, refused, frame, behind, run}
 use Rattle.frame.specs.Binary.{binary}
-use Rattle.frame.specs.Ascii.{ascii, colon, digits, afterDigits}
+use Rattle.frame.specs.Ascii.{ascii, colon, isDigit, digitValue, digits, afterDigits}
 use Rattle.frame.specs.Framing.{read}
 use Rattle.frame.specs.Judged.{every}
-use Rattle.frame.specs.Scan.{judging, scanFrom, startOf, other, Skips}
+use Rattle.frame.specs.Scan.{judging, scanFrom, startOf, doubledNumber, other, passedBy, Skips}
 use Rattle.frame.specs.declared.framing.Framing.{Framing}
 use Rattle.frame.specs.declared.framing.Framing.the-variants.{Binary, Ascii}
 use Rattle.frame.proofs.Numbers.{both-true, and-true}
 use Rattle.frame.proofs.Lists.{drop-next}
-use Rattle.frame.proofs.Trees.{fail-byte}
+use Rattle.frame.proofs.Trees.{pass-byte, fail-byte, cut≢refused, refused≢frame}
+use Rattle.frame.proofs.Shapes.{Fails, Bars, bars-line}
+use Rattle.frame.proofs.Prefixes.{refused-sized}
 use Rattle.frame.proofs.Scanning.{step-refused}
 
 -- The elements of two lists in a row.
 every-append : (test : ℕ → Bool) (s t : List ℕ) → every test (s ++ t) ≡ every test s && every test t
 every-append test [] t = refl
 every-append test (c ∷ s) t = rw (every-append test s t, ← and-assoc (test c) (every test s) (every test t))
+
+-- What holds of every element holds of every one in front.
+every-take : (test : ℕ → Bool) (n : ℕ) (s : List ℕ) → every test s ≡ true → every test (take n s) ≡ true
+every-take test zero s h = refl
+every-take test (suc n) [] h = refl
+every-take test (suc n) (c ∷ s) h =
+    let both = both-true (test c) (every test s) h in
+    and-true (test c) (every test (take n s)) (both .0) (every-take test n s (both .1))
 
 -- A byte that is not b is another.
 other-byte : (b c : ℕ) → (c ≡ b → ⊥) → other b c ≡ true
@@ -60,6 +71,100 @@ unfolding binary ascii
 start-fails Binary s place l e = fail-byte 0xA5 1 _ s place l e
 start-fails Ascii s place l e = fail-byte colon 1 (digits 514 afterDigits) s place l e
 
+-- What is refused behind one byte is refused with one byte judged fewer.
+refused-left : (v : Verdict) (judged n : ℕ) → behind 1 v ≡ refused judged n → (left : ℕ) × (judged ≡ 1 + left) × (v ≡ refused left n)
+refused-left cut judged n e = absurd (cut≢refused judged n e)
+refused-left (refused i m) judged n e = (i, cc, cc)
+refused-left (frame used p) judged n e = absurd (refused≢frame judged n (1 + used) p (sym e))
+
+-- Where the tree has failed, no byte is judged.
+fails-judged : (t : Checks) (s : List ℕ) (judged n : ℕ) → Fails t → run t s ≡ refused judged n → judged ≡ 0
+fails-judged (next t) s judged n h e = absurd h
+fails-judged (fails k) s judged n h e = cc
+fails-judged (whole p) s judged n h e = absurd h
+
+-- Before the bytes of a refusal goes one that is no c, unless it is the last judged.
+barred-next :
+    (c b : ℕ) (s : List ℕ) (left : ℕ) → (b ≡ c → left ≡ 0) → every (other c) (take (left - 1) s) ≡ true →
+    every (other c) (take left (b ∷ s)) ≡ true
+barred-next c b s zero h rest = refl
+barred-next c b s (suc left) h rest =
+    let back : suc left - 1 ≡ left = omega arith in
+    and-true (other c b) (every (other c) (take left s)) (other-byte c b (λ same. absurd (omega (arith, h same)))) (rw back at rest)
+
+-- Where a tree fails at the byte c wherever it takes one, no byte of a refusal but the last judged is c.
+barred : (c : ℕ) (t : Checks) (s : List ℕ) (judged n : ℕ) → Bars c t → run t s ≡ refused judged n → every (other c) (take (judged - 1) s) ≡ true
+barred c (fails k) s judged n h e = let none : judged ≡ 0 = cc in rw none
+barred c (whole p) s judged n h e = absurd (refused≢frame judged n 0 p (sym e))
+barred c (next t) [] judged n h e = absurd (cut≢refused judged n e)
+barred c (next t) (b ∷ s) judged n h e =
+    let v = refused-left (run (t b) s) judged n e in
+    let size : judged - 1 ≡ v .0 = omega (arith, v .1) in
+    let last : b ≡ c → v .0 ≡ 0 = λ same. fails-judged (t b) s (v .0) n (rw same (h .0)) (v .2) in
+    rw size (barred-next c b s (v .0) last (barred c (t b) s (v .0) n (h .1 b) (v .2)))
+
+-- A tree that takes a byte is refused at one byte at least.
+next-judged : (t : ℕ → Checks) (s : List ℕ) (judged n : ℕ) → run (next t) s ≡ refused judged n → 1 ≤ judged
+next-judged t [] judged n e = absurd (cut≢refused judged n e)
+next-judged t (b ∷ s) judged n e = omega (arith, refused-left (run (t b) s) judged n e .1)
+
+-- Digits are refused at one byte at least.
+digits-judged : (room : ℕ) (t : List ℕ → ℕ → Checks) (s : List ℕ) (judged n : ℕ) → run (digits room t) s ≡ refused judged n → 1 ≤ judged
+unfolding digits
+digits-judged zero t s judged n e = next-judged (λ c. cond (isDigit c) (fails 3) (t [] c)) s judged n e
+digits-judged (suc room) t s judged n e =
+    next-judged (λ c. cond (isDigit c) (digits room (λ ds x. t (digitValue c ∷ ds) x)) (t [] c)) s judged n e
+
+-- A colon that starts no frame fails behind it, and no byte between it and the failing one is a colon.
+colon-fails :
+    (s : List ℕ) (place judged n : ℕ) → place < length s → getD s place 0 ≡ colon → read Ascii (drop place s) ≡ refused judged n →
+    (2 ≤ judged) × (every (other colon) (take (judged - 2) (drop (place + 1) s)) ≡ true)
+unfolding ascii
+colon-fails s place judged n l is q =
+    let rest : List ℕ = drop (suc place) s in
+    let line : Checks = digits 514 afterDigits in
+    let v = refused-left (run line rest) judged n (sym (pass-byte colon 1 line s place l is) ∙ q) in
+    let size : judged - 2 ≡ v .0 - 1 = omega (arith, v .1) in (
+      omega (arith, v .1, digits-judged 514 afterDigits rest (v .0) n (v .2)),
+      rw (size, add-one) (barred colon line rest (v .0) n bars-line (v .2)),
+    )
+
+-- The places that a failed start passes over are its own and those of bytes that start no frame.
+pub fails-over :
+    (f : Framing) (s : List ℕ) (stop place judged n : ℕ) → stop ≤ length s → place < stop → getD s place 0 ≡ startOf f →
+    read f (drop place s) ≡ refused judged n → Skips (startOf f) s (place + 1) stop (min (place + passedBy f judged) stop) × (passedBy f judged ≤ judged)
+fails-over Binary s stop place judged n m l is q =
+    let to : min (place + 1) stop ≡ place + 1 = omega arith in
+    (rw to (skips-none 0xA5 s (place + 1) stop (omega arith)), refused-sized Binary (drop place s) judged n q .some)
+fails-over Ascii s stop place judged n m l is q =
+    let h = colon-fails s place judged n (omega arith) is q in
+    let to : ℕ = min (place + (judged - 1)) stop in
+    let least : to - (place + 1) ≤ judged - 2 = omega arith in (
+      record {
+        onward = omega (arith, h .0);
+        inside = omega arith;
+        others =
+            rw (take-take (to - (place + 1)) (judged - 2) (drop (place + 1) s) least) at
+            (every-take (other colon) (to - (place + 1)) (take (judged - 2) (drop (place + 1) s)) (h .1));
+      },
+      omega arith,
+    )
+
+-- A start that another start follows fails at that.
+pub doubled-fails :
+    (f : Framing) (s : List ℕ) (place : ℕ) → place + 1 < length s → getD s place 0 ≡ startOf f → getD s (place + 1) 0 ≡ startOf f →
+    read f (drop place s) ≡ refused 2 (doubledNumber f)
+unfolding binary ascii digits afterDigits isDigit test
+doubled-fails Binary s place l e d =
+    let second : getD s (suc place) 0 ≡ 0xA5 = ap (λ (k : ℕ). getD s k 0) (sym (add-one place)) ∙ d in
+    pass-byte 0xA5 1 _ s place (omega arith) e
+    ∙ ap (behind 1) (fail-byte 0x5A 1 _ s (suc place) (omega arith) (λ z. let no : _≡_ {A = ℕ} 0xA5 0x5A = sym second ∙ z in omega arith))
+doubled-fails Ascii s place l e d =
+    let second : getD s (suc place) 0 ≡ colon = ap (λ (k : ℕ). getD s k 0) (sym (add-one place)) ∙ d in
+    pass-byte colon 1 (digits 514 afterDigits) s place (omega arith) e
+    ∙ ap (λ (r : List ℕ). behind 1 (run (digits 514 afterDigits) r))
+    (drop-next s (suc place) (omega arith) ∙ ap (λ (c : ℕ). c ∷ drop (suc place + 1) s) second)
+
 module _ (e : Bool) (f : Framing) (s : List ℕ) (stop : ℕ) (m : stop ≤ length s) where
   -- One byte that starts no frame is passed.
   pass-one :
@@ -91,4 +196,18 @@ module _ (e : Bool) (f : Framing) (s : List ℕ) (stop : ℕ) (m : stop ≤ leng
       let far-is : max (max far (place + 1)) to ≡ max far to = omega (arith, h .onward) in
       pass-one place far l n
       ∙ pass-many (to - (place + 1)) (place + 1) (max far (place + 1)) (omega (arith, h .inside)) (omega arith) (h .others)
+      ∙ rw (there, far-is)
+
+  -- The scan from a failed start goes on behind the places that it passes over.
+  pub scan-fails :
+      (place far judged n : ℕ) → place < stop → getD s place 0 ≡ startOf f → read f (drop place s) ≡ refused judged n →
+      let to = min (place + passedBy f judged) stop in
+      scanFrom (judging e f) (stop - place) place far (drop place s) ≡ scanFrom (judging e f) (stop - to) to (max far (place + judged)) (drop to s)
+  scan-fails place far judged n l is q =
+      let h = fails-over f s stop place judged n m l is q in
+      let to : ℕ = min (place + passedBy f judged) stop in
+      let there : place + 1 + (to - (place + 1)) ≡ to = omega (arith, h .0 .onward) in
+      let far-is : max (max far (place + judged)) to ≡ max far (place + judged) = omega (arith, h .1) in
+      step-refused e f stop place far s l judged n q
+      ∙ pass-many (to - (place + 1)) (place + 1) (max far (place + judged)) (omega (arith, h .0 .onward)) (omega (arith, h .0 .onward, h .1)) (h .0 .others)
       ∙ rw (there, far-is)

@@ -172,3 +172,5 @@ pub record Firsts (f : Framing) (chunk buf : List ℕ) (a : First) (buf′ : Lis
       (eqb (firstRefusal (length buf) (length chunk)) 0 ≡ false) →
       (feedValuesOf (a .answer) ≡ refusalValues (firstRefusal (length buf) (length chunk))) × (a .from ≡ 0) × (a .end ≡ 0) × (buf′ ≡ buf)
   pub answers : (eqb (firstRefusal (length buf) (length chunk)) 0 ≡ true) → Tells (line f [] chunk) chunk buf a buf′
+  -- The part that it would hold is the last of the bytes that were taken.
+  pub stands : (eqb (firstRefusal (length buf) (length chunk)) 0 ≡ true) → a .end ≡ line f [] chunk .taken

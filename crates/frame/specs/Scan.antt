@@ -7,7 +7,7 @@ use mathlib.Core.Bool.{Bool, true, false, not}
 use lib.Dec.{eqb}
 use lib.ListN.{length, take, drop}
 use Rattle.frame.specs.Checks.{Verdict, cut, refused, frame}
-use Rattle.frame.specs.Framing.{read, limit}
+use Rattle.frame.specs.Framing.{read, limit, inFront}
 use Rattle.frame.specs.Ascii.{colon}
 use Rattle.frame.specs.Judged.{payloadAt, every}
 use Rattle.frame.specs.Reader.{Called, ended, Holds, AfterQuiet, feedValuesOf, quietValuesOf, valuesAt, bufferAt}
@@ -64,6 +64,11 @@ abbrev pub startOf : Framing → ℕ
 startOf Binary = 0xA5
 startOf Ascii = colon
 
+-- The refusal of a start that another start follows, which fails there.
+abbrev pub doubledNumber : Framing → ℕ
+doubledNumber Binary = 1
+doubledNumber Ascii = 6
+
 -- c is another byte than b.
 abbrev pub other : ℕ → ℕ → Bool
 other b c = not (eqb c b)
@@ -82,6 +87,21 @@ stopOf f s Passed = passed
 
 abbrev pub scanned : Framing → List ℕ → ScanResult → Scanned
 scanned f s r = record { place = r .place; reach = r .reach; stop = stopOf f (drop (r .place) s) (r .end) }
+
+abbrev pub stoppedAt : ℕ → ℕ → ScanEnd → ScanResult
+stoppedAt place reach end = record { place = place; reach = reach; end = end }
+
+-- The buffer after a scan that stopped so.
+abbrev pub stopBuffer : Stop → List ℕ → List ℕ
+stopBuffer (found used p) buf = inFront p buf
+stopBuffer undecided buf = buf
+stopBuffer passed buf = buf
+
+-- The places that a failed start passes over, its own the first: in ASCII framing the bytes before the failing one are digits or a CR, which
+-- start no frame.
+abbrev pub passedBy : Framing → ℕ → ℕ
+passedBy Binary judged = 1
+passedBy Ascii judged = judged - 1
 
 -- What a scan of w gives as a call, by what was there before it: `base` bytes of w were held, `noise` bytes were settled, and the chunk has
 -- `size` bytes.
@@ -153,13 +173,27 @@ Usable (found used p) f w place reach = (read f (drop place w) ≡ frame used p)
 Usable undecided f w place reach = read f (drop place w) ≡ cut
 Usable passed f w place reach = Unit {0}
 
-pub record Answerable (f : Framing) (w : List ℕ) (r : Scanned) (before : Before) (buf : List ℕ) : Type 0 where
+pub record Answerable (f : Framing) (w : List ℕ) (r : Scanned) (before : Before) : Type 0 where
   pub usable : Usable (r .stop) f w (r .place) (r .reach)
   pub inside : r .place ≤ length w
   pub from : before .base ≤ r .reach
   pub there : r .reach ≤ length w
   pub small : before .noise ≤ 517
-  pub room : 256 ≤ length buf
+
+-- Where the held part of w ends, by where the scan stopped.
+abbrev pub toldEnd : Stop → List ℕ → ℕ → ℕ
+toldEnd (found used p) w reach = reach
+toldEnd undecided w reach = length w
+toldEnd passed w reach = length w
+
+-- What `answer` tells of a scan of w but for the buffer, which the scan has filled.
+pub record Told (before : Before) (w : List ℕ) (x : Scanned) (told : First) : Type 0 where
+  pub values : feedValuesOf (told .answer) ≡ valuesAt (calledBy before w x)
+  pub held : take (told .end - told .from) (drop (told .from) w) ≡ calledBy before w x .held
+  pub inside : told .from ≤ told .end
+  pub there : told .end ≤ length w
+  pub most : told .end ≤ told .from + 517
+  pub ends : told .end ≡ toldEnd (x .stop) w (x .reach)
 
 -- What `feed_chunk`, `feed_places` and `feed_held` are called with.
 pub record ChunkFed (f : Framing) (chunk : List ℕ) (reach noise : ℕ) (buf : List ℕ) : Type 0 where

@@ -3,7 +3,8 @@ use crate::copy;
 use crate::framing::Judged;
 use crate::refusal::Refusal;
 ghost use mathlib.Core.Path.{_≡_};
-ghost use mathlib.Core.Bool.{true};
+ghost use mathlib.Core.Bool.{true, false};
+ghost use mathlib.Core.List.{_++_};
 ghost use Prim.Native.Nat.{_≤_, _<_, _+_, _-_, _*_, _/_, _%_};
 ghost use lib.ListN.{length, getD, take, drop, set};
 ghost use lib.Seq.{paste};
@@ -11,7 +12,7 @@ ghost use Rattle.frame.specs.declared.framing.Framing.the-variants.{Asci
 ghost use Rattle.frame.specs.Ascii.{isDigit, digitValue, digitOf, sum, hex, digits, afterDigits, asciiLayout, carriageReturn};
 ghost use Rattle.frame.specs.Checks.{run, behind};
 ghost use Rattle.frame.specs.Framing.{read, inFront};
-ghost use Rattle.frame.specs.Judged.{verdictOf, decoded, digitRun, every, Digits};
+ghost use Rattle.frame.specs.Judged.{verdictOf, handedOut, decoded, digitRun, packed, every, Digits, Short};
 
 // Whether c is one of 0-9 A-F. Without a branch, so that a block of characters is tested at once.
 fn is_digit(c: u8) -> bool
@@ -50,16 +51,13 @@ fn block_is_digits(s: &[u8], at: usize) -> bool
     ok
 }
 
-// How many digits the whole blocks of digits at the front of s have, up to 512.
+// How many digits the whole blocks of digits at the front of s have. Behind them is a block with another character, or less than a block.
 fn block_run(s: &[u8]) -> usize
-    ensures { λ r. ⌜ (r ≤ length (now (s .entry))) × (r ≤ 515) × (r + digitRun (515 - r) (drop r (now (s .entry))) ≡ digitRun 515 (now (s .entry))) ⌝ }
+    requires { ⌜ length (now s) ≤ 515 ⌝ }
+    ensures { λ r. ⌜ (r ≤ length (now (s .entry))) × (r + digitRun (515 - r) (drop r (now (s .entry))) ≡ digitRun 515 (now (s .entry))) × (r + 16 ≤ length (now (s .entry)) → every isDigit (take 16 (drop r (now (s .entry)))) ≡ false) ⌝ }
 {
-    let n = s.len();
     let mut i = 0;
-    while i < 512 {
-        if n < i + 16 {
-            return i;
-        }
+    while i + 16 <= s.len() {
         if !block_is_digits(s, i) {
             return i;
         }
@@ -68,21 +66,80 @@ fn block_run(s: &[u8]) -> usize
     i
 }
 
-// How many digits stand at the front of s, up to one more than the most that a frame has.
-fn digit_run(s: &[u8]) -> usize
-    ensures { λ r. ⌜ r ≡ digitRun 515 (now (s .entry)) ⌝ }
+// The 8 characters from `at` on as one number, the first in its lowest byte.
+fn word(s: &[u8], at: usize) -> u64
+    requires { ⌜ at + 8 ≤ length (now s) ⌝ }
+    ensures { λ r. ⌜ r ≡ packed (take 8 (drop at (now (s .entry)))) ⌝ }
 {
-    let mut i = block_run(s);
+    s[at] as u64
+        + s[at + 1] as u64 * 0x100
+        + s[at + 2] as u64 * 0x10000
+        + s[at + 3] as u64 * 0x1000000
+        + s[at + 4] as u64 * 0x100000000
+        + s[at + 5] as u64 * 0x10000000000
+        + s[at + 6] as u64 * 0x1000000000000
+        + s[at + 7] as u64 * 0x100000000000000
+}
+
+// How many digits stand at the front of the 8 characters from `at` on. All are tested at once, each in its own byte of a number: a byte's top bit
+// says whether a sum reached 0x80. The lowest byte that is not 0 afterwards is that of the first other character.
+fn word_run(s: &[u8], at: usize) -> usize
+    requires { ⌜ at + 8 ≤ length (now s) ⌝ }
+    ensures { λ r. ⌜ r ≡ digitRun 8 (drop at (now (s .entry))) ⌝ }
+{
+    let w = word(s, at);
+    let low = w & 0x7F7F7F7F7F7F7F7F;
+    let ranges = (low + 0x5050505050505050)
+        ^ (low + 0x4646464646464646)
+        ^ (low + 0x3F3F3F3F3F3F3F3F)
+        ^ (low + 0x3939393939393939);
+    let others = (ranges & (w ^ 0x8080808080808080) & 0x8080808080808080) ^ 0x8080808080808080;
+    (u64::trailing_zeros(others) / 8) as usize
+}
+
+// The same for 16 characters, without a branch.
+fn words_run(s: &[u8], at: usize) -> usize
+    requires { ⌜ at + 16 ≤ length (now s) ⌝ }
+    ensures { λ r. ⌜ r ≡ digitRun 16 (drop at (now (s .entry))) ⌝ }
+{
+    let first = word_run(s, at);
+    first + first / 8 * word_run(s, at + 8)
+}
+
+// How far the digits at the front of s go, where those before `from` are known: one by one.
+fn tail_run(s: &[u8], from: usize) -> usize
+    requires { ⌜ (from ≤ length (now s)) × (length (now s) ≤ 515) ⌝ }
+    ensures { λ r. ⌜ r ≡ from + digitRun (515 - from) (drop from (now (s .entry))) ⌝ }
+{
+    let mut i = from;
     while i < s.len() {
-        if i == 515 {
-            return i;
-        }
         if !is_digit(s[i]) {
             return i;
         }
         i += 1;
     }
     i
+}
+
+// How many digits stand at the front of s.
+fn front_run(s: &[u8]) -> usize
+    requires { ⌜ length (now s) ≤ 515 ⌝ }
+    ensures { λ r. ⌜ r ≡ digitRun 515 (now (s .entry)) ⌝ }
+{
+    let at = block_run(s);
+    if s.len() < at + 16 {
+        return tail_run(s, at);
+    }
+    at + words_run(s, at)
+}
+
+// How many digits stand at the front of s, up to one more than the most that a frame has.
+fn digit_run(s: &[u8]) -> usize
+    ensures { λ r. ⌜ r ≡ digitRun 515 (now (s .entry)) ⌝ }
+{
+    let n = s.len();
+    let most = if n < 515 { n } else { 515 };
+    front_run(&s[..most])
 }
 
 // The byte that two digits stand for.
@@ -176,15 +233,16 @@ fn pair_sum(s: &[u8]) -> u32
     sum + rest_sum(s, i)
 }
 
-// Judges the sum of the `count` digits behind the colon, and what stands behind their CR.
-fn judge_sum(s: &[u8], count: usize) -> Judged
+// Judges the sum of the bytes that the `count` digits behind the colon stand for, and what stands behind their CR.
+fn judge_end(s: &[u8], count: usize, total: u32) -> Judged
     requires { ⌜ (count ≡ digitRun 515 (drop 1 (now s))) × ((4 ≤ count) × (count ≤ 514)) × (count % 2 ≡ 0) ⌝ }
     requires { ⌜ (1 + count < length (now s)) × (getD (now s) (1 + count) 0 ≡ carriageReturn) ⌝ }
+    requires { ⌜ total ≡ sum (decoded (take count (drop 1 (now s)))) ⌝ }
     ensures { λ r. ⌜ behind 1 (run (digits 514 afterDigits) (drop 1 (now (s .entry)))) ≡ verdictOf Ascii (now (s .entry)) r ⌝ }
 {
     let n = s.len();
     let end = 1 + count;
-    if pair_sum(&s[1..end]) % 256 != 0 {
+    if total % 256 != 0 {
         return Judged::Failed {
             refusal: Refusal::Checksum,
             judged: end + 1,
@@ -239,15 +297,25 @@ fn judge_digits(s: &[u8], count: usize) -> Judged
             judged: end + 1,
         };
     }
-    judge_sum(s, count)
+    judge_end(s, count, pair_sum(&s[1..end]))
 }
 
-// Judges the front of s.
-pub(crate) fn judge(s: &[u8]) -> Judged
+// How many digits stand behind the first character, up to one more than the most that a frame has.
+pub(crate) fn run_behind(s: &[u8]) -> usize
+    ensures { λ r. ⌜ r ≡ digitRun 515 (drop 1 (now (s .entry))) ⌝ }
+{
+    if s.len() == 0 {
+        return 0;
+    }
+    digit_run(&s[1..])
+}
+
+// Judges the front of s, where `count` digits stand behind the first character.
+pub(crate) fn judge_run(s: &[u8], count: usize) -> Judged
+    requires { ⌜ count ≡ digitRun 515 (drop 1 (now s)) ⌝ }
     ensures { λ r. ⌜ read Ascii (now (s .entry)) ≡ verdictOf Ascii (now (s .entry)) r ⌝ }
 {
-    let n = s.len();
-    if n == 0 {
+    if s.len() == 0 {
         return Judged::Undecided;
     }
     if s[0] != 0x3A {
@@ -256,7 +324,7 @@ pub(crate) fn judge(s: &[u8]) -> Judged
             judged: 1,
         };
     }
-    judge_digits(s, digit_run(&s[1..]))
+    judge_digits(s, count)
 }
 
 // Puts the bytes that the digits of src stand for into the front of dst, one by one.
@@ -299,6 +367,67 @@ pub(crate) fn decode(src: &[u8], dst: &mut [u8])
         return;
     }
     decode_blocks(src, dst);
+}
+
+// Whether s begins with a colon, has room for an even count of digits, for a payload of 16 to 31 bytes and its checksum, and a CR behind them.
+pub(crate) fn is_short(s: &[u8], count: usize) -> bool
+    ensures { λ r. ⌜ ((r ≡ true) → Short (now (s .entry)) count) ⌝ }
+{
+    if count < 34 {
+        return false;
+    }
+    if 64 < count {
+        return false;
+    }
+    if count % 2 != 0 {
+        return false;
+    }
+    if s.len() <= 1 + count {
+        return false;
+    }
+    if s[0] != 0x3A {
+        return false;
+    }
+    s[1 + count] == 0x0D
+}
+
+// The 16 bytes whose digits begin at `first`, and the 16 whose digits begin at `last`.
+fn decode_two(s: &[u8], first: usize, last: usize) -> [u8; 32]
+    requires { ⌜ (first + 32 ≤ length (now s)) × (last + 32 ≤ length (now s)) × Digits (now s) ⌝ }
+    ensures { λ r. ⌜ r ≡ decoded (take 32 (drop first (now (s .entry)))) ++ decoded (take 32 (drop last (now (s .entry)))) ⌝ }
+{
+    let mut two = [0u8; 32];
+    let block = decode_block(s, first);
+    copy::put(&mut two, 0, &block);
+    let block = decode_block(s, last);
+    copy::put(&mut two, 16, &block);
+    two
+}
+
+// The sum of the first 16 bytes of two, and of those from `from` on.
+fn sum_of_two(two: &[u8], from: usize) -> u32
+    requires { ⌜ (length (now two) ≡ 32) × (16 ≤ from) × (from ≤ 32) ⌝ }
+    ensures { λ r. ⌜ r ≡ sum (take 16 (now (two .entry))) + sum (drop from (now (two .entry))) ⌝ }
+{
+    byte_sum(&two[..16]) + byte_sum(&two[from..])
+}
+
+// Judges a short frame, and puts its payload into the front of buf. It is decoded once, before its sum is known: the first 16 bytes and the last
+// 16, which may overlap them; the very last is the checksum.
+pub(crate) fn extract_short(s: &[u8], count: usize, buf: &mut [u8]) -> Judged
+    requires { ⌜ (count ≡ digitRun 515 (drop 1 (now s))) × Short (now s) count × (256 ≤ length (now buf)) ⌝ }
+    ensures { λ r. ⌜ (read Ascii (now (s .entry)) ≡ verdictOf Ascii (now (s .entry)) r) × (now (buf .exit) ≡ handedOut (read Ascii (now (s .entry))) (now (buf .entry))) ⌝ }
+{
+    let n = count / 2;
+    let end = 1 + count;
+    let two = decode_two(&s[1..end], 0, count - 32);
+    let whole = &two[..];
+    let verdict = judge_end(s, count, sum_of_two(whole, 48 - n));
+    if let Judged::Frame { used: _, len: _ } = verdict {
+        copy::put(buf, 0, &whole[..16]);
+        copy::put(buf, n - 16, &whole[16..31]);
+    }
+    verdict
 }
 
 // Puts the two digits of b into dst at `at`.

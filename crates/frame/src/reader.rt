@@ -1,19 +1,18 @@
 // The line reader: frames out of chunks of a serial line, as they come.
 use crate::copy::put;
 use crate::framing::Framing;
-use crate::framing::unpack;
 use crate::refusal::Refusal;
 use crate::scan::ScanEnd;
 use crate::scan::ScanResult;
 use crate::scan::scan;
+use crate::scan::scan_all;
 use crate::scan::smaller;
 ghost use mathlib.Core.Path.{_≡_};
 ghost use Prim.Native.Nat.{_+_, _≤_};
 ghost use lib.ListN.{length, take};
-ghost use Rattle.frame.specs.Framing.{limit, inFront};
-ghost use Rattle.frame.specs.Judged.{payloadAt, Packed};
+ghost use Rattle.frame.specs.Framing.{limit};
 ghost use Rattle.frame.specs.Reader.{newReader, heldIn, quiet, Holds, Feeds, Quiets, Tells, Firsts};
-ghost use Rattle.frame.specs.Scan.{scanned, calledBy, scanChunk, scanLine, Joins, Answerable, ChunkFed, HeldFed, Keeps, Answered, QuietAnswered};
+ghost use Rattle.frame.specs.Scan.{scanned, scanChunk, scanLine, Joins, Answerable, Told, ChunkFed, HeldFed, Keeps, Answered, QuietAnswered};
 ghost use Rattle.frame.specs.Scan.{PlacesFed};
 
 // A reader's state, by value: its framing and the bytes that it holds, the first `count` of `held`.
@@ -64,7 +63,7 @@ struct Joined {
     size: usize,
 }
 
-// What a new reader's line call answers to a chunk, and the part of the chunk that it would hold.
+// What a new reader's line call answers to a chunk, and the part of the chunk that it would hold: from index `from` up to `end`, which is behind it.
 pub struct First {
     pub answer: FeedAnswer,
     pub from: usize,
@@ -103,15 +102,6 @@ fn hold(framing: Framing, s: &[u8]) -> Reader
     }
 }
 
-// Puts the payload of the frame at the front of s into the front of buf, and gives a state that holds the bytes of rest.
-fn hand_out(framing: Framing, s: &[u8], len: usize, rest: &[u8], buf: &mut [u8]) -> Reader
-    requires { ⌜ Packed framing (now s) len × (len ≤ length (now buf)) × (length (now rest) ≤ 517) ⌝ }
-    ensures { λ r. ⌜ (Holds framing (now (rest .entry)) r) × (now (buf .exit) ≡ inFront (payloadAt framing (now (s .entry)) len) (now (buf .entry))) ⌝ }
-{
-    unpack(framing, s, len, buf);
-    hold(framing, rest)
-}
-
 // Joins the held bytes and the chunk's front.
 fn join(reader: Reader, chunk: &[u8]) -> Joined
     requires { ⌜ reader .count ≤ limit (reader .framing) ⌝ }
@@ -130,9 +120,9 @@ fn join(reader: Reader, chunk: &[u8]) -> Joined
 }
 
 // The answer to a scan of w.
-fn answer(framing: Framing, w: &[u8], found: ScanResult, before: Before, buf: &mut [u8]) -> First
-    requires { ⌜ Answerable framing (now w) (scanned framing (now w) found) before (now buf) ⌝ }
-    ensures { λ r. ⌜ Tells (calledBy before (now (w .entry)) (scanned framing (now (w .entry)) found)) (now (w .entry)) (now (buf .entry)) r (now (buf .exit)) ⌝ }
+fn answer(framing: Framing, w: &[u8], found: ScanResult, before: Before) -> First
+    requires { ⌜ Answerable framing (now w) (scanned framing (now w) found) before ⌝ }
+    ensures { λ r. ⌜ Told before (now (w .entry)) (scanned framing (now (w .entry)) found) r ⌝ }
 {
     let place = found.place;
     let far = found.reach;
@@ -142,7 +132,6 @@ fn answer(framing: Framing, w: &[u8], found: ScanResult, before: Before, buf: &m
     match end {
         ScanEnd::Frame { used, len } => {
             let taken = far - before.base;
-            unpack(framing, &w[place..], len, buf);
             First {
                 answer: FeedAnswer::Frame { taken, noise, len },
                 from: place + used,
@@ -156,26 +145,27 @@ fn answer(framing: Framing, w: &[u8], found: ScanResult, before: Before, buf: &m
         },
         ScanEnd::Passed => First {
             answer: FeedAnswer::NeedsMore { taken, noise },
-            from: 0,
-            end: 0,
+            from: w.len(),
+            end: w.len(),
         },
     }
 }
 
 // Finds the next frame in a chunk of which the first `reach` bytes were judged before, where `noise` bytes before the chunk were settled and
 // none is held.
+// It is called with a slice made anew: one that is handed on as it came is copied as a whole, which waits until both its parts are stored.
 fn feed_chunk(framing: Framing, chunk: &[u8], reach: usize, noise: usize, buf: &mut [u8]) -> First
     requires { ⌜ ChunkFed framing (now chunk) reach noise (now buf) ⌝ }
-    ensures { λ r. ⌜ Tells (scanChunk framing noise reach (now (chunk .entry))) (now (chunk .entry)) (now (buf .entry)) r (now (buf .exit)) ⌝ }
+    ensures { λ r. ⌜ (Tells (scanChunk framing noise reach (now (chunk .entry))) (now (chunk .entry)) (now (buf .entry)) r (now (buf .exit))) × (r .end ≡ scanChunk framing noise reach (now (chunk .entry)) .taken) ⌝ }
 {
     let size = chunk.len();
-    let found = scan(framing, chunk, size, reach, false);
+    let found = scan_all(framing, chunk, reach, buf);
     let before = Before {
         base: 0,
         noise: noise,
         size: size,
     };
-    answer(framing, chunk, found, before, buf)
+    answer(framing, chunk, found, before)
 }
 
 // The state that holds the told part of w, with the answer.
@@ -196,7 +186,7 @@ fn feed_places(framing: Framing, w: &[u8], count: usize, chunk: &[u8], buf: &mut
     requires { ⌜ PlacesFed framing (now w) count (now chunk) (now buf) ⌝ }
     ensures { λ r. ⌜ Answered framing (scanLine framing (take count (now (w .entry))) (now (chunk .entry))) (now (buf .entry)) r (now (buf .exit)) ⌝ }
 {
-    let found = scan(framing, w, count, count, false);
+    let found = scan(framing, w, count, count, false, buf);
     let far = found.reach;
     let end = found.end;
     if let ScanEnd::Passed = end {
@@ -208,7 +198,7 @@ fn feed_places(framing: Framing, w: &[u8], count: usize, chunk: &[u8], buf: &mut
         noise: 0,
         size: chunk.len(),
     };
-    let told = answer(framing, w, found, before, buf);
+    let told = answer(framing, w, found, before);
     keep(framing, w, told)
 }
 
@@ -238,13 +228,13 @@ fn quiet_held(framing: Framing, s: &[u8], buf: &mut [u8]) -> Quieted
     requires { ⌜ (length (now s) ≤ limit framing) × (256 ≤ length (now buf)) ⌝ }
     ensures { λ r. ⌜ QuietAnswered framing (quiet framing (now (s .entry))) (now (buf .entry)) r (now (buf .exit)) ⌝ }
 {
-    let found = scan(framing, s, s.len(), 0, true);
+    let found = scan(framing, s, s.len(), 0, true, buf);
     let place = found.place;
     let end = found.end;
     match end {
         ScanEnd::Frame { used, len } => {
             let next = place + used;
-            let reader = hand_out(framing, &s[place..], len, &s[next..], buf);
+            let reader = hold(framing, &s[next..]);
             Quieted {
                 reader: reader,
                 answer: QuietAnswer::Frame {
@@ -311,7 +301,7 @@ impl Reader {
             };
         }
         if count == 0 {
-            let told = feed_chunk(framing, chunk, 0, 0, buf);
+            let told = feed_chunk(framing, &chunk[..chunk.len()], 0, 0, buf);
             let from = told.from;
             let end = told.end;
             // Nothing is held afterwards either: the state is not copied.

@@ -1,12 +1,16 @@
 // Finding the first frame of a slice by the leftmost rule.
 use crate::framing::Framing;
 use crate::framing::Judged;
-use crate::framing::judge;
+use crate::framing::extract;
+use crate::refusal::Refusal;
 ghost use mathlib.Core.Path.{_≡_};
-ghost use Prim.Native.Nat.{_+_, _≤_, max, min};
-ghost use lib.ListN.{length, take, drop};
-ghost use Rattle.frame.specs.Judged.{every};
-ghost use Rattle.frame.specs.Scan.{judging, scanFrom, scanned, startOf, other, Skips};
+ghost use mathlib.Core.Bool.{true, false};
+ghost use Prim.Native.Nat.{_+_, _-_, _≤_, _<_, max, min};
+ghost use lib.ListN.{length, getD, take, drop};
+ghost use Rattle.frame.specs.Framing.{read};
+ghost use Rattle.frame.specs.Refusal.{numberOf};
+ghost use Rattle.frame.specs.Judged.{every, verdictOf, handedOut};
+ghost use Rattle.frame.specs.Scan.{judging, scanFrom, scanned, startOf, doubledNumber, other, stoppedAt, stopBuffer, passedBy, Skips};
 
 // Where a scan stopped.
 pub(crate) enum ScanEnd {
@@ -96,14 +100,76 @@ fn start_of(framing: Framing) -> u8
     }
 }
 
-// Judges the first `stop` places of s in order, up to the first that does not fail; bytes that start no frame are passed at once. Bytes up to
-// `reach` were judged before. Where `ended`, the bytes end the segment, and an undecided place fails too.
-pub(crate) fn scan(framing: Framing, s: &[u8], stop: usize, reach: usize, ended: bool) -> ScanResult
-    requires { ⌜ (stop ≤ length (now s)) × (reach ≤ length (now s)) ⌝ }
-    ensures { λ r. ⌜ scanned framing (now (s .entry)) r ≡ scanFrom (judging ended framing) stop 0 reach (now (s .entry)) ⌝ }
+// Whether the byte at `place` is followed by the same byte. In either framing a start that another start follows fails at that one, so that runs of
+// start bytes are passed without a call.
+fn is_doubled(s: &[u8], place: usize) -> bool
+    requires { ⌜ place < length (now s) ⌝ }
+    ensures { λ r. ⌜ ((r ≡ true) → (place + 1 < length (now (s .entry))) × (getD (now (s .entry)) (place + 1) 0 ≡ getD (now (s .entry)) place 0)) ⌝ }
+{
+    if s.len() <= place + 1 {
+        return false;
+    }
+    s[place + 1] == s[place]
+}
+
+// How many places a failed start passes over, where `judged` bytes were judged.
+fn passed_by(framing: Framing, judged: usize) -> usize
+    requires { ⌜ 1 ≤ judged ⌝ }
+    ensures { λ r. ⌜ r ≡ passedBy framing judged ⌝ }
+{
+    match framing {
+        Framing::Binary => 1,
+        Framing::Ascii => judged - 1,
+    }
+}
+
+// The refusal of a start that another start follows.
+fn doubled_refusal(framing: Framing) -> Refusal
+    ensures { λ r. ⌜ numberOf r ≡ doubledNumber framing ⌝ }
+{
+    match framing {
+        Framing::Binary => Refusal::Start,
+        Framing::Ascii => Refusal::Character,
+    }
+}
+
+// Judges s from the start at `place` on, and puts the payload of a frame into the front of buf.
+fn judge_place(framing: Framing, s: &[u8], place: usize, buf: &mut [u8]) -> Judged
+    requires { ⌜ (place < length (now s)) × (getD (now s) place 0 ≡ startOf framing) × (256 ≤ length (now buf)) ⌝ }
+    ensures { λ r. ⌜ (read framing (drop place (now (s .entry))) ≡ verdictOf framing (drop place (now (s .entry))) r) × (now (buf .exit) ≡ handedOut (read framing (drop place (now (s .entry)))) (now (buf .entry))) ⌝ }
+{
+    if is_doubled(s, place) {
+        let refusal = doubled_refusal(framing);
+        let judged = 2;
+        return Judged::Failed { refusal, judged };
+    }
+    extract(framing, &s[place..], buf)
+}
+
+// A scan's result.
+fn stopped(place: usize, reach: usize, end: ScanEnd) -> ScanResult
+    ensures { λ r. ⌜ r ≡ stoppedAt place reach end ⌝ }
+{
+    ScanResult { place, reach, end }
+}
+
+// Judges the places of s from `from` to `stop` in order, up to the first that does not fail; bytes that start no frame are passed at once. The
+// payload of a frame goes to the front of buf. Bytes up to `reach` were judged before. Where `ended`, the bytes end the segment, and an undecided
+// place fails too.
+fn scan_from(
+    framing: Framing,
+    s: &[u8],
+    from: usize,
+    stop: usize,
+    reach: usize,
+    ended: bool,
+    buf: &mut [u8],
+) -> ScanResult
+    requires { ⌜ (from ≤ stop) × (stop ≤ length (now s)) × (reach ≤ length (now s)) × (256 ≤ length (now buf)) ⌝ }
+    ensures { λ r. ⌜ (scanned framing (now (s .entry)) r ≡ scanFrom (judging ended framing) (stop - from) from reach (drop from (now (s .entry)))) × (now (buf .exit) ≡ stopBuffer (scanned framing (now (s .entry)) r .stop) (now (buf .entry))) ⌝ }
 {
     let start = start_of(framing);
-    let mut place = 0;
+    let mut place = from;
     let mut far = reach;
     while place < stop {
         if s[place] != start {
@@ -111,27 +177,69 @@ pub(crate) fn scan(framing: Framing, s: &[u8], stop: usize, reach: usize, ended:
             far = larger(far, place);
             continue;
         }
-        match judge(framing, &s[place..]) {
+        match judge_place(framing, s, place, buf) {
             Judged::Undecided => {
                 if !ended {
-                    let end = ScanEnd::Undecided;
-                    let reach = far;
-                    return ScanResult { place, reach, end };
+                    return stopped(place, far, ScanEnd::Undecided);
                 }
                 far = larger(far, place);
+                place += 1;
             }
             Judged::Failed { refusal: _, judged } => {
                 far = larger(far, place + judged);
+                place = smaller(place + passed_by(framing, judged), stop);
             }
             Judged::Frame { used, len } => {
-                let end = ScanEnd::Frame { used, len };
-                let reach = larger(far, place + used);
-                return ScanResult { place, reach, end };
+                far = larger(far, place + used);
+                return stopped(place, far, ScanEnd::Frame { used, len });
             }
         }
-        place += 1;
     }
-    let end = ScanEnd::Passed;
-    let reach = far;
-    ScanResult { place, reach, end }
+    stopped(place, far, ScanEnd::Passed)
+}
+
+// The same from the first place on.
+pub(crate) fn scan(
+    framing: Framing,
+    s: &[u8],
+    stop: usize,
+    reach: usize,
+    ended: bool,
+    buf: &mut [u8],
+) -> ScanResult
+    requires { ⌜ (stop ≤ length (now s)) × (reach ≤ length (now s)) × (256 ≤ length (now buf)) ⌝ }
+    ensures { λ r. ⌜ (scanned framing (now (s .entry)) r ≡ scanFrom (judging ended framing) stop 0 reach (now (s .entry))) × (now (buf .exit) ≡ stopBuffer (scanned framing (now (s .entry)) r .stop) (now (buf .entry))) ⌝ }
+{
+    scan_from(framing, s, 0, stop, reach, ended, buf)
+}
+
+// The same over all places of a segment that goes on. On a clean line each frame stands at the front, so that place is judged before the loop, whose
+// set-up then costs nothing.
+pub(crate) fn scan_all(framing: Framing, s: &[u8], reach: usize, buf: &mut [u8]) -> ScanResult
+    requires { ⌜ (reach ≤ length (now s)) × (256 ≤ length (now buf)) ⌝ }
+    ensures { λ r. ⌜ (scanned framing (now (s .entry)) r ≡ scanFrom (judging false framing) (length (now (s .entry))) 0 reach (now (s .entry))) × (now (buf .exit) ≡ stopBuffer (scanned framing (now (s .entry)) r .stop) (now (buf .entry))) ⌝ }
+{
+    let size = s.len();
+    if size == 0 {
+        return scan(framing, s, size, reach, false, buf);
+    }
+    if s[0] != start_of(framing) {
+        return scan(framing, s, size, reach, false, buf);
+    }
+    match extract(framing, s, buf) {
+        Judged::Undecided => ScanResult {
+            place: 0,
+            reach: reach,
+            end: ScanEnd::Undecided,
+        },
+        Judged::Failed { refusal: _, judged } => {
+            let next = smaller(passed_by(framing, judged), size);
+            scan_from(framing, s, next, size, larger(reach, judged), false, buf)
+        }
+        Judged::Frame { used, len } => ScanResult {
+            place: 0,
+            reach: larger(reach, used),
+            end: ScanEnd::Frame { used, len },
+        },
+    }
 }

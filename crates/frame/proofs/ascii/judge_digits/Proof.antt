@@ -1,11 +1,15 @@
 -- `frame::ascii::judge_digits` meets its contract: each way out is one of the laws on what stands behind the colon.
 -- Assumes nothing.
+use native.Mathlib.Nat.{add-sub-cancel-left}
 use native.Mathlib.Omega.{arith}
 use mathlib.Core.Logic.{inl, inr}
+use mathlib.Core.Path.{_∙_, ap}
 use borrow.Author.Needs.{needs}
-use lib.ListN.{drop}
+use lib.ListN.{take, drop}
+use Rattle.frame.specs.Ascii.{sum}
+use Rattle.frame.specs.Judged.{decoded}
 use Rattle.frame.proofs.AsciiLeaves.{counted}
-use Rattle.frame.proofs.AsciiJudge.{line-many, line-short, Stopped, line-character, line-count}
+use Rattle.frame.proofs.AsciiJudge.{line-all-digits, line-many, line-short, Stopped, line-character, line-count}
 use Rattle.frame.proofs.ascii.judge_digits.Statement.{statement}
 use Rattle.frame.proofs.ascii.judge_digits.Tie as tie
 
@@ -17,14 +21,10 @@ add-end : tie.Need-add-end
 add-end c = omega (arith, counted 515 (drop 1 (c .before .args .s .now)) .room)
 
 returns : tie.Need-returns
-returns c =
-    let a = c .before .before .args in
-    line-many (a .s .now) (a .count) (c .before .before .pre .1) (c .if1 .taken)
+returns c = let a = c .before .before .args in line-many (a .s .now) (a .count) (c .before .before .pre .1) (c .if1 .taken)
 
 returns-2 : tie.Need-returns-2
-returns-2 c =
-    let a = c .before .before .before .args in
-    line-short (a .s .now) (a .count) (c .before .before .before .pre .1) (omega arith) (c .if2 .taken)
+returns-2 c = let a = c .before .before .before .args in line-short (a .s .now) (a .count) (c .before .before .before .pre .1) (omega arith) (c .if2 .taken)
 
 shared-slice-read-if3 : tie.Need-shared-slice-read-if3
 shared-slice-read-if3 c = search needs
@@ -47,8 +47,23 @@ add-t15 c = search needs
 returns-5 : tie.Need-returns-5
 returns-5 c = line-count (stopped (c .before .before .before .before)) (c .before .before .if3 .left) (inr (c .if5 .taken))
 
-judge-sum-requires : tie.Need-judge-sum-requires
-judge-sum-requires c κs = search needs
+sub-pair-sum : tie.Need-sub-pair-sum
+sub-pair-sum c = search needs
+
+part-pair-sum-start : tie.Need-part-pair-sum-start
+part-pair-sum-start c = search needs
+
+part-pair-sum-end : tie.Need-part-pair-sum-end
+part-pair-sum-end c = search needs
+
+pair-sum-requires : tie.Need-pair-sum-requires
+pair-sum-requires c κs = let a = c .before .before .before .before .before .before .before .before .args in (search needs, line-all-digits (a .s .now) (a .count) (c .before .before .before .before .before .before .before .before .pre .1))
+
+judge-end-requires : tie.Need-judge-end-requires
+judge-end-requires c κs = let a = c .before .before .before .before .before .before .before .before .before .args in (
+  search needs,
+  (search needs, c .pair-sum .ensures ∙ ap (λ (k : _). sum (decoded (take k (drop 1 (a .s .now))))) (add-sub-cancel-left 1 (a .count))),
+)
 
 returns-6 : tie.Need-returns-6
 returns-6 c = search needs
@@ -67,5 +82,9 @@ judge-digits-spec =
     returns-4
     add-t15
     returns-5
-    judge-sum-requires
+    sub-pair-sum
+    part-pair-sum-start
+    part-pair-sum-end
+    pair-sum-requires
+    judge-end-requires
     returns-6)

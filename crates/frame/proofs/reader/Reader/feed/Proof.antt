@@ -6,7 +6,8 @@ use mathlib.Core.List.{List}
 use mathlib.Core.Path.{_≡_, refl, sym, ap, subst}
 use borrow.Author.Needs.{needs}
 use lib.ListN.{length, take}
-use Rattle.frame.specs.Reader.{Called, heldIn, line, Holds, feedRefusal, feedValuesOf, Feeds}
+use lib.Seq.{take-length}
+use Rattle.frame.specs.Reader.{Called, heldIn, line, Holds, feedRefusal, feedValuesOf, Feeds, Tells}
 use Rattle.frame.specs.Scan.{scanChunk, scanLine, scanFrom, Answered}
 use Rattle.frame.specs.declared.reader.Reader.{Reader}
 use Rattle.frame.specs.declared.reader.Fed.{Fed}
@@ -57,6 +58,18 @@ returns-3 c =
     refuses (feedRefusal (a .self) (length (a .buf .now)) (length (a .chunk .now))) _ _ (a .self) (a .buf .now) 15
     (feed-chunk (a .self) (length (a .buf .now)) (length (a .chunk .now)) (omega (arith, c .before .before .before .limit-of .ensures, c .before .before .if1 .left)) (c .before .if2 .left) (c .if3 .taken)) refl
 
+-- What is told of the chunk, which was handed over as a slice made anew.
+told : (c : tie.After-feed-chunk) → let a = c .before .before .before .before .before .before .before .before .before .before .args in
+    Tells (scanChunk (a .self .framing) 0 0 (a .chunk .now)) (a .chunk .now) (a .buf .now) (c .feed-chunk .result) (c .feed-chunk .last .1 .1 .1 .1 .0)
+told c =
+    let a = c .before .before .before .before .before .before .before .before .before .before .args in
+    subst
+    (λ (l : List ℕ). Tells (scanChunk (a .self .framing) 0 0 l) l (a .buf .now) (c .feed-chunk .result) (c .feed-chunk .last .1 .1 .1 .1 .0))
+    (take-length (a .chunk .now)) (c .feed-chunk .ensures .0)
+
+slice-aggregate-feed-chunk : tie.Need-slice-aggregate-feed-chunk
+slice-aggregate-feed-chunk c = sym (ap length (take-length (c .before .before .before .before .before .before .before .before .args .chunk .now)))
+
 feed-chunk-requires : tie.Need-feed-chunk-requires
 feed-chunk-requires c κs = search needs
 
@@ -65,28 +78,28 @@ same-length c = search needs
 
 returns-4 : tie.Need-returns-4
 returns-4 c =
-    let a = c .before .before .before .before .before .before .before .before .before .before .before .before .args in
+    let a = c .before .before .before .before .before .before .before .before .before .before .before .before .before .args in
     let k = c .before .before .before .feed-chunk in
-    let z = c .before .before .before .before .before .if4 .taken in
+    let z = c .before .before .before .before .before .before .if4 .taken in
     let fed : Fed = record { reader = a .self; answer = k .result .answer } in
-    right (a .self) (a .chunk .now) (a .buf .now) fed (k .last .1 .1 .1 .1 .0) (accepted (c .before .before .before .before .before .before))
+    right (a .self) (a .chunk .now) (a .buf .now) fed (k .last .1 .1 .1 .1 .0) (accepted (c .before .before .before .before .before .before .before))
     (subst (λ (x : Called). Answered (a .self .framing) x (a .buf .now) fed (k .last .1 .1 .1 .1 .0)) (nothing-held (a .self) (a .chunk .now) z)
-    (none-answers (scanChunk (a .self .framing) 0 0 (a .chunk .now)) (a .chunk .now) (a .buf .now) (k .result) _ (k .ensures) (a .self) z (c .if5 .taken)))
+    (none-answers (scanChunk (a .self .framing) 0 0 (a .chunk .now)) (a .chunk .now) (a .buf .now) (k .result) _ (told (c .before .before .before)) (a .self) z (c .if5 .taken)))
 
 keep-requires : tie.Need-keep-requires
-keep-requires c κs = search needs
+keep-requires c κs = let h = told (c .before .before .before) in (h .inside, h .there, h .most)
 
 same-length-2 : tie.Need-same-length-2
 same-length-2 c = search needs
 
 returns-5 : tie.Need-returns-5
 returns-5 c =
-    let a = c .before .before .before .before .before .before .before .before .before .before .before .before .before .args in
+    let a = c .before .before .before .before .before .before .before .before .before .before .before .before .before .before .args in
     let k = c .before .before .before .before .feed-chunk in
-    right (a .self) (a .chunk .now) (a .buf .now) (c .keep .result) (k .last .1 .1 .1 .1 .0) (accepted (c .before .before .before .before .before .before .before))
+    right (a .self) (a .chunk .now) (a .buf .now) (c .keep .result) (k .last .1 .1 .1 .1 .0) (accepted (c .before .before .before .before .before .before .before .before))
     (subst (λ (x : Called). Answered (a .self .framing) x (a .buf .now) (c .keep .result) (k .last .1 .1 .1 .1 .0))
-    (nothing-held (a .self) (a .chunk .now) (c .before .before .before .before .before .before .if4 .taken))
-    (kept-answers (scanChunk (a .self .framing) 0 0 (a .chunk .now)) (a .chunk .now) (a .buf .now) (k .result) _ (k .ensures) (a .self .framing)
+    (nothing-held (a .self) (a .chunk .now) (c .before .before .before .before .before .before .before .if4 .taken))
+    (kept-answers (scanChunk (a .self .framing) 0 0 (a .chunk .now)) (a .chunk .now) (a .buf .now) (k .result) _ (told (c .before .before .before .before)) (a .self .framing)
     (c .keep .result) (c .keep .ensures)))
 
 feed-held-requires : tie.Need-feed-held-requires
@@ -109,6 +122,7 @@ feed-spec =
     returns
     returns-2
     returns-3
+    slice-aggregate-feed-chunk
     feed-chunk-requires
     same-length
     returns-4
