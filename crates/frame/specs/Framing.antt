@@ -23,9 +23,13 @@ abbrev pub limit : Framing → ℕ
 limit Binary = 262
 limit Ascii = 517
 
--- What stands at the front of s.
+-- What the checks decide of the front of s: a decision that no later byte changes. The line reader works with it.
+abbrev pub judge : Framing → List ℕ → Verdict
+judge f s = run (checks f) s
+
+-- Which frame stands at the front of s, with all bytes that belong to it. Single reads and the leftmost rule work with it.
 abbrev pub read : Framing → List ℕ → Verdict
-read f s = run (checks f) s
+read f s = judge f s
 
 -- The bytes of p in the front of a buffer, the rest of which stays.
 abbrev pub inFront : List ℕ → List ℕ → List ℕ
