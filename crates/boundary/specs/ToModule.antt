@@ -5,7 +5,7 @@ use mathlib.Core.List.{List, []}
 use mathlib.Core.Bool.{cond}
 use lib.Dec.{eqb}
 use Rattle.message.specs.Meaning.{Meaning, refused, carrying, bare}
-use Rattle.message.specs.ToModule.{requestRefusal, requestLayout, changeRefusal, changeLayout}
+use Rattle.message.specs.ToModule.{requestRefusal, requestLayout, changeRefusal}
 use Rattle.message.specs.declared.to_module.Address.{Address}
 use Rattle.message.specs.declared.to_module.Address.the-variants.{Plain, Extended as Far}
 use Rattle.message.specs.declared.to_module.Transmission.{Transmission}

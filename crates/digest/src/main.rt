@@ -1,9 +1,11 @@
 // Drives the line reader over standard input: `digest FRAMING SIZE`, with FRAMING `binary` or `ascii`, feeds it in chunks of SIZE bytes and prints how many
 // frames and how many bytes of noise came out, and a digest of the payloads. The end of the input is the quiet. bench/ compares it with other programs.
+use frame::Fed;
 use frame::FeedAnswer;
 use frame::Framing;
 use frame::QuietAnswer;
 use frame::Reader;
+use frame::View;
 use libc::STDIN_FILENO;
 use libc::STDOUT_FILENO;
 ghost use lib.ListN.{length};
@@ -84,13 +86,21 @@ fn fed_tally(tally: Tally, answer: FeedAnswer, buf: &[u8]) -> Tally {
     }
 }
 
-// Whether all was taken up to the end of what was read.
-fn is_last(answer: FeedAnswer, end: usize, len: usize) -> bool {
+// Whether a frame was handed out.
+fn is_frame(answer: FeedAnswer) -> bool {
     if let FeedAnswer::Frame {
         taken: _,
         noise: _,
         len: _,
     } = answer {
+        return true;
+    }
+    false
+}
+
+// Whether all was taken up to the end of what was read.
+fn is_last(answer: FeedAnswer, end: usize, len: usize) -> bool {
+    if is_frame(answer) {
         return false;
     }
     end == len
@@ -119,6 +129,46 @@ fn next_span(answer: FeedAnswer, span: Span, size: usize, len: usize) -> Span
     }
 }
 
+// Whether a chunk is fed by views: where nothing is held, and chunks are so long that the copies of a reader's array that this saves outweigh the state
+// that is made at the end.
+fn is_viewed(count: usize, size: usize) -> bool {
+    if size <= Reader::MAX_ASCII {
+        return false;
+    }
+    count == 0
+}
+
+// The answer to a chunk that was taken to its end.
+fn all_taken(reader: Reader) -> Fed {
+    Fed {
+        reader: reader,
+        answer: FeedAnswer::NeedsMore { taken: 0, noise: 0 },
+    }
+}
+
+// Feeds a chunk by views until more is needed. A turn hands out a frame, so the turns are fewer than bytes: their count here is never used up.
+fn drive_view(framing: Framing, start: Tally, chunk: &[u8], buf: &mut [u8]) -> Driven {
+    let mut tally = start;
+    let mut view = View {
+        framing: framing,
+        from: 0,
+        end: 0,
+    };
+    let mut turns: u64 = 0x20000;
+    while 0 < turns {
+        let viewed = view.feed(chunk, buf);
+        let answer = viewed.answer;
+        tally = fed_tally(tally, answer, buf);
+        view = viewed.view;
+        if !is_frame(answer) {
+            break;
+        }
+        turns -= 1;
+    }
+    let reader = view.reader(chunk);
+    Driven { reader, tally }
+}
+
 // Feeds s in chunks of `size` bytes, each one's rest again until more is needed. A turn hands out a frame or takes a chunk to its end, so the turns are
 // fewer than bytes and chunks: their count here is never used up.
 fn drive(start: Driven, s: &[u8], size: usize) -> Driven {
@@ -129,7 +179,9 @@ fn drive(start: Driven, s: &[u8], size: usize) -> Driven {
         end: smaller(size, s.len()),
     };
     let end = span.end;
-    let mut fed = start.reader.feed(&s[..end], &mut buf);
+    let reader = start.reader;
+    let framing = reader.framing;
+    let mut fed = reader.feed(&s[..end], &mut buf);
     let mut turns: u64 = 0x400000;
     while 0 < turns {
         let answer = fed.answer;
@@ -141,7 +193,13 @@ fn drive(start: Driven, s: &[u8], size: usize) -> Driven {
         span = next_span(answer, span, size, s.len());
         let at = span.at;
         let end = span.end;
-        fed = fed.reader.feed(&s[at..end], &mut buf);
+        if is_viewed(fed.reader.count, size) {
+            let driven = drive_view(framing, tally, &s[at..end], &mut buf);
+            tally = driven.tally;
+            fed = all_taken(driven.reader);
+        } else {
+            fed = fed.reader.feed(&s[at..end], &mut buf);
+        }
         turns -= 1;
     }
     let reader = fed.reader;

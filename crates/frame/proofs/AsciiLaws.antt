@@ -4,25 +4,42 @@ use Prim.Native.Nat.{ℕ, zero, suc, _+_, _-_, _*_, _/_, _%_, _≤_, _<_, zero-l
 use native.Mathlib.Nat.{zero-add, suc-add, le-of-suc-le-suc, not-suc-le-zero}
 use native.Mathlib.Numerals.{one-add}
 use native.Mathlib.Omega.{arith}
-use mathlib.Core.Path.{_≡_, refl, sym, ap, ap₂, _∙_, subst}
+use mathlib.Core.Path.{_≡_, refl, sym, ap, _∙_, subst}
 use mathlib.Core.List.{List, [], _∷_, _++_, append-assoc, map, dropLast}
 use mathlib.Core.Bool.{Bool, true, false, cond}
 use borrow.Author.Tests.{le-leb, leb-true, eq-eqb, ne-eqb, eqb-true}
 use lib.Dec.{leb, eqb}
 use lib.ListN.{length, getD, take, drop, length-append, length-map}
-use lib.Seq.{take-at, take-take}
-use Rattle.frame.specs.Checks.{Checks, fails, whole, Verdict, cut, refused, frame, behind, run, Bytes, Payload}
-use Rattle.frame.specs.Ascii.{colon, carriageReturn, lineFeed, isDigit, digitValue, hex, pairs, sum, checksumOf, asciiLayout}
-use Rattle.frame.specs.Ascii.{digits, digitCount, lineEnd, afterDigits, ascii}
-use Rattle.frame.specs.Judged.{decoded, Digits}
+use lib.Seq.{take-at}
+use Rattle.frame.specs.Checks.{Checks, fails, whole, byte, Verdict, cut, refused, frame, behind, run, Bytes, Payload}
+use Rattle.frame.specs.Digit.{isDigit, digitValue, Digits}
+use Rattle.frame.specs.Hex.{hex, pairs, sum, decoded}
+use Rattle.frame.specs.Ascii.{colon, carriageReturn, lineFeed, checksumOf, asciiFront, asciiEnding}
+use Rattle.frame.specs.Ascii.{asciiLayout, digits, digitCount, afterDigits, ascii, lineEnd, crLf}
 use Rattle.frame.specs.declared.framing.Framing.the-variants.{Ascii}
 use Rattle.frame.specs.Claims.{Spells}
 use Rattle.frame.proofs.Numbers.{both-true, and-true}
-use Rattle.frame.proofs.Lists.{bytes-left, bytes-right, bytes-append, drop-last-snoc, drop-last-of, drop-take}
+use Rattle.frame.proofs.Lists.{bytes-left, bytes-right, bytes-append, drop-last-snoc, drop-last-of}
 use Rattle.frame.proofs.Trees.{behind-behind, Within, within-byte, within-test, within-more, within-whole, run-byte, pass-test}
-use Rattle.frame.proofs.Trees.{fail-test, Behind, took-next, took-byte, took-test, took-whole, took-both, refused≢frame}
-use Rattle.frame.proofs.AsciiLeaves.{hex-digits, decoded-hex, hex-decoded, decoded-bytes, length-decoded, length-hex}
-use Rattle.frame.proofs.AsciiLeaves.{checksum-sum, checksum-only, ascii-layout-is, length-ascii-layout}
+use Rattle.frame.proofs.Trees.{fail-test, Behind, took-next, took-byte, took-test, took-both, refused≢frame, Keeps, keeps-byte, used-last}
+use Rattle.frame.proofs.HexLaws.{hex-digits, decoded-hex, hex-decoded, decoded-bytes, length-decoded, length-hex, hex-append, sum-append}
+
+-- The front of a frame, as it is written.
+pub ascii-front-is : (p : List ℕ) → asciiFront p ≡ (colon ∷ hex p) ++ hex (checksumOf p ∷ [])
+unfolding asciiFront
+ascii-front-is p = rw hex-append
+
+-- It has two characters for each byte of the payload, and three more.
+pub length-ascii-front : (p : List ℕ) → length (asciiFront p) ≡ 2 * length p + 3
+length-ascii-front p = rw ascii-front-is (simp (length-append, length-hex) (omega arith))
+
+-- The sum of payload and checksum is 0 modulo 256.
+pub checksum-sum : (p : List ℕ) → sum (p ++ (checksumOf p ∷ [])) % 256 ≡ 0
+checksum-sum p = rw sum-append (omega arith)
+
+-- No other byte brings that sum to 0 modulo 256.
+pub checksum-only : (p : List ℕ) (b : ℕ) → b < 256 → sum (p ++ (b ∷ [])) % 256 ≡ 0 → b ≡ checksumOf p
+checksum-only p b h e = let z : (sum p + sum (b ∷ [])) % 256 ≡ 0 = rw sum-append at e in omega arith
 
 -- As many digits as a payload and its checksum have are at least four, and an even count.
 pub digit-count : (n : ℕ) → digitCount n ≡ true → (4 ≤ n) × (n % 2 ≡ 0)
@@ -46,15 +63,6 @@ within-digits n (suc room) t w =
     λ c. within-either (suc room + n) (isDigit c) (digits room (λ ds e. t (digitValue c ∷ ds) e)) (t [] c)
     (rw suc-add (within-digits n room (λ ds e. t (digitValue c ∷ ds) e) (λ ds e. w (digitValue c ∷ ds) e)))
     (within-more n (suc room + n) (t [] c) (omega arith) (w [] c))
-
--- A frame takes at most 517 bytes.
-pub ascii-within : Within 517 ascii
-unfolding ascii afterDigits lineEnd
-ascii-within =
-    within-byte 516 colon 1 (digits 514 afterDigits)
-    (within-digits 1 514 afterDigits
-    (λ ds c. within-test 1 6 _ _ (λ _. within-test 1 3 _ _ (λ _. within-test 1 4 _ _
-    (λ _. within-byte 0 lineFeed 5 (whole (dropLast (pairs ds))) (within-whole 0 (dropLast (pairs ds))))))))
 
 -- Digits, as many as there is room for, are taken with a character behind them that is none.
 pub digits-end : (room : ℕ) (t : List ℕ → ℕ → Checks) (ds s : List ℕ) (c : ℕ) → Digits ds → length ds ≤ room → isDigit c ≡ false
@@ -87,61 +95,49 @@ digits-many (suc room) t (a ∷ ds) s d h =
     rw (d .0) (ap (behind 1) (digits-many room (λ es x. t (digitValue a ∷ es) x) ds s (d .1) (le-of-suc-le-suc h))
     ∙ ap (λ (k : ℕ). refused k 3) (one-add (suc room)))
 
--- What is left of the checks behind digits of the values ds, at the character c.
-module _ (ds : List ℕ) (c : ℕ) where
-  -- Any character other than CR is refusal 6.
-  pub after-character : (c ≡ carriageReturn → ⊥) → afterDigits ds c ≡ fails 6
+-- The checks behind digits of the values ds, whatever is left for the payload.
+module _ (ds : List ℕ) (rest : List ℕ → Checks) where
+  -- Another count than that of a payload and its checksum is refusal 3.
+  pub after-count : digitCount (length ds) ≡ false → afterDigits ds rest ≡ fails 3
   unfolding afterDigits
-  after-character e = fail-test _ 6 _ (ne-eqb c carriageReturn e)
+  after-count n = fail-test _ 3 _ n
 
-  module _ (e : c ≡ carriageReturn) where
-    -- Another count than that of a payload and its checksum is refusal 3.
-    pub after-count : digitCount (length ds) ≡ false → afterDigits ds c ≡ fails 3
+  module _ (n : digitCount (length ds) ≡ true) where
+    -- A sum that is not 0 modulo 256 is refusal 4.
+    pub after-sum : (sum (pairs ds) % 256 ≡ 0 → ⊥) → afterDigits ds rest ≡ fails 4
     unfolding afterDigits
-    after-count n = pass-test _ 6 _ (eq-eqb c carriageReturn e) ∙ fail-test _ 3 _ n
+    after-sum z = pass-test _ 3 _ n ∙ fail-test _ 4 _ (ne-eqb (sum (pairs ds) % 256) 0 z)
 
-    module _ (n : digitCount (length ds) ≡ true) where
-      -- A sum that is not 0 modulo 256 is refusal 4.
-      pub after-sum : (sum (pairs ds) % 256 ≡ 0 → ⊥) → afterDigits ds c ≡ fails 4
-      unfolding afterDigits
-      after-sum z = pass-test _ 6 _ (eq-eqb c carriageReturn e) ∙ pass-test _ 3 _ n ∙ fail-test _ 4 _ (ne-eqb (sum (pairs ds) % 256) 0 z)
+    -- Else what is left for the payload.
+    pub after-end : sum (pairs ds) % 256 ≡ 0 → afterDigits ds rest ≡ rest (dropLast (pairs ds))
+    unfolding afterDigits
+    after-end z = pass-test _ 3 _ n ∙ pass-test _ 4 _ (eq-eqb (sum (pairs ds) % 256) 0 z)
 
-      -- Else the ending is left.
-      pub after-end : sum (pairs ds) % 256 ≡ 0 → afterDigits ds c ≡ lineEnd (dropLast (pairs ds))
-      unfolding afterDigits
-      after-end z = pass-test _ 6 _ (eq-eqb c carriageReturn e) ∙ pass-test _ 3 _ n ∙ pass-test _ 4 _ (eq-eqb (sum (pairs ds) % 256) 0 z)
+  -- They take no more bytes than what is left.
+  after-within : (n : ℕ) → ((p : List ℕ) → Within n (rest p)) → Within n (afterDigits ds rest)
+  unfolding afterDigits
+  after-within n w = within-test n 3 _ _ (λ _. within-test n 4 _ _ (λ _. w (dropLast (pairs ds))))
 
--- Digits of a right count and sum, then CR LF, are read as a frame.
-run-digits : (ds more : List ℕ) → Digits ds → 4 ≤ length ds → length ds % 2 ≡ 0 → length ds ≤ 514 → sum (decoded ds) % 256 ≡ 0
-    → run (digits 514 afterDigits) (ds ++ (carriageReturn ∷ lineFeed ∷ more)) ≡ frame (length ds + 2) (dropLast (decoded ds))
-unfolding isDigit lineEnd
-run-digits ds more d l n m z =
-    let count : digitCount (length (map digitValue ds)) ≡ true = rw length-map (is-digit-count (length ds) l n) in
-    digits-end 514 afterDigits ds (lineFeed ∷ more) carriageReturn d m refl
-    ∙ ap (λ (t : Checks). behind (suc (length ds)) (run t (lineFeed ∷ more))) (after-end (map digitValue ds) carriageReturn refl count z)
-    ∙ ap (behind (suc (length ds))) (run-byte lineFeed 5 (whole (dropLast (decoded ds))) more)
-    ∙ ap (λ (k : ℕ). frame k (dropLast (decoded ds))) (omega arith)
+-- The values of the digits of a frame with the payload p.
+abbrev pub digitsOf : List ℕ → List ℕ
+digitsOf p = map digitValue (hex (p ++ (checksumOf p ∷ [])))
 
--- The payload and its checksum in characters, then CR LF, are read as a frame with that payload.
-run-spelled : (p more : List ℕ) → Payload p
-    → run (digits 514 afterDigits) (hex (p ++ (checksumOf p ∷ [])) ++ (carriageReturn ∷ lineFeed ∷ more)) ≡ frame (2 * length p + 4) p
-run-spelled p more h =
+-- The bytes of a payload and its checksum.
+summed-bytes : (p : List ℕ) → Payload p → Bytes (p ++ (checksumOf p ∷ []))
+summed-bytes p h = bytes-append p (checksumOf p ∷ []) (h .bytes) (omega arith, tt)
+
+-- They have two digits each.
+summed-size : (p : List ℕ) → length (hex (p ++ (checksumOf p ∷ []))) ≡ 2 * length p + 2
+summed-size p = simp (length-hex, length-append) (omega arith)
+
+-- The digits of a payload and its checksum pass.
+pub after-payload : (p : List ℕ) (rest : List ℕ → Checks) → Payload p → afterDigits (digitsOf p) rest ≡ rest p
+after-payload p rest h =
     let q : List ℕ = p ++ (checksumOf p ∷ []) in
-    let b : Bytes q = bytes-append p (checksumOf p ∷ []) (h .bytes) (omega arith, tt) in
-    let size : length (hex q) ≡ 2 * length p + 2 = simp (length-hex, length-append) (omega arith) in
-    let same : decoded (hex q) ≡ q = decoded-hex q b in
-    let zero-sum : sum (decoded (hex q)) % 256 ≡ 0 = rw same (checksum-sum p) in
-    run-digits (hex q) more (hex-digits q b) (omega (arith, h .some)) (omega arith) (omega (arith, h .most)) zero-sum
-    ∙ ap₂ frame (omega arith) (ap dropLast same ∙ drop-last-of p (checksumOf p))
-
--- What the layout gives is read as that frame.
-pub ascii-layout-reads : (p more : List ℕ) → Payload p → run ascii (asciiLayout p ++ more) ≡ frame (length (asciiLayout p)) p
-unfolding ascii asciiLayout
-ascii-layout-reads p more h =
-    ap (λ (r : List ℕ). run ascii (colon ∷ r)) (append-assoc (hex (p ++ (checksumOf p ∷ []))) (carriageReturn ∷ lineFeed ∷ []) more)
-    ∙ run-byte colon 1 (digits 514 afterDigits) (hex (p ++ (checksumOf p ∷ [])) ++ (carriageReturn ∷ lineFeed ∷ more))
-    ∙ ap (behind 1) (run-spelled p more h)
-    ∙ ap (λ (k : ℕ). frame k p) (omega (arith, length-ascii-layout p))
+    let same : decoded (hex q) ≡ q = decoded-hex q (summed-bytes p h) in
+    let long : length (digitsOf p) ≡ 2 * length p + 2 = length-map (hex q) digitValue ∙ summed-size p in
+    let count : digitCount (length (digitsOf p)) ≡ true = is-digit-count (length (digitsOf p)) (omega (arith, h .some)) (omega arith) in
+    after-end (digitsOf p) rest count (rw same (checksum-sum p)) ∙ ap rest (ap dropLast same ∙ drop-last-of p (checksumOf p))
 
 -- Up to `room` digits ds of s and a character c behind them were taken.
 abbrev pub TookDigits : ℕ → (List ℕ → ℕ → Checks) → List ℕ → ℕ → List ℕ → Type 0
@@ -173,25 +169,22 @@ took-digits (suc room) t s p used e =
         (c ∷ ds, x, (e, d), suc-le-suc m, took-both _ _ (c ∷ []) (ds ++ (x ∷ [])) s p used k b)
     by-digit false c e k rest = ([], c, tt, zero-le, k)
 
--- What a frame's bytes must be behind digits of the values ds, at the character c.
-took-after : (ds : List ℕ) (c : ℕ) (s p : List ℕ) (used : ℕ) → run (afterDigits ds c) s ≡ frame used p
-    → (c ≡ carriageReturn) × (digitCount (length ds) ≡ true) × (sum (pairs ds) % 256 ≡ 0) × (dropLast (pairs ds) ≡ p)
-    × (rest : List ℕ) × (s ≡ lineFeed ∷ rest) × (used ≡ 1)
-unfolding afterDigits lineEnd
-took-after ds c s p used e =
-    let r = took-test (eqb c carriageReturn) 6 _ s p used e in
-    let n = took-test (digitCount (length ds)) 3 _ s p used (r .1) in
+-- Digits of these values have a right count and sum, and stand for the payload p.
+abbrev pub StandFor : List ℕ → List ℕ → Type 0
+StandFor ds p = (digitCount (length ds) ≡ true) × (sum (pairs ds) % 256 ≡ 0) × (dropLast (pairs ds) ≡ p)
+
+-- What a frame's bytes must be behind digits of the values ds: those stand for its payload.
+took-after : (ds : List ℕ) (rest : List ℕ → Checks) → Keeps rest → (s p : List ℕ) (used : ℕ)
+    → run (afterDigits ds rest) s ≡ frame used p → StandFor ds p
+unfolding afterDigits
+took-after ds rest keeps s p used e =
+    let n = took-test (digitCount (length ds)) 3 _ s p used e in
     let z = took-test (eqb (sum (pairs ds) % 256) 0) 4 _ s p used (n .1) in
-    let l = took-byte lineFeed 5 (whole (dropLast (pairs ds))) s p used (z .1) in
-    let w = took-whole (dropLast (pairs ds)) (l .rest) p (l .left) (l .goes) in (
-      eqb-true c carriageReturn (r .0),
-      n .0,
-      eqb-true (sum (pairs ds) % 256) 0 (z .0),
-      w .1,
-      l .rest,
-      l .split,
-      omega (arith, l .count, w .0),
-    )
+    (n .0, eqb-true (sum (pairs ds) % 256) 0 (z .0), keeps (dropLast (pairs ds)) s p used (z .1))
+
+-- An ending takes only digits that stand for the payload that it hands on.
+abbrev pub KeepsDigits : (List ℕ → ℕ → Checks) → Type 0
+KeepsDigits end = (ds : List ℕ) (c : ℕ) (s p : List ℕ) (used : ℕ) → run (end ds c) s ≡ frame used p → StandFor ds p
 
 -- Digits of a right count and sum are the characters of a payload and its checksum.
 spelled : (ds p : List ℕ) → Digits ds → 4 ≤ length ds → length ds % 2 ≡ 0 → length ds ≤ 514 → sum (decoded ds) % 256 ≡ 0
@@ -207,40 +200,118 @@ spelled ds p d l n m z e =
       record { bytes = bytes-left p (last ∷ []) b; some = omega arith; most = omega arith },
     )
 
--- What a frame's bytes must be behind the colon: the characters of payload and checksum, then CR LF.
-took-line : (s p : List ℕ) (used : ℕ) → run (digits 514 afterDigits) s ≡ frame used p
-    → (more : List ℕ) × (s ≡ (hex (p ++ (checksumOf p ∷ [])) ++ (carriageReturn ∷ lineFeed ∷ [])) ++ more) × (used ≡ 2 * length p + 4)
-    × Payload p
-took-line s p used e =
-    let (ds, c, d, m, k) = took-digits 514 afterDigits s p used e in
-    let (r, q, z, l, more, split, left) = took-after (map digitValue ds) c (k .rest) p (k .left) (k .goes) in
-    let n : (4 ≤ length ds) × (length ds % 2 ≡ 0) = rw length-map at (digit-count (length (map digitValue ds)) q) in
-    let w = spelled ds p d (n .0) (n .1) m z l in
-    let size : length ds ≡ 2 * (length p + 1) = ap length (w .0) ∙ simp (length-hex, length-append) in (
-      more,
-      k .split ∙ joined ds (hex (p ++ (checksumOf p ∷ []))) (k .rest) more c (w .0) r split,
-      omega (arith, k .count, length-append ds (c ∷ [])),
-      w .1,
-    )
-  where
-    joined : (ds q rest more : List ℕ) (c : ℕ) → ds ≡ q → c ≡ carriageReturn → rest ≡ lineFeed ∷ more
-        → (ds ++ (c ∷ [])) ++ rest ≡ (q ++ (carriageReturn ∷ lineFeed ∷ [])) ++ more
-    joined ds q rest more c e f g = rw (e, f, g) (simp append-assoc)
+-- A frame of s with the payload p begins with the front of p; the ending is left, from the character `char` on.
+pub record AsciiFront (end : List ℕ → ℕ → Checks) (s : List ℕ) (used : ℕ) (p : List ℕ) : Type 0 where
+  pub char : ℕ
+  pub payload : Payload p
+  pub ends : Behind (end (digitsOf p) char) (asciiFront p ++ (char ∷ [])) s used p
+
+-- Whatever the ending.
+module _ (end : List ℕ → ℕ → Checks) where
+  -- The colon, at most 514 digits, a character and those of the ending behind it are taken.
+  pub ascii-within : (n : ℕ) → ((ds : List ℕ) (c : ℕ) → Within n (end ds c)) → Within (suc (suc (514 + n))) (ascii end)
+  unfolding ascii
+  ascii-within n w = within-byte (suc (514 + n)) colon 1 (digits 514 end) (within-digits n 514 end w)
+
+  -- The front of a frame and a character that is no digit leave the ending.
+  pub ascii-front-reads : (p more : List ℕ) (c : ℕ) → Payload p → isDigit c ≡ false
+      → run (ascii end) (asciiFront p ++ (c ∷ more)) ≡ behind (length (asciiFront p) + 1) (run (end (digitsOf p) c) more)
+  unfolding ascii asciiFront
+  ascii-front-reads p more c h e =
+      let q : List ℕ = p ++ (checksumOf p ∷ []) in
+      let v : Verdict = run (end (digitsOf p) c) more in
+      run-byte colon 1 (digits 514 end) (hex q ++ (c ∷ more))
+      ∙ ap (behind 1) (digits-end 514 end (hex q) more c (hex-digits q (summed-bytes p h)) (omega (arith, summed-size p, h .most)) e)
+      ∙ behind-behind 1 (suc (length (hex q))) v
+      ∙ ap (λ (k : ℕ). behind k v) (omega arith)
+
+  -- What the checks accept begins with the front of its payload.
+  pub took-ascii : KeepsDigits end → (s p : List ℕ) (used : ℕ) → run (ascii end) s ≡ frame used p → AsciiFront end s used p
+  unfolding ascii asciiFront
+  took-ascii keeps s p used e =
+      let h = took-byte colon 1 (digits 514 end) s p used e in
+      let (ds, c, d, m, k) = took-digits 514 end (h .rest) p (h .left) (h .goes) in
+      let (q, z, l) = keeps (map digitValue ds) c (k .rest) p (k .left) (k .goes) in
+      let n : (4 ≤ length ds) × (length ds % 2 ≡ 0) = rw length-map at (digit-count (length (map digitValue ds)) q) in
+      let w = spelled ds p d (n .0) (n .1) m z l in
+      record {
+        char = c;
+        payload = w .1;
+        ends =
+            subst (λ (x : List ℕ). Behind (end (map digitValue x) c) (colon ∷ (x ++ (c ∷ []))) s used p) (w .0)
+            (took-both (end (map digitValue ds) c) _ (colon ∷ []) (ds ++ (c ∷ [])) s p used h k);
+      }
+
+  -- The characters of a frame's payload.
+  pub front-payload : (s p : List ℕ) (used : ℕ) → AsciiFront end s used p → take (2 * length p) (drop 1 s) ≡ hex p
+  front-payload s p used h =
+      let check : List ℕ = hex (checksumOf p ∷ []) in
+      let line : s ≡ (((colon ∷ hex p) ++ check) ++ (h .char ∷ [])) ++ (h .ends .rest) =
+      h .ends .split ∙ ap (λ (q : List ℕ). (q ++ (h .char ∷ [])) ++ (h .ends .rest)) (ascii-front-is p)
+      in
+      ap (λ (l : List ℕ). take (2 * length p) (drop 1 l)) line
+      ∙ ap (take (2 * length p)) (simp append-assoc)
+      ∙ take-at (hex p) (check ++ ((h .char ∷ []) ++ (h .ends .rest))) (2 * length p) (length-hex p)
+
+-- The ending CR LF at the character c.
+module _ (ds : List ℕ) (c : ℕ) where
+  -- Any character other than CR is refusal 6.
+  pub crlf-character : (c ≡ carriageReturn → ⊥) → crLf ds c ≡ fails 6
+  unfolding crLf
+  crlf-character e = fail-test _ 6 _ (ne-eqb c carriageReturn e)
+
+  -- At CR the digits are judged.
+  pub crlf-return : c ≡ carriageReturn → crLf ds c ≡ afterDigits ds lineEnd
+  unfolding crLf
+  crlf-return e = pass-test _ 6 _ (eq-eqb c carriageReturn e)
+
+  -- It takes one byte behind that character.
+  pub crlf-within : Within 1 (crLf ds c)
+  unfolding crLf lineEnd
+  crlf-within =
+      within-test 1 6 _ _ (λ _. after-within ds lineEnd 1 (λ p. within-byte 0 lineFeed 5 (whole p) (within-whole 0 p)))
+
+  -- Where it takes a frame, the character is CR.
+  took-crlf : (s p : List ℕ) (used : ℕ) → run (crLf ds c) s ≡ frame used p → (c ≡ carriageReturn) × (run (afterDigits ds lineEnd) s ≡ frame used p)
+  unfolding crLf
+  took-crlf s p used e = let h = took-test (eqb c carriageReturn) 6 _ s p used e in (eqb-true c carriageReturn (h .0), h .1)
+
+-- LF hands on the payload.
+pub line-end-keeps : Keeps lineEnd
+unfolding lineEnd
+line-end-keeps = keeps-byte lineFeed 5
+
+pub crlf-keeps : KeepsDigits crLf
+crlf-keeps ds c s p used e = took-after ds lineEnd line-end-keeps s p used (took-crlf ds c s p used e .1)
+
+-- What the layout gives is read as that frame.
+pub ascii-layout-reads : (p more : List ℕ) → Payload p → run (ascii crLf) (asciiLayout p ++ more) ≡ frame (length (asciiLayout p)) p
+unfolding isDigit lineEnd
+ascii-layout-reads p more h =
+    let n : ℕ = length (asciiFront p) in
+    ap (run (ascii crLf)) (append-assoc (asciiFront p) asciiEnding more)
+    ∙ ascii-front-reads crLf p (lineFeed ∷ more) carriageReturn h refl
+    ∙ ap (λ (t : Checks). behind (n + 1) (run t (lineFeed ∷ more))) (crlf-return (digitsOf p) carriageReturn refl ∙ after-payload p lineEnd h)
+    ∙ ap (behind (n + 1)) (run-byte lineFeed 5 (whole p) more)
+    ∙ ap (λ (k : ℕ). frame k p) (omega (arith, length-append (asciiFront p) asciiEnding))
 
 -- What is read as a frame is the layout of its payload.
-pub ascii-one-spelling : (s p : List ℕ) (used : ℕ) → run ascii s ≡ frame used p → Spells Ascii s used p
-unfolding ascii asciiLayout
+pub ascii-one-spelling : (s p : List ℕ) (used : ℕ) → run (ascii crLf) s ≡ frame used p → Spells Ascii s used p
+unfolding lineEnd
 ascii-one-spelling s p used e =
-    let h = took-byte colon 1 (digits 514 afterDigits) s p used e in
-    let (more, split, left, payload) = took-line (h .rest) p (h .left) (h .goes) in
-    let same : s ≡ asciiLayout p ++ more = h .split ∙ ap (λ (r : List ℕ). colon ∷ r) split in
-    let size : used ≡ length (asciiLayout p) = omega (arith, h .count, length-ascii-layout p) in
-    record { bytes = ap (take used) same ∙ take-at (asciiLayout p) more used (sym size); count = size; payload = payload }
-
--- The characters of a frame's payload.
-pub spelled-payload : (s p : List ℕ) (used : ℕ) → Spells Ascii s used p → take (2 * length p) (drop 1 s) ≡ hex p
-spelled-payload s p used h =
-    let size : used ≡ 2 * length p + 5 = h .count ∙ length-ascii-layout p in
-    sym (take-take (2 * length p) (used - 1) (drop 1 s) (omega arith))
-    ∙ ap (take (2 * length p)) (sym (drop-take 1 used s) ∙ ap (drop 1) (h .bytes ∙ ascii-layout-is p) ∙ append-assoc (hex p) _ _)
-    ∙ take-at (hex p) _ (2 * length p) (length-hex p)
+    let h = took-ascii crLf crlf-keeps s p used e in
+    let (return, goes) = took-crlf (digitsOf p) (h .char) (h .ends .rest) p (h .ends .left) (h .ends .goes) in
+    let last : Behind (byte lineFeed 5 (whole p)) (asciiFront p ++ (h .char ∷ [])) s used p =
+    record {
+      rest = h .ends .rest;
+      left = h .ends .left;
+      split = h .ends .split;
+      count = h .ends .count;
+      goes = ap (λ (t : Checks). run t (h .ends .rest)) (sym (after-payload p lineEnd (h .payload))) ∙ goes;
+    }
+    in
+    let l = used-last lineFeed 5 p (asciiFront p ++ (h .char ∷ [])) s used last in
+    let same : (asciiFront p ++ (h .char ∷ [])) ++ (lineFeed ∷ []) ≡ asciiLayout p =
+    append-assoc (asciiFront p) (h .char ∷ []) (lineFeed ∷ []) ∙ ap (λ (c : ℕ). asciiFront p ++ (c ∷ lineFeed ∷ [])) return
+    in
+    record { bytes = l .0 ∙ same; count = l .1 ∙ ap length same; payload = h .payload }

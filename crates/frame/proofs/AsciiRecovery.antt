@@ -2,17 +2,17 @@
 -- Assumes nothing.
 use Prim.Native.Nat.{ℕ, _+_, zero-le}
 use native.Mathlib.Nat.{zero-add}
-use mathlib.Core.Path.{_≡_, sym, ap, _∙_, subst}
+use mathlib.Core.Path.{_≡_, sym, ap, ap₂, _∙_, subst}
 use mathlib.Core.List.{List, _∷_, _++_, append-nil}
 use lib.ListN.{length}
 use Rattle.frame.specs.Checks.{cut}
 use Rattle.frame.specs.Ascii.{colon}
 use Rattle.frame.specs.Framing.{read}
-use Rattle.frame.specs.Rule.{join, rule}
+use Rattle.frame.specs.Rule.{join}
 use Rattle.frame.specs.Recovery.{Stretch, none, another, concat, AsciiRecovers}
 use Rattle.frame.specs.declared.framing.Framing.the-variants.{Ascii}
 use Rattle.frame.proofs.Shapes.{NoFrame, refused-no-frame, colon-stops, colon-first}
-use Rattle.frame.proofs.Rules.{rule-split}
+use Rattle.frame.proofs.Rules.{rule-walk, rule-split}
 use Rattle.frame.proofs.Stretches.{rule-stretch}
 
 -- A stretch makes no frame of an undecided start: it is empty or begins with a colon.
@@ -29,5 +29,6 @@ stretch-breaks (another {g} {gs} good st) b s e =
 -- What the damage alone gives, then every good frame, in order, and no noise.
 pub ascii-recovers : AsciiRecovers
 ascii-recovers damage gs st =
-    rule-split Ascii (concat gs) (stretch-breaks st) 0 0 damage zero-le
-    ∙ ap (join (rule Ascii damage)) (rule-stretch Ascii (0 + length damage) st ∙ rw zero-add)
+    rule-walk Ascii (damage ++ concat gs)
+    ∙ rule-split Ascii (concat gs) (stretch-breaks st) 0 0 damage zero-le
+    ∙ ap₂ join (sym (rule-walk Ascii damage)) (rule-stretch Ascii (0 + length damage) st ∙ rw zero-add)

@@ -3,31 +3,16 @@
 use Prim.Native.Nat.{ℕ, _+_, _-_, _*_, _/_, _%_, _≤_}
 use native.Mathlib.Omega.{arith}
 use mathlib.Core.Path.{_≡_, sym, ap, ap₂, _∙_}
-use mathlib.Core.List.{List, _++_, append-nil}
-use lib.ListN.{length, take, drop, length-append, length-drop, take-append-drop, drop-of-length-le}
-use lib.Seq.{paste, drop-drop, length-take-le, take-all, take-take, take-length, take-at, drop-at}
-use Rattle.frame.specs.Ascii.{sum}
+use mathlib.Core.List.{List, _++_}
+use lib.ListN.{length, take, drop, length-append, length-drop}
+use lib.Seq.{paste, drop-drop, length-take-le, take-all, take-take, take-at, drop-at}
+use Rattle.frame.specs.Hex.{sum, decoded}
 use Rattle.frame.specs.Framing.{inFront}
-use Rattle.frame.specs.Judged.{decoded, digitRun, Short}
-use Rattle.frame.proofs.Lists.{paste-front, wrote-part}
+use Rattle.frame.specs.Digit.{digitRun}
+use Rattle.frame.specs.Judged.{Short}
+use Rattle.frame.proofs.Lists.{wrote-part}
 use Rattle.frame.proofs.AsciiJudge.{Summed}
-use Rattle.frame.proofs.AsciiLeaves.{length-decoded, decoded-take, decoded-drop, sum-append}
-
--- A sum is that of a front and that of the rest.
-pub sum-split : (k : ℕ) (s : List ℕ) → sum (take k s) + sum (drop k s) ≡ sum s
-sum-split k s = sym (sum-append (take k s) (drop k s)) ∙ ap sum (take-append-drop k s)
-
--- Two blocks of 16 that are put into an array of 32 are all of it.
-pub two-blocks :
-    (z a b : List ℕ) → length z ≡ 32 → length a ≡ 16 → length b ≡ 16 → paste (paste z 0 a (length a)) 16 b (length b) ≡ a ++ b
-two-blocks z a b lz la lb =
-    let first : paste z 0 a (length a) ≡ a ++ drop 16 z = paste-front z a ∙ ap (λ (k : ℕ). a ++ drop k z) la in
-    let long : length (a ++ drop 16 z) ≤ 32 = omega (arith, length-append a (drop 16 z), length-drop 16 z) in
-    ap (λ (d : List ℕ). paste d 16 b (length b)) first
-    ∙ ap₂ (λ (x y : List ℕ). (x ++ y) ++ drop (16 + length b) (a ++ drop 16 z)) (take-at a (drop 16 z) 16 la) (take-length b)
-    ∙ ap (λ (k : ℕ). (a ++ b) ++ drop (16 + k) (a ++ drop 16 z)) lb
-    ∙ ap (λ (r : List ℕ). (a ++ b) ++ r) (drop-of-length-le (a ++ drop 16 z) long)
-    ∙ append-nil (a ++ b)
+use Rattle.frame.proofs.HexLaws.{length-decoded, decoded-take, decoded-drop, sum-split}
 
 -- An even count of digits from 34 to 64, and the bytes of their first 32 and their last 32.
 module _ (ds : List ℕ) (count : ℕ) (l : length ds ≡ count) (e : count % 2 ≡ 0) (h : 34 ≤ count) (m : count ≤ 64) (two : List ℕ)
@@ -122,7 +107,6 @@ pub short-summed :
 short-summed s count total r h e =
     record {
       stopped = record { count-is = r; room = omega (arith, h .most); there = h .inside };
-      return = h .ends;
       enough = omega (arith, h .least);
       even = h .even;
       sum-is = e;

@@ -18,120 +18,122 @@ use Rattle.frame.proofs.Numbers.{le-or-lt, and-fails}
 use Rattle.frame.proofs.Trees.{behind-behind, pass-byte, fail-byte, cut-byte, pass-word, cut-word, pass-test, fail-test, pass-bytes, cut-bytes}
 use Rattle.frame.proofs.BinaryLaws.{afterWord, is-length-word}
 
-module _ (s : List ℕ) (n : ℕ) where
+-- What stands behind the header and the length n, whatever the ending.
+abbrev behindLength : (List ℕ → Checks) → List ℕ → ℕ → Verdict
+behindLength end s n = behind 4 (run (body end n) (drop 4 s))
+
+module _ (end : List ℕ → Checks) (s : List ℕ) (n : ℕ) where
   -- The payload is there.
   body-run : 4 + n ≤ length s →
-      run (body n) (drop 4 s) ≡ behind n (run (byte (xorOf (take n (drop 4 s))) 4 (footer (take n (drop 4 s)))) (drop (4 + n) s))
+      run (body end n) (drop 4 s) ≡ behind n (run (byte (xorOf (take n (drop 4 s))) 4 (end (take n (drop 4 s)))) (drop (4 + n) s))
   unfolding body
   body-run h =
-      pass-bytes n (λ p. byte (xorOf p) 4 (footer p)) (drop 4 s) (simp length-drop (omega arith))
-      ∙ ap (λ (r : List ℕ). behind n (run (byte (xorOf (take n (drop 4 s))) 4 (footer (take n (drop 4 s)))) r)) (drop-drop n 4 s)
+      pass-bytes n (λ p. byte (xorOf p) 4 (end p)) (drop 4 s) (simp length-drop (omega arith))
+      ∙ ap (λ (r : List ℕ). behind n (run (byte (xorOf (take n (drop 4 s))) 4 (end (take n (drop 4 s)))) r)) (drop-drop n 4 s)
 
-  -- What stands behind the header and the length.
-  abbrev behindLength : Verdict
-  behindLength = behind 4 (run (body n) (drop 4 s))
-
-  pub body-short : 4 ≤ length s → length s ≤ 4 + n → behindLength ≡ cut
+  pub body-short : 4 ≤ length s → length s ≤ 4 + n → behindLength end s n ≡ cut
   unfolding body
   body-short m h =
       ⊎-elim
       (λ (l : 4 + n ≤ length s).
       ap (behind 4)
-      (body-run l ∙ ap (behind n) (cut-byte (xorOf (take n (drop 4 s))) 4 (footer (take n (drop 4 s))) s (4 + n) h)))
-      (λ (l : length s < 4 + n). ap (behind 4) (cut-bytes n (λ p. byte (xorOf p) 4 (footer p)) (drop 4 s) (simp length-drop (omega arith))))
+      (body-run l ∙ ap (behind n) (cut-byte (xorOf (take n (drop 4 s))) 4 (end (take n (drop 4 s))) s (4 + n) h)))
+      (λ (l : length s < 4 + n). ap (behind 4) (cut-bytes n (λ p. byte (xorOf p) 4 (end p)) (drop 4 s) (simp length-drop (omega arith))))
       (le-or-lt (4 + n) (length s))
 
-  pub body-checksum : 4 + n < length s → (getD s (4 + n) 0 ≡ xorOf (take n (drop 4 s)) → ⊥) → behindLength ≡ refused (4 + n + 1) 4
+  pub body-checksum : 4 + n < length s → (getD s (4 + n) 0 ≡ xorOf (take n (drop 4 s)) → ⊥) → behindLength end s n ≡ refused (4 + n + 1) 4
   body-checksum h e =
       ap (behind 4)
-      (body-run (omega arith) ∙ ap (behind n) (fail-byte (xorOf (take n (drop 4 s))) 4 (footer (take n (drop 4 s))) s (4 + n) h e))
+      (body-run (omega arith) ∙ ap (behind n) (fail-byte (xorOf (take n (drop 4 s))) 4 (end (take n (drop 4 s))) s (4 + n) h e))
       ∙ ap (λ (k : ℕ). refused k 4) (sym (add-assoc 4 n 1))
 
-  module _ (h : 4 + n < length s) (e : getD s (4 + n) 0 ≡ xorOf (take n (drop 4 s))) where
-    body-passed : behindLength ≡ behind 4 (behind n (behind 1 (run (footer (take n (drop 4 s))) (drop (suc (4 + n)) s))))
-    body-passed =
-        ap (behind 4)
-        (body-run (omega arith) ∙ ap (behind n) (pass-byte (xorOf (take n (drop 4 s))) 4 (footer (take n (drop 4 s))) s (4 + n) h e))
+  -- The checksum is right: the ending is left.
+  pub body-passed : 4 + n < length s → getD s (4 + n) 0 ≡ xorOf (take n (drop 4 s)) →
+      behindLength end s n ≡ behind 4 (behind n (behind 1 (run (end (take n (drop 4 s))) (drop (suc (4 + n)) s))))
+  body-passed h e =
+      ap (behind 4)
+      (body-run (omega arith) ∙ ap (behind n) (pass-byte (xorOf (take n (drop 4 s))) 4 (end (take n (drop 4 s))) s (4 + n) h e))
 
-    next-byte : getD s (4 + n + 1) 0 ≡ getD s (suc (4 + n)) 0
-    next-byte = ap (λ (k : ℕ). getD s k 0) (add-one (4 + n))
+-- The ending is the footer.
+module _ (s : List ℕ) (n : ℕ) (h : 4 + n < length s) (e : getD s (4 + n) 0 ≡ xorOf (take n (drop 4 s))) where
+  next-byte : getD s (4 + n + 1) 0 ≡ getD s (suc (4 + n)) 0
+  next-byte = ap (λ (k : ℕ). getD s k 0) (add-one (4 + n))
 
-    pub body-no-footer : length s ≤ 4 + n + 1 → behindLength ≡ cut
-    unfolding footer
-    body-no-footer l =
-        body-passed
-        ∙ ap (λ (v : Verdict). behind 4 (behind n (behind 1 v)))
-        (cut-byte 0x04 5 (whole (take n (drop 4 s))) s (suc (4 + n)) (omega arith))
+  pub body-no-footer : length s ≤ 4 + n + 1 → behindLength footer s n ≡ cut
+  unfolding footer
+  body-no-footer l =
+      body-passed footer s n h e
+      ∙ ap (λ (v : Verdict). behind 4 (behind n (behind 1 v)))
+      (cut-byte 0x04 5 (whole (take n (drop 4 s))) s (suc (4 + n)) (omega arith))
 
-    pub body-footer : 4 + n + 1 < length s → (getD s (4 + n + 1) 0 ≡ 0x04 → ⊥) → behindLength ≡ refused (4 + n + 2) 5
-    unfolding footer
-    body-footer l f =
-        body-passed
-        ∙ ap (λ (v : Verdict). behind 4 (behind n (behind 1 v)))
-        (fail-byte 0x04 5 (whole (take n (drop 4 s))) s (suc (4 + n)) (omega arith) (λ g. f (next-byte ∙ g)))
-        ∙ ap (λ (k : ℕ). refused k 5) (sym (add-assoc 4 n 2))
+  pub body-footer : 4 + n + 1 < length s → (getD s (4 + n + 1) 0 ≡ 0x04 → ⊥) → behindLength footer s n ≡ refused (4 + n + 2) 5
+  unfolding footer
+  body-footer l f =
+      body-passed footer s n h e
+      ∙ ap (λ (v : Verdict). behind 4 (behind n (behind 1 v)))
+      (fail-byte 0x04 5 (whole (take n (drop 4 s))) s (suc (4 + n)) (omega arith) (λ g. f (next-byte ∙ g)))
+      ∙ ap (λ (k : ℕ). refused k 5) (sym (add-assoc 4 n 2))
 
-    pub body-frame : 4 + n + 1 < length s → getD s (4 + n + 1) 0 ≡ 0x04 → behindLength ≡ frame (4 + n + 2) (take n (drop 4 s))
-    unfolding footer
-    body-frame l f =
-        body-passed
-        ∙ ap (λ (v : Verdict). behind 4 (behind n (behind 1 v)))
-        (pass-byte 0x04 5 (whole (take n (drop 4 s))) s (suc (4 + n)) (omega arith) (sym next-byte ∙ f))
-        ∙ ap (λ (k : ℕ). frame k (take n (drop 4 s))) (sym (add-assoc 4 n 2))
+  pub body-frame : 4 + n + 1 < length s → getD s (4 + n + 1) 0 ≡ 0x04 → behindLength footer s n ≡ frame (4 + n + 2) (take n (drop 4 s))
+  unfolding footer
+  body-frame l f =
+      body-passed footer s n h e
+      ∙ ap (λ (v : Verdict). behind 4 (behind n (behind 1 v)))
+      (pass-byte 0x04 5 (whole (take n (drop 4 s))) s (suc (4 + n)) (omega arith) (sym next-byte ∙ f))
+      ∙ ap (λ (k : ℕ). frame k (take n (drop 4 s))) (sym (add-assoc 4 n 2))
 
 -- A word outside 0x8001 to 0x8100 is no length.
 no-length-word : (w : ℕ) → (w < 0x8001) ⊎ (0x8100 < w) → lengthWord w ≡ false
 no-length-word w h = and-fails (leb 0x8001 w) (leb w 0x8100) (⊎-elim (λ l. inl (lt-leb 0x8001 w l)) (λ m. inr (lt-leb w 0x8100 m)) h)
 
-abbrev afterSecond : Checks
-afterSecond = word afterWord
+-- The checks that are left behind the first start byte.
+abbrev afterFirst : (List ℕ → Checks) → Checks
+afterFirst end = byte 0x5A 1 (word (afterWord end))
 
-abbrev afterFirst : Checks
-afterFirst = byte 0x5A 1 afterSecond
-
-module _ (s : List ℕ) where
-  pub judge-empty : length s ≡ 0 → run binary s ≡ cut
+-- The start bytes and the length, whatever the ending.
+module _ (end : List ℕ → Checks) (s : List ℕ) where
+  pub judge-empty : length s ≡ 0 → run (binary end) s ≡ cut
   unfolding binary
-  judge-empty h = cut-byte 0xA5 1 afterFirst s 0 (omega arith)
+  judge-empty h = cut-byte 0xA5 1 (afterFirst end) s 0 (omega arith)
 
-  pub judge-first : 0 < length s → (getD s 0 0 ≡ 0xA5 → ⊥) → run binary s ≡ refused 1 1
+  pub judge-first : 0 < length s → (getD s 0 0 ≡ 0xA5 → ⊥) → run (binary end) s ≡ refused 1 1
   unfolding binary
-  judge-first h e = fail-byte 0xA5 1 afterFirst s 0 h e
+  judge-first h e = fail-byte 0xA5 1 (afterFirst end) s 0 h e
 
   module _ (a : getD s 0 0 ≡ 0xA5) where
-    first-passed : 0 < length s → run binary s ≡ behind 1 (run afterFirst (drop 1 s))
+    first-passed : 0 < length s → run (binary end) s ≡ behind 1 (run (afterFirst end) (drop 1 s))
     unfolding binary
-    first-passed h = pass-byte 0xA5 1 afterFirst s 0 h a
+    first-passed h = pass-byte 0xA5 1 (afterFirst end) s 0 h a
 
-    pub judge-one : length s ≡ 1 → run binary s ≡ cut
-    judge-one h = first-passed (omega arith) ∙ ap (behind 1) (cut-byte 0x5A 1 afterSecond s 1 (omega arith))
+    pub judge-one : length s ≡ 1 → run (binary end) s ≡ cut
+    judge-one h = first-passed (omega arith) ∙ ap (behind 1) (cut-byte 0x5A 1 (word (afterWord end)) s 1 (omega arith))
 
-    pub judge-second : 1 < length s → (getD s 1 0 ≡ 0x5A → ⊥) → run binary s ≡ refused 2 1
-    judge-second h e = first-passed (omega arith) ∙ ap (behind 1) (fail-byte 0x5A 1 afterSecond s 1 h e)
+    pub judge-second : 1 < length s → (getD s 1 0 ≡ 0x5A → ⊥) → run (binary end) s ≡ refused 2 1
+    judge-second h e = first-passed (omega arith) ∙ ap (behind 1) (fail-byte 0x5A 1 (word (afterWord end)) s 1 h e)
 
     module _ (b : getD s 1 0 ≡ 0x5A) where
-      second-passed : 1 < length s → run binary s ≡ behind 1 (behind 1 (run afterSecond (drop 2 s)))
-      second-passed h = first-passed (omega arith) ∙ ap (behind 1) (pass-byte 0x5A 1 afterSecond s 1 h b)
+      second-passed : 1 < length s → run (binary end) s ≡ behind 1 (behind 1 (run (word (afterWord end)) (drop 2 s)))
+      second-passed h = first-passed (omega arith) ∙ ap (behind 1) (pass-byte 0x5A 1 (word (afterWord end)) s 1 h b)
 
-      pub judge-short : 1 < length s → length s < 4 → run binary s ≡ cut
-      judge-short h l = second-passed h ∙ ap (λ (v : Verdict). behind 1 (behind 1 v)) (cut-word afterWord s 2 (omega arith))
+      pub judge-short : 1 < length s → length s < 4 → run (binary end) s ≡ cut
+      judge-short h l = second-passed h ∙ ap (λ (v : Verdict). behind 1 (behind 1 v)) (cut-word (afterWord end) s 2 (omega arith))
 
-      word-passed : 4 ≤ length s → run binary s ≡ behind 4 (run (afterWord (getD s 2 0 * 256 + getD s 3 0)) (drop 4 s))
+      word-passed : 4 ≤ length s → run (binary end) s ≡ behind 4 (run (afterWord end (getD s 2 0 * 256 + getD s 3 0)) (drop 4 s))
       word-passed h =
           second-passed (omega arith)
-          ∙ behind-behind 1 1 (run afterSecond (drop 2 s))
-          ∙ ap (behind 2) (pass-word afterWord s 2 (omega arith))
-          ∙ behind-behind 2 2 (run (afterWord (getD s 2 0 * 256 + getD s 3 0)) (drop 4 s))
+          ∙ behind-behind 1 1 (run (word (afterWord end)) (drop 2 s))
+          ∙ ap (behind 2) (pass-word (afterWord end) s 2 (omega arith))
+          ∙ behind-behind 2 2 (run (afterWord end (getD s 2 0 * 256 + getD s 3 0)) (drop 4 s))
 
       module _ (w : ℕ) (is : w ≡ getD s 2 0 * 256 + getD s 3 0) (h : 4 ≤ length s) where
-        pub judge-length : (w < 0x8001) ⊎ (0x8100 < w) → run binary s ≡ refused 4 3
+        pub judge-length : (w < 0x8001) ⊎ (0x8100 < w) → run (binary end) s ≡ refused 4 3
         judge-length l =
             word-passed h
-            ∙ ap (λ (k : ℕ). behind 4 (run (afterWord k) (drop 4 s))) (sym is)
-            ∙ ap (λ (t : Checks). behind 4 (run t (drop 4 s))) (fail-test (lengthWord w) 3 (body (w - 0x8000)) (no-length-word w l))
+            ∙ ap (λ (k : ℕ). behind 4 (run (afterWord end k) (drop 4 s))) (sym is)
+            ∙ ap (λ (t : Checks). behind 4 (run t (drop 4 s))) (fail-test (lengthWord w) 3 (body end (w - 0x8000)) (no-length-word w l))
 
-        pub judge-rest : 0x8001 ≤ w → w ≤ 0x8100 → run binary s ≡ behind 4 (run (body (w - 0x8000)) (drop 4 s))
+        pub judge-rest : 0x8001 ≤ w → w ≤ 0x8100 → run (binary end) s ≡ behind 4 (run (body end (w - 0x8000)) (drop 4 s))
         judge-rest l m =
             word-passed h
-            ∙ ap (λ (k : ℕ). behind 4 (run (afterWord k) (drop 4 s))) (sym is)
-            ∙ ap (λ (t : Checks). behind 4 (run t (drop 4 s))) (pass-test (lengthWord w) 3 (body (w - 0x8000)) (is-length-word w l m))
+            ∙ ap (λ (k : ℕ). behind 4 (run (afterWord end k) (drop 4 s))) (sym is)
+            ∙ ap (λ (t : Checks). behind 4 (run t (drop 4 s))) (pass-test (lengthWord w) 3 (body end (w - 0x8000)) (is-length-word w l m))

@@ -1,6 +1,6 @@
 -- Laws of binary framing: its layout and its checks belong together, and how long a frame can be.
 -- Assumes nothing.
-use Prim.Native.Nat.{ℕ, _+_, _-_, _*_, _/_, _%_, _≤_, _<_}
+use Prim.Native.Nat.{ℕ, suc, _+_, _-_, _*_, _/_, _%_, _≤_, _<_}
 use native.Mathlib.Nat.{div-add-mod', add-sub-cancel-left}
 use native.Mathlib.Omega.{arith}
 use mathlib.Core.Path.{_≡_, sym, ap, ap₂, _∙_, subst}
@@ -9,11 +9,10 @@ use mathlib.Core.Bool.{true}
 use borrow.Author.Tests.{le-leb, leb-true}
 use lib.Arith.{digits-div, digits-mod}
 use lib.Dec.{leb}
-use lib.ListN.{length, getD, take, drop, length-append, drop-of-length-le}
+use lib.ListN.{length, getD, drop, length-append, drop-of-length-le}
 use lib.Bits.{bitXor}
-use lib.Seq.{take-at}
 use Rattle.frame.specs.Checks.{Checks, whole, byte, test, word, bytes, frame, behind, run, Bytes, Payload}
-use Rattle.frame.specs.Binary.{xorFrom, xorOf, bigEndian, binaryLayout, footer, lengthWord, body, binary}
+use Rattle.frame.specs.Binary.{xorFrom, xorOf, bigEndian, binaryFront, binaryEnding, binaryLayout, footer, lengthWord, body, binary}
 use Rattle.frame.specs.declared.framing.Framing.the-variants.{Binary}
 use Rattle.frame.specs.Claims.{Spells}
 use Rattle.frame.proofs.Numbers.{both-true, and-true}
@@ -35,8 +34,10 @@ use Rattle.frame.proofs.Trees.{
   took-word,
   took-test,
   took-bytes,
-  took-whole,
   took-both,
+  Keeps,
+  keeps-byte,
+  used-last,
 }
 
 -- A length word is 0x8000 plus 1 to 256.
@@ -46,138 +47,170 @@ length-word w e = let h = both-true (leb 0x8001 w) (leb w 0x8100) e in (leb-true
 pub is-length-word : (w : ℕ) → 0x8001 ≤ w → w ≤ 0x8100 → lengthWord w ≡ true
 is-length-word w l m = and-true (leb 0x8001 w) (leb w 0x8100) (le-leb 0x8001 w l) (le-leb w 0x8100 m)
 
--- A frame takes at most 262 bytes.
-pub binary-within : Within 262 binary
-unfolding binary body footer
-binary-within =
-    within-byte 261 0xA5 1 (byte 0x5A 1 (word (λ w. test (lengthWord w) 3 (body (w - 0x8000)))))
-    (within-byte 260 0x5A 1 (word (λ w. test (lengthWord w) 3 (body (w - 0x8000))))
-    (within-word 258 (λ w. test (lengthWord w) 3 (body (w - 0x8000)))
-    (λ w. within-test 258 3 (lengthWord w) (body (w - 0x8000))
-    (λ e. within-more (w - 0x8000 + 2) 258 (body (w - 0x8000)) (let h = length-word w e in omega arith)
-    (within-bytes 2 (w - 0x8000) (λ p. byte (xorOf p) 4 (footer p))
-    (λ p. within-byte 1 (xorOf p) 4 (footer p) (within-byte 0 0x04 5 (whole p) (within-whole 0 p))))))))
-
--- What follows the length is read as a frame with the payload p.
-run-body : (p more : List ℕ) → run (body (length p)) (p ++ (xorOf p ∷ 0x04 ∷ more)) ≡ frame (length p + 2) p
-unfolding body footer
-run-body p more =
-    run-bytes p (xorOf p ∷ 0x04 ∷ more) (λ q. byte (xorOf q) 4 (footer q))
-    ∙ ap (behind (length p))
-    (run-byte (xorOf p) 4 (footer p) (0x04 ∷ more) ∙ ap (behind 1) (run-byte 0x04 5 (whole p) more))
-
 -- Behind the header and the length word w, the checks of a body of that length are left.
-abbrev pub afterWord : ℕ → Checks
-afterWord w = test (lengthWord w) 3 (body (w - 0x8000))
+abbrev pub afterWord : (List ℕ → Checks) → ℕ → Checks
+afterWord end w = test (lengthWord w) 3 (body end (w - 0x8000))
 
-run-header : (high low : ℕ) (s : List ℕ) → run binary (0xA5 ∷ 0x5A ∷ high ∷ low ∷ s) ≡ behind 4 (run (afterWord (high * 256 + low)) s)
-unfolding binary word
-run-header high low s =
-    run-byte 0xA5 1 (byte 0x5A 1 (word afterWord)) (0x5A ∷ high ∷ low ∷ s)
-    ∙ ap (behind 1) (run-byte 0x5A 1 (word afterWord) (high ∷ low ∷ s))
-    ∙ behind-behind 1 1 (behind 1 (behind 1 (run (afterWord (high * 256 + low)) s)))
-    ∙ ap (behind 2) (behind-behind 1 1 (run (afterWord (high * 256 + low)) s))
-    ∙ behind-behind 2 2 (run (afterWord (high * 256 + low)) s)
-
--- A length word leaves the checks of a body.
-after-word : (n : ℕ) → 1 ≤ n → n ≤ 256 → afterWord (0x8000 + n) ≡ body n
-after-word n l m =
-    pass-test (lengthWord (0x8000 + n)) 3 (body (0x8000 + n - 0x8000)) (is-length-word (0x8000 + n) (omega arith) (omega arith))
-    ∙ ap body (add-sub-cancel-left 0x8000 n)
-
-pub length-binary : (p : List ℕ) → length (binaryLayout p) ≡ length p + 6
-unfolding binaryLayout
-length-binary p = simp length-append (omega arith)
-
--- What the layout gives is read as that frame.
-pub binary-layout-reads : (p more : List ℕ) → Payload p → run binary (binaryLayout p ++ more) ≡ frame (length (binaryLayout p)) p
-unfolding binaryLayout
-binary-layout-reads p more h =
-    ap (λ (r : List ℕ). run binary (0xA5 ∷ 0x5A ∷ (0x8000 + length p) / 256 ∷ (0x8000 + length p) % 256 ∷ r))
-    (append-assoc p (xorOf p ∷ 0x04 ∷ []) more)
-    ∙ run-header ((0x8000 + length p) / 256) ((0x8000 + length p) % 256) (p ++ (xorOf p ∷ 0x04 ∷ more))
-    ∙ ap (λ (t : Checks). behind 4 (run t (p ++ (xorOf p ∷ 0x04 ∷ more))))
-    (ap afterWord (div-add-mod' (0x8000 + length p) 256) ∙ after-word (length p) (h .some) (h .most))
-    ∙ ap (behind 4) (run-body p more)
-    ∙ ap (λ (k : ℕ). frame k p) (omega (arith, length-binary p))
+pub length-binary-front : (p : List ℕ) → length (binaryFront p) ≡ length p + 5
+unfolding binaryFront
+length-binary-front p = simp length-append (omega arith)
 
 -- A word below 0x10000 is the two bytes it was made of.
 big-endian : (high low n : ℕ) → low < 256 → 0x8000 + n ≡ high * 256 + low → bigEndian (0x8000 + n) ≡ high ∷ low ∷ []
 big-endian high low n l e = ap bigEndian e ∙ ap₂ (λ (a b : ℕ). a ∷ b ∷ []) (digits-div high l) (digits-mod high l)
 
--- What the checks of a body accept: the payload, its checksum and the footer.
-took-body : (n : ℕ) (s p : List ℕ) (used : ℕ) → run (body n) s ≡ frame used p → (rest : List ℕ) × (s ≡ p ++ (xorOf p ∷ 0x04 ∷ rest)) × (used ≡ n + 2) × (length p ≡ n)
-unfolding body footer
-took-body n s p used e =
-    let h = took-bytes n (λ q. byte (xorOf q) 4 (footer q)) s p used e in
-    let k = took-byte (xorOf (h .0)) 4 (footer (h .0)) (h .2 .rest) p (h .2 .left) (h .2 .goes) in
-    let f = took-byte 0x04 5 (whole (h .0)) (k .rest) p (k .left) (k .goes) in
-    let w = took-whole (h .0) (f .rest) p (f .left) (f .goes) in (
-      f .rest,
-      h .2 .split
-          ∙ ap (λ (r : List ℕ). h .0 ++ r) (k .split ∙ ap (λ (r : List ℕ). xorOf (h .0) ∷ r) (f .split))
-          ∙ ap (λ (q : List ℕ). q ++ (xorOf q ∷ 0x04 ∷ (f .rest))) (w .1),
-      omega (arith, h .1, h .2 .count, k .count, f .count, w .0),
-      ap length (sym (w .1)) ∙ h .1,
-    )
-
--- Bytes that begin so are the layout of p.
-spelled : (high low : ℕ) (s p more : List ℕ) → Bytes s → s ≡ 0xA5 ∷ 0x5A ∷ high ∷ low ∷ (p ++ (xorOf p ∷ 0x04 ∷ more)) →
-    0x8000 + length p ≡ high * 256 + low → 1 ≤ length p → length p ≤ 256 → Spells Binary s (length p + 6) p
-unfolding binaryLayout
-spelled high low s p more b e w l m =
-    let all : Bytes (0xA5 ∷ 0x5A ∷ high ∷ low ∷ (p ++ (xorOf p ∷ 0x04 ∷ more))) = subst Bytes e b in
-    let same : s ≡ binaryLayout p ++ more =
-    e
-    ∙ ap₂ (λ (q r : List ℕ). 0xA5 ∷ 0x5A ∷ (q ++ r)) (sym (big-endian high low (length p) (all .1 .1 .1 .0) w))
-    (sym (append-assoc p (xorOf p ∷ 0x04 ∷ []) more))
-    in
-    record {
-      bytes = ap (take (length p + 6)) same ∙ take-at (binaryLayout p) more (length p + 6) (length-binary p);
-      count = sym (length-binary p);
-      payload = record { bytes = bytes-left p (xorOf p ∷ 0x04 ∷ more) (all .1 .1 .1 .1); some = l; most = m };
-    }
-
--- What the checks accept, whatever the numbers: the header, a length word, the payload, its checksum and the footer.
-pub record Parts (s : List ℕ) (used : ℕ) (p : List ℕ) : Type 0 where
+-- A frame of s with the payload p, whatever the numbers: the header, a length word, the payload and its checksum; the ending is left.
+pub record BinaryFront (end : List ℕ → Checks) (s : List ℕ) (used : ℕ) (p : List ℕ) : Type 0 where
   pub high : ℕ
   pub low : ℕ
-  pub more : List ℕ
-  pub split : s ≡ 0xA5 ∷ 0x5A ∷ high ∷ low ∷ (p ++ (xorOf p ∷ 0x04 ∷ more))
   pub word : high * 256 + low ≡ 0x8000 + length p
-  pub count : used ≡ length p + 6
   pub some : 1 ≤ length p
   pub most : length p ≤ 256
+  pub ends : Behind (end p) (0xA5 ∷ 0x5A ∷ high ∷ low ∷ (p ++ (xorOf p ∷ []))) s used p
 
-pub took-binary : (s p : List ℕ) (used : ℕ) → run binary s ≡ frame used p → Parts s used p
-unfolding binary
-took-binary s p used e =
-    let h = took-byte 0xA5 1 (byte 0x5A 1 (word afterWord)) s p used e in
-    let k = took-byte 0x5A 1 (word afterWord) (h .rest) p (h .left) (h .goes) in
-    let w = took-word afterWord (k .rest) p (k .left) (k .goes) in
-    let n : ℕ = w .0 * 256 + w .1 in
-    let t = took-test (lengthWord n) 3 (body (n - 0x8000)) (w .2 .rest) p (w .2 .left) (w .2 .goes) in
-    let d = took-body (n - 0x8000) (w .2 .rest) p (w .2 .left) (t .1) in
-    let r = length-word n (t .0) in
-    record {
-      high = w .0;
-      low = w .1;
-      more = d .0;
-      split =
-          h .split ∙ ap (λ (x : List ℕ). 0xA5 ∷ x) (k .split ∙ ap (λ (x : List ℕ). 0x5A ∷ x)
-          (w .2 .split ∙ ap (λ (x : List ℕ). (w .0) ∷ (w .1) ∷ x) (d .1)));
-      word = omega (arith, d .3, r .0);
-      count = omega (arith, h .count, k .count, w .2 .count, d .2, d .3);
-      some = omega (arith, d .3, r .0);
-      most = omega (arith, d .3, r .1);
-    }
+-- Whatever the ending.
+module _ (end : List ℕ → Checks) where
+  -- Four bytes, at most 257 of payload and checksum, and those of the ending are taken.
+  pub binary-within : (n : ℕ) → ((p : List ℕ) → Within n (end p)) → Within (suc (suc (suc (suc (257 + n))))) (binary end)
+  unfolding binary body
+  binary-within n e =
+      within-byte (suc (suc (suc (257 + n)))) 0xA5 1 (byte 0x5A 1 (word (afterWord end)))
+      (within-byte (suc (suc (257 + n))) 0x5A 1 (word (afterWord end))
+      (within-word (257 + n) (afterWord end)
+      (λ w. within-test (257 + n) 3 (lengthWord w) (body end (w - 0x8000))
+      (λ l. within-more (w - 0x8000 + suc n) (257 + n) (body end (w - 0x8000)) (let h = length-word w l in omega arith)
+      (within-bytes (suc n) (w - 0x8000) (λ p. byte (xorOf p) 4 (end p)) (λ p. within-byte n (xorOf p) 4 (end p) (e p)))))))
+
+  -- Behind the length, the payload and its checksum leave the ending.
+  run-body : (p more : List ℕ) → run (body end (length p)) (p ++ (xorOf p ∷ more)) ≡ behind (length p + 1) (run (end p) more)
+  unfolding body
+  run-body p more =
+      run-bytes p (xorOf p ∷ more) (λ q. byte (xorOf q) 4 (end q))
+      ∙ ap (behind (length p)) (run-byte (xorOf p) 4 (end p) more)
+      ∙ behind-behind (length p) 1 (run (end p) more)
+
+  run-header : (high low : ℕ) (s : List ℕ) → run (binary end) (0xA5 ∷ 0x5A ∷ high ∷ low ∷ s) ≡ behind 4 (run (afterWord end (high * 256 + low)) s)
+  unfolding binary word
+  run-header high low s =
+      run-byte 0xA5 1 (byte 0x5A 1 (word (afterWord end))) (0x5A ∷ high ∷ low ∷ s)
+      ∙ ap (behind 1) (run-byte 0x5A 1 (word (afterWord end)) (high ∷ low ∷ s))
+      ∙ behind-behind 1 1 (behind 1 (behind 1 (run (afterWord end (high * 256 + low)) s)))
+      ∙ ap (behind 2) (behind-behind 1 1 (run (afterWord end (high * 256 + low)) s))
+      ∙ behind-behind 2 2 (run (afterWord end (high * 256 + low)) s)
+
+  -- A length word leaves the checks of a body.
+  after-word : (n : ℕ) → 1 ≤ n → n ≤ 256 → afterWord end (0x8000 + n) ≡ body end n
+  after-word n l m =
+      pass-test (lengthWord (0x8000 + n)) 3 (body end (0x8000 + n - 0x8000)) (is-length-word (0x8000 + n) (omega arith) (omega arith))
+      ∙ ap (body end) (add-sub-cancel-left 0x8000 n)
+
+  -- The front of a frame leaves the ending.
+  pub binary-front-reads : (p more : List ℕ) → Payload p
+      → run (binary end) (binaryFront p ++ more) ≡ behind (length (binaryFront p)) (run (end p) more)
+  unfolding binaryFront
+  binary-front-reads p more h =
+      ap (λ (r : List ℕ). run (binary end) (0xA5 ∷ 0x5A ∷ (0x8000 + length p) / 256 ∷ (0x8000 + length p) % 256 ∷ r))
+      (append-assoc p (xorOf p ∷ []) more)
+      ∙ run-header ((0x8000 + length p) / 256) ((0x8000 + length p) % 256) (p ++ (xorOf p ∷ more))
+      ∙ ap (λ (t : Checks). behind 4 (run t (p ++ (xorOf p ∷ more))))
+      (ap (afterWord end) (div-add-mod' (0x8000 + length p) 256) ∙ after-word (length p) (h .some) (h .most))
+      ∙ ap (behind 4) (run-body p more)
+      ∙ behind-behind 4 (length p + 1) (run (end p) more)
+      ∙ ap (λ (k : ℕ). behind k (run (end p) more)) (omega (arith, length-binary-front p))
+
+  -- What the checks of a body accept: a payload and its checksum; the ending is left.
+  took-body : (n : ℕ) (s p : List ℕ) (used : ℕ) → run (body end n) s ≡ frame used p
+      → (q : List ℕ) × (length q ≡ n) × Behind (end q) (q ++ (xorOf q ∷ [])) s used p
+  unfolding body
+  took-body n s p used e =
+      let h = took-bytes n (λ q. byte (xorOf q) 4 (end q)) s p used e in
+      let k = took-byte (xorOf (h .0)) 4 (end (h .0)) (h .2 .rest) p (h .2 .left) (h .2 .goes) in
+      (h .0, h .1, took-both (end (h .0)) (byte (xorOf (h .0)) 4 (end (h .0))) (h .0) (xorOf (h .0) ∷ []) s p used (h .2) k)
+
+  module _ (keeps : Keeps end) where
+    -- The payload of a frame is the one that stands behind the length.
+    fronted : (s p q : List ℕ) (used high low : ℕ) → lengthWord (high * 256 + low) ≡ true → length q ≡ high * 256 + low - 0x8000
+        → Behind (end q) (0xA5 ∷ 0x5A ∷ high ∷ low ∷ (q ++ (xorOf q ∷ []))) s used p → BinaryFront end s used p
+    fronted s p q used high low w size h =
+        let same : q ≡ p = keeps q (h .rest) p (h .left) (h .goes) in
+        let long : length p ≡ high * 256 + low - 0x8000 = ap length (sym same) ∙ size in
+        let r = length-word (high * 256 + low) w in
+        record {
+          high = high;
+          low = low;
+          word = omega (arith, r .0);
+          some = omega (arith, r .0);
+          most = omega (arith, r .1);
+          ends = subst (λ (x : List ℕ). Behind (end x) (0xA5 ∷ 0x5A ∷ high ∷ low ∷ (x ++ (xorOf x ∷ []))) s used p) same h;
+        }
+
+    -- What the checks accept, whatever the numbers.
+    pub took-binary : (s p : List ℕ) (used : ℕ) → run (binary end) s ≡ frame used p → BinaryFront end s used p
+    unfolding binary
+    took-binary s p used e =
+        let h = took-byte 0xA5 1 (byte 0x5A 1 (word (afterWord end))) s p used e in
+        let k = took-byte 0x5A 1 (word (afterWord end)) (h .rest) p (h .left) (h .goes) in
+        let (high, low, w) = took-word (afterWord end) (k .rest) p (k .left) (k .goes) in
+        let t = took-test (lengthWord (high * 256 + low)) 3 (body end (high * 256 + low - 0x8000)) (w .rest) p (w .left) (w .goes) in
+        let (q, size, d) = took-body (high * 256 + low - 0x8000) (w .rest) p (w .left) (t .1) in
+        fronted s p q used high low (t .0) size
+        (took-both (end q) (byte 0x5A 1 (word (afterWord end))) (0xA5 ∷ []) (0x5A ∷ high ∷ low ∷ (q ++ (xorOf q ∷ []))) s p used h
+        (took-both (end q) (word (afterWord end)) (0x5A ∷ []) (high ∷ low ∷ (q ++ (xorOf q ∷ []))) (h .rest) p (h .left) k
+        (took-both (end q) (afterWord end (high * 256 + low)) (high ∷ low ∷ []) (q ++ (xorOf q ∷ [])) (k .rest) p (k .left) w d)))
+
+    -- Of bytes, what the checks accept begins with the front of its payload.
+    pub binary-spelled : (s p : List ℕ) (used : ℕ) → Bytes s → run (binary end) s ≡ frame used p
+        → Behind (end p) (binaryFront p) s used p × Payload p
+    unfolding binaryFront
+    binary-spelled s p used b e =
+        let h = took-binary s p used e in
+        let q : List ℕ = p ++ (xorOf p ∷ []) in
+        let all : Bytes (0xA5 ∷ 0x5A ∷ (h .high) ∷ (h .low) ∷ (q ++ (h .ends .rest))) = subst Bytes (h .ends .split) b in
+        let number : bigEndian (0x8000 + length p) ≡ (h .high) ∷ (h .low) ∷ [] =
+        big-endian (h .high) (h .low) (length p) (all .1 .1 .1 .0) (sym (h .word))
+        in (
+          subst (λ (n : List ℕ). Behind (end p) (0xA5 ∷ 0x5A ∷ (n ++ q)) s used p) (sym number) (h .ends),
+          record {
+            bytes = bytes-left p (xorOf p ∷ []) (bytes-left q (h .ends .rest) (all .1 .1 .1 .1));
+            some = h .some;
+            most = h .most;
+          },
+        )
+
+-- The footer takes one byte.
+pub footer-within : (p : List ℕ) → Within 1 (footer p)
+unfolding footer
+footer-within p = within-byte 0 0x04 5 (whole p) (within-whole 0 p)
+
+-- It hands on the payload.
+pub footer-keeps : Keeps footer
+unfolding footer
+footer-keeps = keeps-byte 0x04 5
+
+-- What the layout gives is read as that frame.
+pub binary-layout-reads : (p more : List ℕ) → Payload p → run (binary footer) (binaryLayout p ++ more) ≡ frame (length (binaryLayout p)) p
+unfolding footer
+binary-layout-reads p more h =
+    ap (run (binary footer)) (append-assoc (binaryFront p) binaryEnding more)
+    ∙ binary-front-reads footer p (0x04 ∷ more) h
+    ∙ ap (behind (length (binaryFront p))) (run-byte 0x04 5 (whole p) more)
+    ∙ ap (λ (k : ℕ). frame k p) (sym (length-append (binaryFront p) binaryEnding))
 
 -- Of bytes, what is read as a frame is the layout of its payload.
-pub binary-one-spelling : (s p : List ℕ) (used : ℕ) → Bytes s → run binary s ≡ frame used p → Spells Binary s used p
+pub binary-one-spelling : (s p : List ℕ) (used : ℕ) → Bytes s → run (binary footer) s ≡ frame used p → Spells Binary s used p
+unfolding footer
 binary-one-spelling s p used b e =
-    let h = took-binary s p used e in
-    subst (λ (u : ℕ). Spells Binary s u p) (sym (h .count))
-    (spelled (h .high) (h .low) s p (h .more) b (h .split) (sym (h .word)) (h .some) (h .most))
+    let (h, payload) = binary-spelled footer footer-keeps s p used b e in
+    let l = used-last 0x04 5 p (binaryFront p) s used h in
+    record { bytes = l .0; count = l .1; payload = payload }
+
+-- The footer is one byte behind the front.
+pub binary-used : (s p : List ℕ) (used : ℕ) → run (binary footer) s ≡ frame used p → used ≡ length p + 6
+unfolding footer
+binary-used s p used e =
+    let h = took-binary footer footer-keeps s p used e in
+    let l = used-last 0x04 5 p _ s used (h .ends) in
+    l .1 ∙ simp length-append (omega arith)
 
 -- One byte more of an XOR.
 pub xor-step : (a : ℕ) (s : List ℕ) (i : ℕ) → i < length s → xorFrom a (drop i s) ≡ xorFrom (bitXor a (getD s i 0)) (drop (i + 1) s)

@@ -14,7 +14,7 @@ use lib.ListN.{length, getD, drop, length-append, length-drop}
 use lib.Seq.{drop-append-le, drop-append-add, getD-append-add, getD-drop}
 use Rattle.frame.specs.Checks.{Verdict, cut, refused, frame}
 use Rattle.frame.specs.Framing.{read}
-use Rattle.frame.specs.Rule.{Output, join, Found, outAt, passAfter, ruleFrom, rule}
+use Rattle.frame.specs.Rule.{Output, join, passAfter, Found, foundAt, outAt, rule}
 use Rattle.frame.specs.Recovery.{Stretch, none, another, concat, payloadIn, foundsFrom, starts, PairsBegin, select, All, reaches}
 use Rattle.frame.specs.Recovery.{inNone, clearOf, earlyOf, Recovered, BinaryRecovers, LateFramesComeBack}
 use Rattle.frame.specs.declared.framing.Framing.{Framing}
@@ -22,7 +22,7 @@ use Rattle.frame.specs.declared.framing.Framing.the-variants.{Binary}
 use Rattle.frame.proofs.Numbers.{le-or-lt}
 use Rattle.frame.proofs.Shapes.{NoFrame, pair-first}
 use Rattle.frame.proofs.Framings.{frame-sized}
-use Rattle.frame.proofs.Rules.{rule-pass, rule-noise}
+use Rattle.frame.proofs.Rules.{ruleFrom, rule-walk, rule-pass, rule-noise}
 use Rattle.frame.proofs.Stretches.{rule-stretch}
 
 -- The pair A5 5A stands at place i of s.
@@ -100,8 +100,8 @@ pairs-tail place g gs some pairs i k =
     (List·Memᴰ·cases-cons (pairs (length g + i) (pair-behind g (concat gs) i k)))
 
 -- A good frame as the rule hands it out.
-abbrev foundAt : Framing → ℕ → List ℕ → Found
-foundAt f place g = record { place = place; used = length g; payload = payloadIn (read f g) }
+abbrev goodAt : Framing → ℕ → List ℕ → Found
+goodAt f place g = foundAt place (length g) (payloadIn (read f g))
 
 -- The frames of a stretch that begin at `bound` or later.
 abbrev from : ℕ → List Found → List Found
@@ -114,8 +114,8 @@ select-same :
 select-same f place [] q r h = refl
 select-same f place (g ∷ gs) q r h =
     ap₂
-    (λ (t : Bool) (xs : List Found). cond t (foundAt f place g ∷ xs) xs)
-    (h (foundAt f place g) (le-refl place))
+    (λ (t : Bool) (xs : List Found). cond t (goodAt f place g ∷ xs) xs)
+    (h (goodAt f place g) (le-refl place))
     (select-same f (place + length g) gs q r (λ x l. h x (omega arith)))
 
 -- A test that all pass selects all.
@@ -136,7 +136,7 @@ from-later :
     from bound (foundsFrom f place (g ∷ gs)) ≡ from bound (foundsFrom f (place + length g) gs)
 from-later f place g gs bound l =
     let xs : List Found = from bound (foundsFrom f (place + length g) gs) in
-    ap (λ (t : Bool). cond t (foundAt f place g ∷ xs) xs) (lt-leb bound place l)
+    ap (λ (t : Bool). cond t (goodAt f place g ∷ xs) xs) (lt-leb bound place l)
 
 -- To pass over more bytes than the first frame has is to pass over the rest of them behind it.
 pass-more : (place m : ℕ) (g more : List ℕ) → ruleFrom Binary place (length g + m) (g ++ more) ≡ ruleFrom Binary (place + length g) m more
@@ -274,7 +274,7 @@ module _ (more : List ℕ) (first : getD more 0 0 ≡ 0x5A → ⊥) (end : ℕ) 
       Early more end (suc place) (pred used) d → Early more end place 0 (b ∷ d)
   unfolding ruleFrom join
   early-frame place b d p used e h w =
-      let x : Found = record { place = place; used = used; payload = p } in
+      let x : Found = foundAt place used p in
       let sized = frame-sized Binary (b ∷ (d ++ more)) p used h in
       let most : used ≤ 262 = sized .most in
       let some : 1 ≤ used = sized .some in
@@ -365,15 +365,15 @@ none-before :
     (q : Found → Bool) (place bound : ℕ) (gs : List (List ℕ)) → bound ≤ place →
     select (λ x. ltb (x .place) bound) (select q (foundsFrom Binary place gs)) ≡ []
 none-before q place bound [] l = refl
-none-before q place bound (g ∷ gs) l = with-first (q (foundAt Binary place g)) (none-before q (place + length g) bound gs (omega arith))
+none-before q place bound (g ∷ gs) l = with-first (q (goodAt Binary place g)) (none-before q (place + length g) bound gs (omega arith))
   where
     later : List Found
     later = select q (foundsFrom Binary (place + length g) gs)
 
     with-first :
         (t : Bool) → select (λ x. ltb (x .place) bound) later ≡ [] →
-        select (λ x. ltb (x .place) bound) (cond t (foundAt Binary place g ∷ later) later) ≡ []
-    with-first true e = ap₂ (λ (t : Bool) (zs : List Found). cond t (foundAt Binary place g ∷ zs) zs) (le-ltb place bound l) e
+        select (λ x. ltb (x .place) bound) (cond t (goodAt Binary place g ∷ later) later) ≡ []
+    with-first true e = ap₂ (λ (t : Bool) (zs : List Found). cond t (goodAt Binary place g ∷ zs) zs) (le-ltb place bound l) e
     with-first false e = e
 
 -- Behind damage: the frames that begin in it, then the good frames whose first byte lies in none of them.
@@ -387,7 +387,8 @@ binary-recovers damage gs st pairs =
     ∙ ap (λ (t : Bool). inNone (x .place) (w .early) && t) (le-leb 0 (x .place) zero-le)
     ∙ and-true (inNone (x .place) (w .early)) in
     let frames : rule Binary (damage ++ concat gs) .frames ≡ w .early ++ clearOf (w .early) damage gs =
-    w .frames
+    ap (λ (o : Output Found). o .frames) (rule-walk Binary (damage ++ concat gs))
+    ∙ w .frames
     ∙ ap
     (λ (xs : List Found). w .early ++ xs)
     (rule-into end (w .left) st (pairs-from end gs pairs)

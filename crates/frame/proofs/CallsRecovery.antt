@@ -5,7 +5,7 @@ use mathlib.Core.Path.{_≡_, refl, ap, _∙_}
 use mathlib.Core.List.{List, [], _∷_, _++_, map}
 use lib.ListN.{length}
 use Rattle.frame.specs.Framing.{read}
-use Rattle.frame.specs.Rule.{Output, join, Found, rule, payloads}
+use Rattle.frame.specs.Rule.{Output, output, join, Found, rule, payloads}
 use Rattle.frame.specs.Recovery.{concat, payloadIn, foundsFrom, payloadsOf, AsciiCallsRecover, BinaryCallsRecover, CleanCalls}
 use Rattle.frame.specs.declared.framing.Framing.{Framing}
 use Rattle.frame.specs.declared.framing.Framing.the-variants.{Binary, Ascii}
@@ -25,9 +25,9 @@ pub ascii-calls-recover : AsciiCallsRecover
 ascii-calls-recover damage gs out st calls =
     calls-follow-rule Ascii (damage ++ concat gs) out calls
     ∙ ap payloads (ascii-recovers damage gs st)
-    ∙ payloads-join (rule Ascii damage) (record { frames = foundsFrom Ascii (length damage) gs; noise = 0 })
+    ∙ payloads-join (rule Ascii damage) (output (foundsFrom Ascii (length damage) gs) 0)
     ∙ ap
-    (λ (ps : List (List ℕ)). join (payloads (rule Ascii damage)) (record { frames = ps; noise = 0 }))
+    (λ (ps : List (List ℕ)). join (payloads (rule Ascii damage)) (output ps 0))
     (founds-payloads Ascii (length damage) gs)
 
 -- In binary framing: the frames that begin in the damage, then the good ones clear of them.
@@ -49,4 +49,4 @@ pub clean-calls : (f : Framing) → CleanCalls f
 clean-calls f gs out st calls =
     calls-follow-rule f (concat gs) out calls
     ∙ ap payloads (clean-line f gs st)
-    ∙ ap (λ (ps : List (List ℕ)). record { frames = ps; noise = 0 }) (founds-payloads f 0 gs)
+    ∙ ap (λ (ps : List (List ℕ)). output ps 0) (founds-payloads f 0 gs)

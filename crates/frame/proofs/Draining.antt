@@ -1,38 +1,38 @@
 -- Laws of what the calls over one chunk, or of one quiet, give together.
 -- Assumes nothing.
 use Prim.Native.Nat.{ℕ, zero, suc, pred, _+_, _≤_, zero-le}
-use native.Mathlib.Nat.{le-of-suc-le-suc, not-suc-le-zero, le-trans, zero-add}
+use native.Mathlib.Nat.{le-of-suc-le-suc, not-suc-le-zero, le-trans}
 use native.Mathlib.Omega.{arith}
-use mathlib.Core.Path.{_≡_, refl, sym, ap, ap₂, _∙_, subst}
-use mathlib.Core.List.{List, [], _∷_, _++_, append-nil}
+use mathlib.Core.Path.{_≡_, refl, sym, ap, _∙_, subst}
+use mathlib.Core.List.{List, [], _∷_, _++_, append-nil, append-assoc}
 use mathlib.Core.Logic.{⊎-elim}
-use lib.ListN.{length, drop}
+use lib.ListN.{length, drop, length-append}
 use lib.Seq.{drop-append-le}
 use Rattle.frame.specs.Checks.{Verdict, cut, refused, frame}
-use Rattle.frame.specs.Framing.{read}
+use Rattle.frame.specs.Framing.{judge, read}
 use Rattle.frame.specs.Judged.{frameLength}
-use Rattle.frame.specs.Rule.{Output, Found, nothing, noiseByte, handed, join, outAt, passAfter, ruleFrom, rule, payloads}
-use Rattle.frame.specs.Reader.{Settled, line}
-use Rattle.frame.specs.Draining.{before, drainAs, drainFrom, drain, LineDrains, NeedsMoreIsDrained, DrainFollowsRule, total, DrainIsSized}
+use Rattle.frame.specs.Rule.{Output, nothing, noiseByte, handed, join, passAfter, outAt, payloads}
+use Rattle.frame.specs.Reader.{Settled, settled, line}
+use Rattle.frame.specs.Draining.{before, drainAs, drainFrom, LineDrains, NeedsMoreIsDrained, DrainFollowsRule, total, DrainIsSized}
 use Rattle.frame.specs.Draining.{RuleIsSized}
 use Rattle.frame.specs.declared.framing.Framing.{Framing}
 use Rattle.frame.specs.declared.framing.Framing.the-variants.{Binary, Ascii}
 use Rattle.frame.proofs.Framings.{frame-sized, used-is, payload-size}
-use Rattle.frame.proofs.Rules.{join-nothing, join-assoc, given, given-noise, given-frame, given-nil}
+use Rattle.frame.proofs.Rules.{join-nothing, join-assoc, ruleFrom, rule-walk, given, given-noise, given-frame}
 use Rattle.frame.proofs.Settling.{line-over, needs-more-is-true}
-use Rattle.frame.proofs.Shapes.{NoFrame, IsRefused, refused-no-frame, read-stands}
+use Rattle.frame.proofs.Shapes.{NoFrame, IsRefused, judge-stands}
 
 -- Nothing before what was settled adds nothing.
 before-nothing : (st : Settled) → before nothing st ≡ st
-before-nothing st = ap (λ (o : Output (List ℕ)). record { out = o; rest = st .rest }) (join-nothing (st .out))
+before-nothing st = ap (λ (o : Output (List ℕ)). settled o (st .rest)) (join-nothing (st .out))
 
 -- Outputs are put before it in any grouping.
 before-join : (x y : Output (List ℕ)) (st : Settled) → before (join x y) st ≡ before x (before y st)
-before-join x y st = ap (λ (o : Output (List ℕ)). record { out = o; rest = st .rest }) (join-assoc x y (st .out))
+before-join x y st = ap (λ (o : Output (List ℕ)). settled o (st .rest)) (join-assoc x y (st .out))
 
 module _ (f : Framing) where
   -- To pass over bytes is to begin behind them.
-  drain-pass : (pass : ℕ) (s : List ℕ) → drainFrom f pass s ≡ drain f (drop pass s)
+  drain-pass : (pass : ℕ) (s : List ℕ) → drainFrom f pass s ≡ drainFrom f 0 (drop pass s)
   unfolding drainFrom
   drain-pass zero s = refl
   drain-pass (suc pass) [] = refl
@@ -46,12 +46,12 @@ module _ (f : Framing) where
   noise-at b s (frame used p) h = absurd h
 
   -- Where the bytes are refused, one is noise.
-  drain-noise : (b : ℕ) (s : List ℕ) → IsRefused (read f (b ∷ s)) → drain f (b ∷ s) ≡ before noiseByte (drain f s)
+  drain-noise : (b : ℕ) (s : List ℕ) → IsRefused (judge f (b ∷ s)) → drainFrom f 0 (b ∷ s) ≡ before noiseByte (drainFrom f 0 s)
   unfolding drainFrom
-  drain-noise b s h = noise-at b s (read f (b ∷ s)) h
+  drain-noise b s h = noise-at b s (judge f (b ∷ s)) h
 
   -- A frame is handed out, and the rule goes on behind it.
-  drain-frame : (used : ℕ) (p s : List ℕ) → read f s ≡ frame used p → drain f s ≡ before (handed p) (drain f (drop used s))
+  drain-frame : (used : ℕ) (p s : List ℕ) → read f s ≡ frame used p → drainFrom f 0 s ≡ before (handed p) (drainFrom f 0 (drop used s))
   unfolding drainFrom
   drain-frame used p [] e = absurd (not-suc-le-zero (le-trans (frame-sized f [] p used e .some) (frame-sized f [] p used e .there)))
   drain-frame zero p (b ∷ s) e = absurd (not-suc-le-zero (frame-sized f (b ∷ s) p zero e .some))
@@ -59,25 +59,14 @@ module _ (f : Framing) where
       ap (λ (v : Verdict). drainAs v (b ∷ s) (drainFrom f (passAfter v) s)) e ∙ ap (before (handed p)) (drain-pass used s)
 
   -- Undecided bytes stay.
-  drain-cut : (s : List ℕ) → read f s ≡ cut → drain f s ≡ record { out = nothing; rest = s }
+  drain-cut : (s : List ℕ) → read f s ≡ cut → drainFrom f 0 s ≡ settled nothing s
   unfolding drainFrom
   drain-cut [] e = refl
   drain-cut (b ∷ s) e = ap (λ (v : Verdict). drainAs v (b ∷ s) (drainFrom f (passAfter v) s)) e
 
-  drain-nil : (s : List ℕ) → s ≡ [] → drain f s ≡ record { out = nothing; rest = s }
+  drain-nil : (s : List ℕ) → s ≡ [] → drainFrom f 0 s ≡ settled nothing s
   unfolding drainFrom
   drain-nil s e = rw e
-
-  -- A line call gives the first part of what its bytes give.
-  pub line-drains : LineDrains f
-  line-drains held chunk =
-      rw append-nil at
-      (line-over f IsRefused (drain f) before before-nothing before-join drain-noise drain-frame (λ _ _. tt) held chunk [])
-
-  -- Where nothing comes out of a line call, all is drained.
-  pub needs-more-is-drained : NeedsMoreIsDrained f
-  needs-more-is-drained held chunk e =
-      ⊎-elim (drain-nil (line f held chunk .held)) (drain-cut (line f held chunk .held)) (needs-more-is-true f held chunk e .1)
 
   -- What is drained at a place, and then the rule over the rest, is the rule from there on.
   drain-at :
@@ -87,13 +76,13 @@ module _ (f : Framing) where
       given f ((b ∷ s) ++ more) ≡ join (st .out) (given f (st .rest ++ more))
   drain-at b s more cut e later = sym (join-nothing (given f ((b ∷ s) ++ more)))
   drain-at b s more (refused judged n) e later =
-      given-noise f b (s ++ more) (subst NoFrame (sym (read-stands f (b ∷ s) more (refused judged n) tt e)) tt)
+      given-noise f b (s ++ more) (subst NoFrame (sym (judge-stands f (b ∷ s) more (refused judged n) tt e)) tt)
       ∙ ap (join noiseByte) (later 0 zero-le)
       ∙ sym (join-assoc noiseByte (drainFrom f 0 s .out) (given f (drainFrom f 0 s .rest ++ more)))
   drain-at b s more (frame zero p) e later = absurd (not-suc-le-zero (frame-sized f (b ∷ s) p zero e .some))
   drain-at b s more (frame (suc used) p) e later =
       let inside : used ≤ length s = omega (arith, frame-sized f (b ∷ s) p (suc used) e .there) in
-      given-frame f (suc used) p ((b ∷ s) ++ more) (read-stands f (b ∷ s) more (frame (suc used) p) tt e)
+      given-frame f (suc used) p ((b ∷ s) ++ more) (judge-stands f (b ∷ s) more (frame (suc used) p) tt e)
       ∙ ap (λ (t : List ℕ). join (handed p) (given f t)) (drop-append-le used s more inside)
       ∙ ap (join (handed p)) (later used inside)
       ∙ sym (join-assoc (handed p) (drainFrom f used s .out) (given f (drainFrom f used s .rest ++ more)))
@@ -104,12 +93,8 @@ module _ (f : Framing) where
   unfolding drainFrom
   drain-rule zero [] more l = sym (join-nothing (given f more))
   drain-rule (suc pass) [] more l = absurd (not-suc-le-zero l)
-  drain-rule zero (b ∷ s) more l = drain-at b s more (read f (b ∷ s)) refl (λ pass. drain-rule pass s more)
+  drain-rule zero (b ∷ s) more l = drain-at b s more (judge f (b ∷ s)) refl (λ pass. drain-rule pass s more)
   drain-rule (suc pass) (b ∷ s) more l = drain-rule pass s more (le-of-suc-le-suc l)
-
-  -- What is drained, and then the rule over what is left and what follows, is the rule over all.
-  pub drain-follows-rule : DrainFollowsRule f
-  drain-follows-rule s more = drain-rule 0 s more zero-le
 
   -- A frame has its payload and six bytes or more.
   frame-holds : (s p : List ℕ) (used : ℕ) → read f s ≡ frame used p → length p + 6 ≤ used
@@ -118,6 +103,26 @@ module _ (f : Framing) where
       holds : (g : Framing) → used ≡ frameLength g (length p) → 1 ≤ length p → length p + 6 ≤ used
       holds Binary e some = omega arith
       holds Ascii e some = omega arith
+
+-- A line call gives the first part of what its bytes give.
+pub line-drains : LineDrains
+line-drains s chunk =
+    let f : Framing = s .framing in
+    rw append-nil at
+    (line-over f IsRefused (drainFrom f 0) before before-nothing before-join (drain-noise f) (drain-frame f) (λ _ _. tt) (s .held) chunk [])
+
+-- Where nothing comes out of a line call, all is drained.
+pub needs-more-is-drained : NeedsMoreIsDrained
+needs-more-is-drained s chunk e =
+    let f : Framing = s .framing in
+    let h : List ℕ = line s chunk .held in
+    ap (drainFrom f 0) (append-nil h) ∙ ⊎-elim (drain-nil f h) (drain-cut f h) (needs-more-is-true s chunk e .1)
+
+-- What is drained, and then the rule over what is left and what follows, is the rule over all.
+pub drain-follows-rule : DrainFollowsRule
+drain-follows-rule s chunk more =
+    let f : Framing = s .framing in
+    ap (given f) (sym (append-assoc (s .held) chunk more)) ∙ drain-rule f 0 (s .held ++ chunk) more zero-le
 
 -- The bytes that an output takes at least.
 abbrev size : Output (List ℕ) → ℕ
@@ -140,12 +145,15 @@ module _ (f : Framing) where
   drained-size : (pass : ℕ) (s : List ℕ) → pass ≤ length s → size (drainFrom f pass s .out) + length (drainFrom f pass s .rest) + pass ≤ length s
   unfolding drainFrom
   drained-size pass [] l = omega arith
-  drained-size zero (b ∷ s) l = omega (arith, drained-at b s (read f (b ∷ s)) refl (λ pass. drained-size pass s))
+  drained-size zero (b ∷ s) l = omega (arith, drained-at b s (judge f (b ∷ s)) refl (λ pass. drained-size pass s))
   drained-size (suc pass) (b ∷ s) l = omega (arith, drained-size pass s (le-of-suc-le-suc l))
 
   -- What is drained takes no more bytes than there are.
-  pub drain-is-sized : DrainIsSized f
-  drain-is-sized s = omega (arith, drained-size 0 s zero-le)
+  drain-sized :
+      (s : List ℕ) →
+      let d : Settled = drainFrom f 0 s in
+      total (λ p. length p + 6) (d .out .frames) + d .out .noise + length (d .rest) ≤ length s
+  drain-sized s = omega (arith, drained-size 0 s zero-le)
 
   -- One place of the rule.
   ruled-at :
@@ -163,9 +171,13 @@ module _ (f : Framing) where
   ruled-size : (place pass : ℕ) (s : List ℕ) → pass ≤ length s → size (payloads (ruleFrom f place pass s)) + pass ≤ length s
   unfolding ruleFrom
   ruled-size place pass [] l = omega arith
-  ruled-size place zero (b ∷ s) l = omega (arith, ruled-at place b s (read f (b ∷ s)) refl (λ pass. ruled-size (suc place) pass s))
+  ruled-size place zero (b ∷ s) l = omega (arith, ruled-at place b s (judge f (b ∷ s)) refl (λ pass. ruled-size (suc place) pass s))
   ruled-size place (suc pass) (b ∷ s) l = omega (arith, ruled-size (suc place) pass s (le-of-suc-le-suc l))
 
   -- What the rule gives takes no more bytes than there are.
   pub rule-is-sized : RuleIsSized f
-  rule-is-sized s = omega (arith, ruled-size 0 0 s zero-le)
+  rule-is-sized s = rw (rule-walk f s) (omega (arith, ruled-size 0 0 s zero-le))
+
+-- What is drained takes no more bytes than were held and offered.
+pub drain-is-sized : DrainIsSized
+drain-is-sized s chunk = rw length-append at (drain-sized (s .framing) (s .held ++ chunk))

@@ -4,51 +4,48 @@ use Prim.Native.Nat.{ℕ, zero, suc, _+_, _-_, _≤_, zero-le}
 use native.Mathlib.Nat.{le-trans}
 use native.Mathlib.Omega.{arith}
 use mathlib.Core.Path.{_≡_, refl, sym, ap, ap₂, _∙_, subst}
-use mathlib.Core.List.{List, [], _∷_, _++_, append-nil, cons≢nil}
-use mathlib.Core.Bool.{Bool, true, cond, true≢false}
+use mathlib.Core.List.{List, [], _∷_, _++_, cons≢nil}
+use mathlib.Core.Bool.{Bool, true, false, cond}
 use borrow.Author.Tests.{le-leb}
-use lib.Dec.{leb, eqb}
-use lib.ListN.{length, drop, replicate, length-append, length-drop, length-map}
+use lib.Dec.{leb}
+use lib.ListN.{length, take, drop, replicate, length-append, length-drop, length-map}
 use lib.Seq.{take-append-seam, drop-append-seam, drop-append-le}
 use Rattle.frame.specs.Framing.{limit, inFront}
 use Rattle.frame.specs.Rule.{Output, nothing, join, Found, rule}
-use Rattle.frame.specs.Reader.{Called, line, quiet, newReader, heldIn, Holds, calledValues, bufferAt, quietRefusal, feedRefusal}
-use Rattle.frame.specs.Reader.{Promise, Feeds, AfterQuiet, Quiets}
-use Rattle.frame.specs.Calls.{FeedIsRefused, IsQuietFrame, quietOut, feedOut, Phase, offering, ending, over}
+use Rattle.frame.specs.Reader.{State, holding, Called, line, quiet, after, stateOf, Holds, newReader, Values}
+use Rattle.frame.specs.Reader.{feedValuesOf, quietValuesOf, calledValues, bufferAt, quietRefusal}
+use Rattle.frame.specs.Reader.{feedRefusal, Gives, Feeds, AfterQuiet, Quiets}
+use Rattle.frame.specs.Calls.{WithFrame, outOf, Phase, offering, ending, over}
 use Rattle.frame.specs.Calls.{Calls, fed, taken, quieted, emptied, feedRefused, quietRefused, done}
+use Rattle.frame.specs.Draining.{ruleAfter}
 use Rattle.frame.specs.Recovery.{concat, All}
 use Rattle.frame.specs.Driving.{countOf, chunksAfter, Offers, CanDrive, DrivesAreShort}
 use Rattle.frame.specs.declared.framing.Framing.{Framing}
 use Rattle.frame.specs.declared.reader.Reader.{Reader}
 use Rattle.frame.specs.declared.reader.Fed.{Fed}
-use Rattle.frame.specs.declared.reader.FeedAnswer.{FeedAnswer}
-use Rattle.frame.specs.declared.reader.FeedAnswer.the-variants.{Frame as FeedFrame, NeedsMore, Refused as FeedRefused}
+use Rattle.frame.specs.declared.answer.FeedAnswer.the-variants.{Frame as FeedFrame, NeedsMore}
 use Rattle.frame.specs.declared.reader.Quieted.{Quieted}
-use Rattle.frame.specs.declared.reader.QuietAnswer.{QuietAnswer}
-use Rattle.frame.specs.declared.reader.QuietAnswer.the-variants.{Frame as QuietFrame, Empty, Refused as QuietRefused}
-use Rattle.frame.proofs.Rules.{given, given-nil, rule-few}
+use Rattle.frame.specs.declared.answer.QuietAnswer.the-variants.{Frame as QuietFrame, Empty}
+use Rattle.frame.proofs.Rules.{given-nil, rule-few}
+use Rattle.frame.proofs.Promises.{answers}
 use Rattle.frame.proofs.Settling.{line-rule, line-one, line-taken, line-size, quiet-rule, quiet-one, quiet-left, quiet-size}
 use Rattle.frame.proofs.Settling.{needs-more-is-true}
 use Rattle.frame.proofs.Calling.{calls-follow-rule}
 use Rattle.frame.proofs.Refusals.{StateFits, fits-held, holds-fits}
 
--- A state with these held bytes.
-abbrev stateOf : Framing → List ℕ → Reader
-stateOf f h = record { framing = f; held = h ++ replicate (517 - length h) 0; count = length h }
+-- A reader with this state.
+abbrev readerOf : State → Reader
+readerOf s = record { framing = s .framing; held = s .held ++ replicate (517 - length (s .held)) 0; count = length (s .held) }
 
--- It holds them.
-state-holds : (f : Framing) (h : List ℕ) → Holds f h (stateOf f h)
-state-holds f h = record { framing = refl; count = refl; bytes = take-append-seam h (replicate (517 - length h) 0) }
+-- It has it.
+reader-holds : (s : State) → Holds s (readerOf s)
+reader-holds s = record { state = ap (holding (s .framing)) (take-append-seam (s .held) (replicate (517 - length (s .held)) 0)); count = refl }
 
 -- A call that is not refused answers by what came out of it.
 keeps :
-    {number : ℕ} {c : Called} {Next : Reader → Type 0} {r : Reader} (fs : List (List ℕ)) (buf : List ℕ) (r′ : Reader) →
-    number ≡ 0 → c .out .frames ≡ fs → Next r′ → Promise number c Next r buf (calledValues c fs) r′ (bufferAt fs buf)
-keeps {c = c} fs buf r′ z e next =
-    record {
-      refuses = λ q. absurd (true≢false (sym (ap (λ (n : ℕ). eqb n 0) z) ∙ q));
-      answers = λ _. (ap (calledValues c) (sym e), next, ap (λ (x : List (List ℕ)). bufferAt x buf) (sym e));
-    }
+    {number : ℕ} (c : Called) {Next : Reader → Type 0} {r : Reader} (fs : List (List ℕ)) (buf : List ℕ) (r′ : Reader) →
+    number ≡ 0 → c .out .frames ≡ fs → Next r′ → Gives number c Next r buf (calledValues c fs) r′ (bufferAt fs buf)
+keeps c fs buf r′ z e next = answers z (ap (calledValues c) (sym e)) next (ap (λ (x : List (List ℕ)). bufferAt x buf) (sym e))
 
 -- A buffer with room for any payload.
 buffer : List ℕ
@@ -73,9 +70,9 @@ feed-free r chunk l k =
     buffer-room
     ∙ ap (λ (t : Bool). cond t 0 15) (le-leb (length chunk) 65536 k)
 
--- The payloads still to come of s.
-abbrev payloadsIn : Framing → List ℕ → ℕ
-payloadsIn f s = length (given f s .frames)
+-- The payloads still to come from a state on.
+abbrev payloadsIn : State → List ℕ → ℕ
+payloadsIn s todo = length (ruleAfter s todo .frames)
 
 -- Joined outputs have as many payloads as their parts.
 join-count : (o : Output (List ℕ)) (a b : Output (List ℕ)) → o ≡ join a b → length (o .frames) ≡ length (a .frames) + length (b .frames)
@@ -89,64 +86,64 @@ record Ends (r : Reader) (n : ℕ) : Type 0 where
   offers : Offers calls []
   count : countOf calls ≡ suc n
 
--- The held bytes of such a state.
-state-held : (f : Framing) (h : List ℕ) → heldIn (stateOf f h) ≡ h
-state-held f h = state-holds f h .bytes
+module _ (r : Reader) (l : StateFits r) where
+  abbrev quietCall : Called
+  quietCall = quiet (stateOf r)
 
--- The last quiet call.
-ends-empty :
-    (n : ℕ) (r : Reader) → StateFits r → payloadsIn (r .framing) (heldIn r) ≡ n → quiet (r .framing) (heldIn r) .out .frames ≡ [] → Ends r n
-unfolding quiet
-ends-empty n r l e h =
-    let f : Framing = r .framing in
-    let c : Called = quiet f (heldIn r) in
-    let a : Quieted = record { reader = newReader f; answer = Empty (c .out .noise) } in
-    let p : Quiets r buffer a buffer =
-    keeps [] buffer (newReader f) (quiet-free r l) h (subst (λ (fs : List (List ℕ)). AfterQuiet f c fs (newReader f)) (sym h) refl) in
-    let left : payloadsIn f (c .held) ≡ 0 =
-    ap (payloadsIn f) (quiet-left f (heldIn r) h) ∙ ap (λ (o : Output (List ℕ)). length (o .frames)) (given-nil f) in
-    let z : n ≡ 0 =
-    sym e ∙ join-count (given f (heldIn r)) (c .out) (given f (c .held)) (quiet-rule f (heldIn r)) ∙ ap₂ _+_ (ap length h) left in
-    record {
-      out = join (quietOut (a .answer) buffer) nothing;
-      calls = emptied buffer buffer a p tt done;
-      offers = refl;
-      count = ap suc (sym z);
-    }
+  -- The payloads still to come at a quiet are those of the call and those that come after it.
+  quiet-count :
+      payloadsIn (stateOf r) [] ≡ length (quietCall .out .frames) + payloadsIn (after (stateOf r) quietCall) []
+  quiet-count = join-count (ruleAfter (stateOf r) []) (quietCall .out) (ruleAfter (after (stateOf r) quietCall) []) (quiet-rule (stateOf r))
 
--- A quiet call that hands out a payload, and those behind it.
-ends-frame :
-    (n : ℕ) (r : Reader) (p : List ℕ) (ps : List (List ℕ)) → StateFits r → payloadsIn (r .framing) (heldIn r) ≡ suc n →
-    quiet (r .framing) (heldIn r) .out .frames ≡ p ∷ ps →
-    ((r′ : Reader) → StateFits r′ → payloadsIn (r′ .framing) (heldIn r′) ≡ n → Ends r′ n) → Ends r (suc n)
-unfolding quiet
-ends-frame n r p ps l e h later =
-    let f : Framing = r .framing in
-    let c : Called = quiet f (heldIn r) in
-    let r′ : Reader = stateOf f (c .held) in
-    let a : Quieted = record { reader = r′; answer = QuietFrame (c .out .noise) (length p) } in
-    let q : Quiets r buffer a (inFront p buffer) =
-    keeps (p ∷ ps) buffer r′ (quiet-free r l) h (subst (λ (fs : List (List ℕ)). AfterQuiet f c fs r′) (sym h) (state-holds f (c .held))) in
-    let all : suc n ≡ length (c .out .frames) + payloadsIn f (c .held) =
-    sym e ∙ join-count (given f (heldIn r)) (c .out) (given f (c .held)) (quiet-rule f (heldIn r)) in
-    let first : length (c .out .frames) ≡ suc (length ps) = ap length h in
-    let k : Ends r′ n =
-    later r′ (holds-fits (state-holds f (c .held)) (le-trans (quiet-size f (heldIn r)) (fits-held r l)))
-    (ap (payloadsIn f) (state-held f (c .held)) ∙ (let z : payloadsIn f (c .held) ≡ n = omega (arith, quiet-one f (heldIn r)) in z)) in
-    record {
-      out = join (quietOut (a .answer) (inFront p buffer)) (k .out);
-      calls = quieted buffer (inFront p buffer) a q tt (k .calls);
-      offers = k .offers;
-      count = ap suc {x = countOf (k .calls)} (k .count);
-    }
+  -- The last quiet call.
+  ends-empty : (n : ℕ) → payloadsIn (stateOf r) [] ≡ n → quietCall .out .frames ≡ [] → Ends r n
+  unfolding quiet
+  ends-empty n e h =
+      let f : Framing = r .framing in
+      let a : Quieted = record { reader = newReader f; answer = Empty (quietCall .out .noise) } in
+      let p : Quiets r buffer a buffer =
+      keeps quietCall [] buffer (newReader f) (quiet-free r l) h
+      (subst (λ (fs : List (List ℕ)). AfterQuiet (stateOf r) quietCall fs (newReader f)) (sym h) refl) in
+      let left : payloadsIn (after (stateOf r) quietCall) [] ≡ 0 =
+      ap (λ (h : List ℕ). payloadsIn (holding f h) []) (quiet-left (stateOf r) h) ∙ ap (λ (o : Output (List ℕ)). length (o .frames)) (given-nil f) in
+      let z : n ≡ 0 = sym e ∙ quiet-count ∙ ap₂ _+_ (ap length h) left in
+      record {
+        out = join (outOf (quietValuesOf (a .answer)) buffer) nothing;
+        calls = emptied buffer buffer a p (record { answered = refl; none = refl }) done;
+        offers = refl;
+        count = ap suc (sym z);
+      }
 
--- The first quiet call of several, whatever comes out of it.
-ends-at :
-    (n : ℕ) (r : Reader) (fs : List (List ℕ)) → StateFits r → payloadsIn (r .framing) (heldIn r) ≡ suc n →
-    quiet (r .framing) (heldIn r) .out .frames ≡ fs →
-    ((r′ : Reader) → StateFits r′ → payloadsIn (r′ .framing) (heldIn r′) ≡ n → Ends r′ n) → Ends r (suc n)
-ends-at n r [] l e h later = ends-empty (suc n) r l e h
-ends-at n r (p ∷ ps) l e h later = ends-frame n r p ps l e h later
+  -- A quiet call that hands out a payload, and those behind it.
+  ends-frame :
+      (n : ℕ) (p : List ℕ) (ps : List (List ℕ)) → payloadsIn (stateOf r) [] ≡ suc n → quietCall .out .frames ≡ p ∷ ps →
+      ((r′ : Reader) → StateFits r′ → payloadsIn (stateOf r′) [] ≡ n → Ends r′ n) → Ends r (suc n)
+  unfolding quiet
+  ends-frame n p ps e h later =
+      let s′ : State = after (stateOf r) quietCall in
+      let r′ : Reader = readerOf s′ in
+      let a : Quieted = record { reader = r′; answer = QuietFrame (quietCall .out .noise) (length p) } in
+      let q : Quiets r buffer a (inFront p buffer) =
+      keeps quietCall (p ∷ ps) buffer r′ (quiet-free r l) h
+      (subst (λ (fs : List (List ℕ)). AfterQuiet (stateOf r) quietCall fs r′) (sym h) (reader-holds s′)) in
+      let first : length (quietCall .out .frames) ≡ suc (length ps) = ap length h in
+      let rest : payloadsIn s′ [] ≡ n = omega (arith, quiet-one (stateOf r), quiet-count) in
+      let k : Ends r′ n =
+      later r′ (holds-fits (reader-holds s′) (le-trans (quiet-size (stateOf r)) (fits-held r l)))
+      (ap (λ (s : State). payloadsIn s []) (reader-holds s′ .state) ∙ rest) in
+      record {
+        out = join (outOf (quietValuesOf (a .answer)) (inFront p buffer)) (k .out);
+        calls = quieted buffer (inFront p buffer) a q (record { answered = refl; frame = refl }) (k .calls);
+        offers = k .offers;
+        count = ap suc {x = countOf (k .calls)} (k .count);
+      }
+
+  -- The first quiet call of several, whatever comes out of it.
+  ends-at :
+      (n : ℕ) (fs : List (List ℕ)) → payloadsIn (stateOf r) [] ≡ suc n → quietCall .out .frames ≡ fs →
+      ((r′ : Reader) → StateFits r′ → payloadsIn (stateOf r′) [] ≡ n → Ends r′ n) → Ends r (suc n)
+  ends-at n [] e h later = ends-empty (suc n) e h
+  ends-at n (p ∷ ps) e h later = ends-frame n p ps e h later
 
 -- A list of length 0 is empty.
 no-length : (fs : List (List ℕ)) → length fs ≡ 0 → fs ≡ []
@@ -154,14 +151,11 @@ no-length [] z = refl
 no-length (p ∷ ps) z = absurd (let h : ⊥ = omega arith in h)
 
 -- All of the quiet calls.
-ends : (n : ℕ) (r : Reader) → StateFits r → payloadsIn (r .framing) (heldIn r) ≡ n → Ends r n
+ends : (n : ℕ) (r : Reader) → StateFits r → payloadsIn (stateOf r) [] ≡ n → Ends r n
 ends zero r l e =
-    let f : Framing = r .framing in
-    let c : Called = quiet f (heldIn r) in
-    let all : 0 ≡ length (c .out .frames) + payloadsIn f (c .held) =
-    sym e ∙ join-count (given f (heldIn r)) (c .out) (given f (c .held)) (quiet-rule f (heldIn r)) in
-    ends-empty zero r l e (no-length (c .out .frames) (omega arith))
-ends (suc n) r l e = ends-at n r (quiet (r .framing) (heldIn r) .out .frames) l e refl (λ r′ k z. ends n r′ k z)
+    let none : length (quiet (stateOf r) .out .frames) ≡ 0 = omega (arith, quiet-count r l) in
+    ends-empty r l zero e (no-length (quiet (stateOf r) .out .frames) none)
+ends (suc n) r l e = ends-at r l n (quiet (stateOf r) .out .frames) e refl (λ r′ k z. ends n r′ k z)
 
 -- Chunks that a line call does not refuse.
 abbrev Short : List (List ℕ) → Type 0
@@ -176,13 +170,11 @@ record Goes (r : Reader) (todo : List ℕ) (chunks : List (List ℕ)) (n : ℕ) 
 
 -- How many payloads and chunks are still to come.
 abbrev Left : Reader → List ℕ → List (List ℕ) → ℕ → Type 0
-Left r todo chunks n = payloadsIn (r .framing) (heldIn r ++ todo) + length chunks ≡ n
+Left r todo chunks n = payloadsIn (stateOf r) todo + length chunks ≡ n
 
 -- With all chunks offered the quiet calls follow.
 goes-quiet : (n : ℕ) (r : Reader) (todo : List ℕ) → StateFits r → todo ≡ [] → Left r todo [] n → Goes r todo [] n
 goes-quiet n r [] l e z =
-    let same : payloadsIn (r .framing) (heldIn r ++ []) ≡ payloadsIn (r .framing) (heldIn r) =
-    ap (payloadsIn (r .framing)) (append-nil (heldIn r)) in
     let k : Ends r n = ends n r l (omega arith) in
     record { out = k .out; calls = taken (k .calls); offers = k .offers; count = k .count }
 goes-quiet n r (b ∷ todo) l e z = absurd (cons≢nil e)
@@ -196,66 +188,63 @@ module _
     Goes r′ todo′ chunks′ n)
   where
     -- What the call gives.
-    abbrev called : Called
-    called = line (r .framing) (heldIn r) chunk
+    abbrev call : Called
+    call = line (stateOf r) chunk
 
-    -- The state that follows.
-    abbrev after : Reader
-    after = stateOf (r .framing) (called .held)
+    -- The reader that follows.
+    abbrev next : Reader
+    next = readerOf (after (stateOf r) call)
 
     -- It fits.
-    after-fits : StateFits after
-    after-fits = holds-fits (state-holds (r .framing) (called .held)) (line-size (r .framing) (heldIn r) chunk (fits-held r l))
+    next-fits : StateFits next
+    next-fits = holds-fits (reader-holds (after (stateOf r) call)) (line-size (stateOf r) chunk (fits-held r l))
 
     -- The payloads still to come are those of this call and those that come after it.
-    after-left :
-        payloadsIn (r .framing) (heldIn r ++ todo)
-        ≡ length (called .out .frames) + payloadsIn (r .framing) (heldIn after ++ drop (called .taken) todo)
-    after-left =
-        let f : Framing = r .framing in
-        ap (λ (s : List ℕ). payloadsIn f (heldIn r ++ s)) e
+    next-left : payloadsIn (stateOf r) todo ≡ length (call .out .frames) + payloadsIn (stateOf next) (drop (call .taken) todo)
+    next-left =
+        let s′ : State = after (stateOf r) call in
+        ap (payloadsIn (stateOf r)) e
         ∙ join-count
-        (given f (heldIn r ++ (chunk ++ concat chunks)))
-        (called .out)
-        (given f (called .held ++ drop (called .taken) (chunk ++ concat chunks)))
-        (line-rule f (heldIn r) chunk (concat chunks))
+        (ruleAfter (stateOf r) (chunk ++ concat chunks))
+        (call .out)
+        (ruleAfter s′ (drop (call .taken) (chunk ++ concat chunks)))
+        (line-rule (stateOf r) chunk (concat chunks))
         ∙ ap₂
-        (λ (h s : List ℕ). length (called .out .frames) + payloadsIn f (h ++ drop (called .taken) s))
-        (sym (state-held f (called .held)))
+        (λ (s : State) (t : List ℕ). length (call .out .frames) + payloadsIn s (drop (call .taken) t))
+        (sym (reader-holds s′ .state))
         (sym e)
 
     -- The call and those behind it.
-    goes-on : (fs : List (List ℕ)) → called .out .frames ≡ fs → Goes r todo (chunk ∷ chunks) (suc n)
+    goes-on : (fs : List (List ℕ)) → call .out .frames ≡ fs → Goes r todo (chunk ∷ chunks) (suc n)
     goes-on [] h =
-        let a : Fed = record { reader = after; answer = NeedsMore (called .taken) (called .out .noise) } in
+        let a : Fed = record { reader = next; answer = NeedsMore (call .taken) (call .out .noise) } in
         let q : Feeds r chunk buffer a buffer =
-        keeps [] buffer after (feed-free r chunk l (short .0)) h (state-holds (r .framing) (called .held)) in
-        let rest : drop (called .taken) todo ≡ concat chunks =
-        ap₂ drop (needs-more-is-true (r .framing) (heldIn r) chunk h .0) e ∙ drop-append-seam chunk (concat chunks) in
-        let none : length (called .out .frames) ≡ 0 = ap length h in
-        let k : Goes after (drop (called .taken) todo) chunks n =
-        later after (drop (called .taken) todo) chunks after-fits rest (short .1) (omega (arith, after-left)) in
+        keeps call [] buffer next (feed-free r chunk l (short .0)) h (reader-holds (after (stateOf r) call)) in
+        let rest : drop (call .taken) todo ≡ concat chunks =
+        ap₂ drop (needs-more-is-true (stateOf r) chunk h .0) e ∙ drop-append-seam chunk (concat chunks) in
+        let none : length (call .out .frames) ≡ 0 = ap length h in
+        let k : Goes next (drop (call .taken) todo) chunks n =
+        later next (drop (call .taken) todo) chunks next-fits rest (short .1) (omega (arith, next-left)) in
         record {
-          out = join (feedOut (a .answer) buffer) (k .out);
-          calls = fed chunk (concat chunks) buffer buffer a q (λ x. x) e (k .calls);
+          out = join (outOf (feedValuesOf (a .answer)) buffer) (k .out);
+          calls = fed chunk (concat chunks) buffer buffer a q refl e (k .calls);
           offers = (refl, k .offers);
           count = ap suc {x = countOf (k .calls)} (k .count);
         }
     goes-on (p ∷ ps) h =
-        let a : Fed = record { reader = after; answer = FeedFrame (called .taken) (called .out .noise) (length p) } in
+        let a : Fed = record { reader = next; answer = FeedFrame (call .taken) (call .out .noise) (length p) } in
         let q : Feeds r chunk buffer a (inFront p buffer) =
-        keeps (p ∷ ps) buffer after (feed-free r chunk l (short .0)) h (state-holds (r .framing) (called .held)) in
-        let again : List (List ℕ) = drop (called .taken) chunk ∷ chunks in
-        let rest : drop (called .taken) todo ≡ concat again =
-        ap (drop (called .taken)) e ∙ drop-append-le (called .taken) chunk (concat chunks) (line-taken (r .framing) (heldIn r) chunk) in
-        let some : length (called .out .frames) ≡ suc (length ps) = ap length h in
-        let size : length (drop (called .taken) chunk) ≤ 65536 = rw length-drop (omega (arith, short .0)) in
-        let k : Goes after (drop (called .taken) todo) again n =
-        later after (drop (called .taken) todo) again after-fits rest (size, short .1)
-        (omega (arith, after-left, line-one (r .framing) (heldIn r) chunk)) in
+        keeps call (p ∷ ps) buffer next (feed-free r chunk l (short .0)) h (reader-holds (after (stateOf r) call)) in
+        let again : List (List ℕ) = drop (call .taken) chunk ∷ chunks in
+        let rest : drop (call .taken) todo ≡ concat again =
+        ap (drop (call .taken)) e ∙ drop-append-le (call .taken) chunk (concat chunks) (line-taken (stateOf r) chunk) in
+        let some : length (call .out .frames) ≡ suc (length ps) = ap length h in
+        let size : length (drop (call .taken) chunk) ≤ 65536 = rw length-drop (omega (arith, short .0)) in
+        let k : Goes next (drop (call .taken) todo) again n =
+        later next (drop (call .taken) todo) again next-fits rest (size, short .1) (omega (arith, next-left, line-one (stateOf r) chunk)) in
         record {
-          out = join (feedOut (a .answer) (inFront p buffer)) (k .out);
-          calls = fed chunk (concat chunks) buffer (inFront p buffer) a q (λ x. x) e (k .calls);
+          out = join (outOf (feedValuesOf (a .answer)) (inFront p buffer)) (k .out);
+          calls = fed chunk (concat chunks) buffer (inFront p buffer) a q refl e (k .calls);
           offers = (refl, k .offers);
           count = ap suc {x = countOf (k .calls)} (k .count);
         }
@@ -269,16 +258,16 @@ goes zero r todo (chunk ∷ chunks) l e short z = absurd (let h : ⊥ = omega ar
 goes (suc n) r todo [] l e short z = goes-quiet (suc n) r todo l e z
 goes (suc n) r todo (chunk ∷ chunks) l e short z =
     goes-on n r todo chunk chunks l e short z (λ r′ todo′ chunks′. goes n r′ todo′ chunks′)
-    (line (r .framing) (heldIn r) chunk .out .frames) refl
+    (line (stateOf r) chunk .out .frames) refl
 
 -- A segment has no more payloads than bytes.
-payloads-few : (f : Framing) (s : List ℕ) → payloadsIn f s ≤ length s
+payloads-few : (f : Framing) (s : List ℕ) → payloadsIn (holding f []) s ≤ length s
 payloads-few f s = rw (length-map (rule f s .frames) (λ (x : Found). x .payload)) (rule-few f s)
 
 -- However a segment is cut into chunks, a caller gets it through a new reader.
 pub can-drive : (f : Framing) → CanDrive f
 can-drive f chunks short =
-    let n : ℕ = payloadsIn f (concat chunks) + length chunks in
+    let n : ℕ = payloadsIn (holding f []) (concat chunks) + length chunks in
     let k : Goes (newReader f) (concat chunks) chunks n = goes n (newReader f) (concat chunks) chunks zero-le refl short refl in
     record { out = k .out; calls = k .calls; offers = k .offers; few = omega (arith, k .count, payloads-few f (concat chunks)) }
 
@@ -290,21 +279,23 @@ lastCalls over = 0
 
 -- A line call hands out a payload, or is done with the chunk.
 fed-uses :
-    (a : FeedAnswer) (after chunk : List ℕ) (chunks : List (List ℕ)) (out : Output (List ℕ)) → (FeedIsRefused a → ⊥) →
-    suc (length (out .frames) + length (chunksAfter a chunk chunks)) ≡ length (join (feedOut a after) out .frames) + length (chunk ∷ chunks)
+    (v : Values) (buf chunk : List ℕ) (chunks : List (List ℕ)) (out : Output (List ℕ)) →
+    suc (length (out .frames) + length (chunksAfter v chunk chunks)) ≡ length (join (outOf v buf) out .frames) + length (chunk ∷ chunks)
 unfolding join
-fed-uses (FeedFrame k noise len) after chunk chunks out n = omega arith
-fed-uses (NeedsMore k noise) after chunk chunks out n = omega arith
-fed-uses (FeedRefused r) after chunk chunks out n = absurd (n tt)
+fed-uses v buf chunk chunks out = by-frame (v .isFrame)
+  where
+    by-frame :
+        (isFrame : Bool) →
+        suc (length (out .frames) + length (cond isFrame (drop (v .taken) chunk ∷ chunks) chunks))
+        ≡ length (cond isFrame (take (v .len) buf ∷ []) [] ++ out .frames) + length (chunk ∷ chunks)
+    by-frame true = omega arith
+    by-frame false = omega arith
 
 -- A quiet call with a frame hands out a payload.
 quieted-uses :
-    (a : QuietAnswer) (after : List ℕ) (out : Output (List ℕ)) → IsQuietFrame a →
-    length (join (quietOut a after) out .frames) ≡ suc (length (out .frames))
+    (v : Values) (buf : List ℕ) (out : Output (List ℕ)) → WithFrame v → length (join (outOf v buf) out .frames) ≡ suc (length (out .frames))
 unfolding join
-quieted-uses (QuietFrame noise len) after out n = refl
-quieted-uses (Empty noise) after out n = absurd n
-quieted-uses (QuietRefused r) after out n = absurd n
+quieted-uses v buf out n = rw (n .frame)
 
 -- No call hands out less than nothing.
 joined-more : (a out : Output (List ℕ)) → length (out .frames) ≤ length (join a out .frames)
@@ -316,13 +307,14 @@ few-calls :
     Offers calls chunks → countOf calls ≤ length (out .frames) + length chunks + lastCalls phase
 few-calls (fed offered more buf buf′ a p n e later) [] o = absurd o
 few-calls (fed {out = out} offered more buf buf′ a p n e later) (chunk ∷ chunks) o =
-    omega (arith, few-calls later (chunksAfter (a .answer) chunk chunks) (o .1), fed-uses (a .answer) buf′ chunk chunks out n)
+    let v : Values = feedValuesOf (a .answer) in
+    omega (arith, few-calls later (chunksAfter v chunk chunks) (o .1), fed-uses v buf′ chunk chunks out)
 few-calls (taken later) [] o = few-calls later [] o
 few-calls (taken later) (chunk ∷ chunks) o = absurd o
 few-calls (quieted {out = out} buf buf′ a p n later) chunks o =
-    omega (arith, few-calls later chunks o, quieted-uses (a .answer) buf′ out n)
+    omega (arith, few-calls later chunks o, quieted-uses (quietValuesOf (a .answer)) buf′ out n)
 few-calls (emptied {out = out} buf buf′ a p n later) chunks o =
-    omega (arith, few-calls later chunks o, joined-more (quietOut (a .answer) buf′) out)
+    omega (arith, few-calls later chunks o, joined-more (outOf (quietValuesOf (a .answer)) buf′) out)
 few-calls (feedRefused offered buf buf′ a p n later) chunks o = absurd o
 few-calls (quietRefused buf buf′ a p n later) chunks o = absurd o
 few-calls done chunks o = zero-le
@@ -330,6 +322,6 @@ few-calls done chunks o = zero-le
 -- However a caller offers a segment in chunks, the calls are no more than chunks and bytes, and one.
 pub drives-are-short : (f : Framing) → DrivesAreShort f
 drives-are-short f chunks out calls o =
-    let all : length (out .frames) ≡ payloadsIn f (concat chunks) =
+    let all : length (out .frames) ≡ payloadsIn (holding f []) (concat chunks) =
     ap (λ (x : Output (List ℕ)). length (x .frames)) (calls-follow-rule f (concat chunks) out calls) in
     omega (arith, few-calls calls chunks o, payloads-few f (concat chunks))

@@ -1,50 +1,53 @@
 -- Laws of both framings under one name.
 -- Assumes nothing.
-use Prim.Native.Nat.{ℕ, _-_, _*_, _/_, _≤_, min}
+use Prim.Native.Nat.{ℕ, _+_, _-_, _*_, _/_, _≤_, min}
 use native.Mathlib.Omega.{arith}
 use mathlib.Core.Path.{_≡_, refl, sym, ap, _∙_, subst}
 use mathlib.Core.List.{List}
 use lib.Dec.{lit≤}
-use lib.ListN.{length, take, drop, length-take, length-drop}
+use lib.ListN.{length, take, drop, length-append, length-take, length-drop}
 use Rattle.frame.specs.Checks.{frame}
-use Rattle.frame.specs.Ascii.{hex}
-use Rattle.frame.specs.Framing.{checks, read, layout, limit}
+use Rattle.frame.specs.Binary.{footer}
+use Rattle.frame.specs.Hex.{hex, decoded}
+use Rattle.frame.specs.Ascii.{crLf}
+use Rattle.frame.specs.Framing.{checks, judge, front, endingBytes, layout, limit}
 use Rattle.frame.specs.Claims.{UndecidedIsShort, FrameIsSized}
-use Rattle.frame.specs.Judged.{payloadAt, payloadEnd, frameLength, verdictOf, handedOut, decoded, Digits, Packed}
+use Rattle.frame.specs.Digit.{Digits}
+use Rattle.frame.specs.Judged.{payloadAt, payloadEnd, frameLength, verdictOf, handedOut, Packed}
 use Rattle.frame.specs.declared.framing.Framing.{Framing}
 use Rattle.frame.specs.declared.framing.Framing.the-variants.{Binary, Ascii}
 use Rattle.frame.specs.declared.framing.Judged.{Judged}
 use Rattle.frame.specs.declared.framing.Judged.the-variants.{Undecided, Failed, Frame}
 use Rattle.frame.proofs.Trees.{Within, bounded, Bounded}
-use Rattle.frame.proofs.BinaryLaws.{binary-within, took-binary, length-binary}
-use Rattle.frame.proofs.AsciiLaws.{ascii-within, ascii-one-spelling, spelled-payload}
-use Rattle.frame.proofs.AsciiLeaves.{length-decoded, length-ascii-layout, hex-digits}
+use Rattle.frame.proofs.BinaryLaws.{binary-within, footer-within, footer-keeps, took-binary, binary-used, length-binary-front}
+use Rattle.frame.proofs.AsciiLaws.{ascii-within, crlf-within, crlf-keeps, took-ascii, front-payload, ascii-one-spelling, length-ascii-front}
+use Rattle.frame.proofs.HexLaws.{length-decoded, hex-digits}
 
 -- The length of a layout.
 pub length-layout : (f : Framing) (p : List ℕ) → length (layout f p) ≡ frameLength f (length p)
-length-layout Binary p = length-binary p
-length-layout Ascii p = length-ascii-layout p
+length-layout Binary p = omega (arith, length-append (front Binary p) (endingBytes Binary), length-binary-front p)
+length-layout Ascii p = omega (arith, length-append (front Ascii p) (endingBytes Ascii), length-ascii-front p)
 
 -- No way through the checks takes more bytes than the limit.
 pub within-limit : (f : Framing) → Within (limit f) (checks f)
-within-limit Binary = binary-within
-within-limit Ascii = ascii-within
+within-limit Binary = binary-within footer 1 footer-within
+within-limit Ascii = ascii-within crLf 1 crlf-within
 
 -- A frame's length goes by its payload's.
-pub used-is : (f : Framing) (s p : List ℕ) (used : ℕ) → read f s ≡ frame used p → used ≡ frameLength f (length p)
-used-is Binary s p used e = took-binary s p used e .count
-used-is Ascii s p used e = ascii-one-spelling s p used e .count ∙ length-ascii-layout p
+pub used-is : (f : Framing) (s p : List ℕ) (used : ℕ) → judge f s ≡ frame used p → used ≡ frameLength f (length p)
+used-is Binary s p used e = binary-used s p used e
+used-is Ascii s p used e = ascii-one-spelling s p used e .count ∙ length-layout Ascii p
 
 -- A frame has no more bytes than there are.
-pub used-there : (f : Framing) (s p : List ℕ) (used : ℕ) → read f s ≡ frame used p → used ≤ length s
+pub used-there : (f : Framing) (s p : List ℕ) (used : ℕ) → judge f s ≡ frame used p → used ≤ length s
 used-there f s p used e = subst (Bounded (limit f) (length s)) e (bounded (limit f) (checks f) s (within-limit f)) .1
 
 -- Nor more than the limit.
-pub used-most : (f : Framing) (s p : List ℕ) (used : ℕ) → read f s ≡ frame used p → used ≤ limit f
+pub used-most : (f : Framing) (s p : List ℕ) (used : ℕ) → judge f s ≡ frame used p → used ≤ limit f
 used-most f s p used e = subst (Bounded (limit f) (length s)) e (bounded (limit f) (checks f) s (within-limit f)) .0
 
 -- It uses at least one.
-pub some-used : (f : Framing) (s p : List ℕ) (used : ℕ) → read f s ≡ frame used p → 1 ≤ used
+pub some-used : (f : Framing) (s p : List ℕ) (used : ℕ) → judge f s ≡ frame used p → 1 ≤ used
 some-used Binary s p used e = omega (arith, used-is Binary s p used e)
 some-used Ascii s p used e = omega (arith, used-is Ascii s p used e)
 
@@ -60,21 +63,34 @@ frame-sized f s p used e = record { some = some-used f s p used e; most = used-m
 abbrev pub PayloadSize : List ℕ → Type 0
 PayloadSize p = (1 ≤ length p) × (length p ≤ 256)
 
-pub payload-size : (f : Framing) (s p : List ℕ) (used : ℕ) → read f s ≡ frame used p → PayloadSize p
-payload-size Binary s p used e = let h = took-binary s p used e in (h .some, h .most)
-payload-size Ascii s p used e = let h = ascii-one-spelling s p used e .payload in (h .some, h .most)
+-- The length of a frame's front, by its payload's.
+abbrev frontLength : Framing → ℕ → ℕ
+frontLength Binary n = n + 5
+frontLength Ascii n = 2 * n + 3
+
+-- The payload of a frame has 1 to 256 bytes, and all of the front that it is in is there.
+fronted : (f : Framing) (s p : List ℕ) (used : ℕ) → judge f s ≡ frame used p → PayloadSize p × (frontLength f (length p) ≤ length s)
+fronted Binary s p used e =
+    let h = took-binary footer footer-keeps s p used e in
+    let long = simp length-append at (ap length (h .ends .split)) in
+    ((h .some, h .most), omega arith)
+fronted Ascii s p used e =
+    let h = took-ascii crLf crlf-keeps s p used e in
+    let long = simp length-append at (ap length (h .ends .split)) in
+    ((h .payload .some, h .payload .most), omega (arith, length-ascii-front p))
+
+pub payload-size : (f : Framing) (s p : List ℕ) (used : ℕ) → judge f s ≡ frame used p → PayloadSize p
+payload-size f s p used e = fronted f s p used e .0
 
 -- Where the payload of a frame is named by its place and length, it is there, and that long.
-pub payload-there : (f : Framing) (s : List ℕ) (used len : ℕ) → read f s ≡ frame used (payloadAt f s len) →
+pub payload-there : (f : Framing) (s : List ℕ) (used len : ℕ) → judge f s ≡ frame used (payloadAt f s len) →
     (payloadEnd f len ≤ length s) × (length (payloadAt f s len) ≡ len)
 payload-there Binary s used len e =
-    let u = used-is Binary s (take len (drop 4 s)) used e in
-    let t = used-there Binary s (take len (drop 4 s)) used e in
+    let h = fronted Binary s (take len (drop 4 s)) used e in
     let l : length (take len (drop 4 s)) ≡ min len (length s - 4) = length-take len (drop 4 s) ∙ ap (min len) (length-drop 4 s) in
     omega arith
 payload-there Ascii s used len e =
-    let u = used-is Ascii s (decoded (take (2 * len) (drop 1 s))) used e in
-    let t = used-there Ascii s (decoded (take (2 * len) (drop 1 s))) used e in
+    let h = fronted Ascii s (decoded (take (2 * len) (drop 1 s))) used e in
     let l : length (decoded (take (2 * len) (drop 1 s))) ≡ min (2 * len) (length s - 1) / 2 =
     length-decoded (take (2 * len) (drop 1 s))
     ∙ ap (λ (k : ℕ). k / 2) (length-take (2 * len) (drop 1 s) ∙ ap (min (2 * len)) (length-drop 1 s))
@@ -82,14 +98,26 @@ payload-there Ascii s used len e =
     omega arith
 
 -- So it can be taken out.
-pub payload-packed : (f : Framing) (s : List ℕ) (used len : ℕ) → read f s ≡ frame used (payloadAt f s len) → Packed f s len
+pub payload-packed : (f : Framing) (s : List ℕ) (used len : ℕ) → judge f s ≡ frame used (payloadAt f s len) → Packed f s len
 payload-packed Binary s used len e = payload-there Binary s used len e .0
 payload-packed Ascii s used len e =
     let p : List ℕ = decoded (take (2 * len) (drop 1 s)) in
-    let h = ascii-one-spelling s p used e in
+    let h = took-ascii crLf crlf-keeps s p used e in
     let t = payload-there Ascii s used len e in
-    let same : take (2 * len) (drop 1 s) ≡ hex p = ap (λ (k : ℕ). take (2 * k) (drop 1 s)) (sym (t .1)) ∙ spelled-payload s p used h in
+    let same : take (2 * len) (drop 1 s) ≡ hex p = ap (λ (k : ℕ). take (2 * k) (drop 1 s)) (sym (t .1)) ∙ front-payload crLf s p used h in
     (t .0, subst Digits (sym same) (hex-digits p (h .payload .bytes)))
+
+-- What a frame that was judged says of the payload that its answer names.
+pub record PayloadNamed (f : Framing) (s : List ℕ) (len : ℕ) : Type 0 where
+  pub packed : Packed f s len
+  pub long : length (payloadAt f s len) ≡ len
+  pub most : len ≤ 256
+
+pub payload-named : (f : Framing) (s : List ℕ) (used len : ℕ) → judge f s ≡ verdictOf f s (Frame used len) → PayloadNamed f s len
+payload-named f s used len e =
+    let h = payload-there f s used len e in
+    let m = payload-size f s (payloadAt f s len) used e in
+    record { packed = payload-packed f s used len e; long = h .1; most = omega (arith, h .1, m .1) }
 
 -- A state's array has room for the longest frame.
 pub limit-most : (f : Framing) → limit f ≤ 517

@@ -11,7 +11,7 @@ use lib.ListN.{length, take}
 use Rattle.frame.specs.Checks.{Checks, next, fails, whole, byte, Verdict, cut, refused, frame, behind, run}
 use Rattle.frame.specs.Binary.{binary}
 use Rattle.frame.specs.Ascii.{ascii, colon}
-use Rattle.frame.specs.Framing.{checks, read, limit}
+use Rattle.frame.specs.Framing.{checks, judge, limit}
 use Rattle.frame.specs.Claims.{Decided, Sized}
 use Rattle.frame.specs.Scan.{judgedBytes}
 use Rattle.frame.specs.declared.framing.Framing.{Framing}
@@ -74,28 +74,28 @@ byte-judged c n t (b ∷ s) d =
 
 module _ (f : Framing) (s : List ℕ) where
   -- The bytes that were judged are no more than the limit, and among those that are there.
-  pub judged-most : judgedBytes (read f s) ≤ limit f
-  judged-most = judged-bounded (limit f) (length s) (read f s) (bounded (limit f) (checks f) s (within-limit f)) .0
+  pub judged-most : judgedBytes (judge f s) ≤ limit f
+  judged-most = judged-bounded (limit f) (length s) (judge f s) (bounded (limit f) (checks f) s (within-limit f)) .0
 
-  pub judged-there : judgedBytes (read f s) ≤ length s
-  judged-there = judged-bounded (limit f) (length s) (read f s) (bounded (limit f) (checks f) s (within-limit f)) .1
+  pub judged-there : judgedBytes (judge f s) ≤ length s
+  judged-there = judged-bounded (limit f) (length s) (judge f s) (bounded (limit f) (checks f) s (within-limit f)) .1
 
 -- A decision needs at least one byte.
-pub judged-some : (f : Framing) (s : List ℕ) → Decided (read f s) → 1 ≤ judgedBytes (read f s)
+pub judged-some : (f : Framing) (s : List ℕ) → Decided (judge f s) → 1 ≤ judgedBytes (judge f s)
 unfolding binary ascii
 judged-some Binary s d = byte-judged 0xA5 1 _ s d
 judged-some Ascii s d = byte-judged colon 1 _ s d
 
 -- A failed start was judged from as many bytes as a frame may use.
-pub refused-sized : (f : Framing) (s : List ℕ) (judged n : ℕ) → read f s ≡ refused judged n → Sized f s judged
+pub refused-sized : (f : Framing) (s : List ℕ) (judged n : ℕ) → judge f s ≡ refused judged n → Sized f s judged
 refused-sized f s judged n q =
     record { some = rw q at (judged-some f s (rw q tt)); most = rw q at (judged-most f s); there = rw q at (judged-there f s) }
 
 -- As many bytes as the longest frame has are enough for whatever is decided.
-pub limit-enough : (f : Framing) (s : List ℕ) (k : ℕ) → limit f ≤ k → read f (take k s) ≡ read f s
-limit-enough f s k l = by-verdict (read f s) refl
+pub limit-enough : (f : Framing) (s : List ℕ) (k : ℕ) → limit f ≤ k → judge f (take k s) ≡ judge f s
+limit-enough f s k l = by-verdict (judge f s) refl
   where
-    by-verdict : (v : Verdict) → read f s ≡ v → read f (take k s) ≡ read f s
+    by-verdict : (v : Verdict) → judge f s ≡ v → judge f (take k s) ≡ judge f s
     by-verdict cut q = front-undecided (checks f) s k q ∙ sym q
     by-verdict (refused judged n) q = enough (checks f) s k (rw q tt) (le-trans (judged-most f s) l)
     by-verdict (frame used p) q = enough (checks f) s k (rw q tt) (le-trans (judged-most f s) l)

@@ -1,57 +1,59 @@
--- The promises of the line reader's calls at each of their ways out.
+-- The answers of the line reader's calls at each of their ways out.
 -- Assumes nothing.
-use Prim.Native.Nat.{ℕ, _+_, _-_, _≤_, _<_, min}
+use Prim.Native.Nat.{ℕ, _+_, _-_, _≤_, _<_}
 use native.Mathlib.Nat.{le-refl, sub-self, sub-zero}
 use native.Mathlib.Omega.{arith}
 use mathlib.Core.Path.{_≡_, refl, sym, ap, ap₂, _∙_, subst}
-use mathlib.Core.List.{List, [], _++_}
-use mathlib.Core.Bool.{true, false, true≢false}
+use mathlib.Core.List.{List, _++_}
+use mathlib.Core.Bool.{Bool, false}
 use borrow.Author.Tests.{le-leb, lt-leb}
-use lib.Dec.{eqb}
-use lib.ListN.{length, take, drop, length-append, length-take}
-use lib.Seq.{paste, take-at, take-all, take-length, take-paste, length-take-le}
+use lib.ListN.{length, take, drop, length-append}
+use lib.Seq.{paste, take-length, take-paste, take-at, drop-at}
 use Rattle.frame.specs.Framing.{limit}
 use Rattle.frame.specs.Judged.{payloadAt}
-use Rattle.frame.specs.Reader.{Called, Values, Holds, feedValuesOf, valuesAt, refusalValues, bufferAt, quietRefusal, feedRefusal, Promise}
-use Rattle.frame.specs.Scan.{Stop, found, undecided, passed, stopOf, judging, Scanned, scanFrom, calledAs, calledBy, scanChunk, joined}
-use Rattle.frame.specs.Reader.{Tells}
-use Rattle.frame.specs.Scan.{scanHeld, beforeHeld, thenChunk, scanLine, stopBuffer, toldEnd, Usable, Answerable, Told, Keeps, Answered, QuietAnswered, PlacesFed}
+use Rattle.frame.specs.Reader.{State, holding, stateOf, Called, line, frameValues, feedValuesOf, bufferAt, quietRefusal, feedRefusal}
+use Rattle.frame.specs.Reader.{Feeds}
+use Rattle.frame.specs.Scan.{Stop, found, undecided, passed, stopOf, judging, Scanned, scannedTo, scanFrom, beforeScan, calledAs, calledBy}
+use Rattle.frame.specs.Scan.{scanWhole, joined, scanHeld, thenChunk, scanLine, stopBuffer, keptEnd, Usable, Answerable, Keeps, Stores, Leaves}
+use Rattle.frame.specs.Scan.{KeepsCall, QuietAnswered}
+use Rattle.frame.specs.View.{part}
 use Rattle.frame.specs.declared.framing.Framing.{Framing}
 use Rattle.frame.specs.declared.reader.Reader.{Reader}
-use Rattle.frame.specs.declared.reader.Before.{Before}
-use Rattle.frame.specs.declared.reader.First.{First}
-use Rattle.frame.specs.declared.reader.Fed.{Fed}
+use Rattle.frame.specs.declared.reader.Left.{Left}
 use Rattle.frame.specs.declared.reader.Quieted.{Quieted}
-use Rattle.frame.specs.declared.reader.FeedAnswer.the-variants.{Frame as FeedFrame, NeedsMore}
+use Rattle.frame.specs.declared.answer.Before.{Before}
+use Rattle.frame.specs.declared.answer.Kept.{Kept}
+use Rattle.frame.specs.declared.answer.FeedAnswer.{FeedAnswer}
+use Rattle.frame.specs.declared.answer.FeedAnswer.the-variants.{Frame as FeedFrame, NeedsMore}
 use Rattle.frame.specs.declared.scan.ScanEnd.{ScanEnd}
 use Rattle.frame.specs.declared.scan.ScanEnd.the-variants.{Frame, Undecided, Passed}
 use Rattle.frame.proofs.Lists.{take-rest}
 use Rattle.frame.proofs.Framings.{limit-most}
+use Rattle.frame.proofs.Parts.{part-front}
+use Rattle.frame.proofs.Promises.{answers}
 use Rattle.frame.proofs.Scanning.{Ends, scan-facts}
+use Rattle.frame.proofs.ScanCalls.{scan-whole, scan-line}
 
--- A state whose count is 0 holds nothing.
-pub none-held : (r : Reader) → r .count ≡ 0 → Holds (r .framing) [] r
-none-held r e = record { framing = refl; count = e; bytes = ap (λ (n : ℕ). take n (r .held)) e }
+-- An answer, and the part that is kept with it.
+abbrev keptAs : FeedAnswer → ℕ → ℕ → Kept
+keptAs answer from end = record { answer = answer; from = from; end = end }
 
 module _ (f : Framing) (w : List ℕ) (before : Before) (place reach : ℕ) (end : ScanEnd) where
-  -- What is told of a scan that stopped so.
-  abbrev Right : ScanEnd → First → Type 0
-  Right x told = Told before w (record { place = place; reach = reach; stop = stopOf f (drop place w) x }) told
+  -- What is kept of a scan that stopped so.
+  abbrev Right : ScanEnd → Kept → Type 0
+  Right x k = Keeps before w (scannedTo place reach (stopOf f (drop place w) x)) k
 
   -- It stopped at a frame.
-  pub told-frame :
+  pub kept-frame :
       (used len : ℕ) → end ≡ Frame used len → length (payloadAt f (drop place w) len) ≡ len →
       place + used ≤ reach → reach ≤ length w → reach ≤ place + 517 →
-      Right end (record { answer = FeedFrame (reach - before .base) (before .noise + place) len; from = place + used; end = reach })
-  told-frame used len e l h k m =
+      Right end (keptAs (FeedFrame (reach - before .base) (before .noise + place) len) (place + used) reach)
+  kept-frame used len e l h k m =
       subst
-      (λ (x : ScanEnd). Right x (record { answer = FeedFrame (reach - before .base) (before .noise + place) len; from = place + used; end = reach }))
+      (λ (x : ScanEnd). Right x (keptAs (FeedFrame (reach - before .base) (before .noise + place) len) (place + used) reach))
       (sym e)
       (record {
-        values =
-            ap
-            (λ (n : ℕ). record { number = 0; taken = reach - before .base; noise = before .noise + place; len = n; isFrame = true })
-            (sym l);
+        values = ap (frameValues (reach - before .base) (before .noise + place)) (sym l);
         held = refl;
         inside = h;
         there = k;
@@ -60,20 +62,20 @@ module _ (f : Framing) (w : List ℕ) (before : Before) (place reach : ℕ) (end
       })
 
   -- It stopped at undecided bytes.
-  pub told-undecided :
+  pub kept-undecided :
       end ≡ Undecided → place ≤ length w → length w ≤ place + 517 →
-      Right end (record { answer = NeedsMore (before .size) (before .noise + place); from = place; end = length w })
-  told-undecided e h m =
+      Right end (keptAs (NeedsMore (before .size) (before .noise + place)) place (length w))
+  kept-undecided e h m =
       subst
-      (λ (x : ScanEnd). Right x (record { answer = NeedsMore (before .size) (before .noise + place); from = place; end = length w }))
+      (λ (x : ScanEnd). Right x (keptAs (NeedsMore (before .size) (before .noise + place)) place (length w)))
       (sym e)
       (record { values = refl; held = take-rest w place; inside = h; there = omega arith; most = m; ends = refl })
 
   -- It passed every place.
-  pub told-passed : end ≡ Passed → Right end (record { answer = NeedsMore (before .size) (before .noise + place); from = length w; end = length w })
-  told-passed e =
+  pub kept-passed : end ≡ Passed → Right end (keptAs (NeedsMore (before .size) (before .noise + place)) (length w) (length w))
+  kept-passed e =
       subst
-      (λ (x : ScanEnd). Right x (record { answer = NeedsMore (before .size) (before .noise + place); from = length w; end = length w }))
+      (λ (x : ScanEnd). Right x (keptAs (NeedsMore (before .size) (before .noise + place)) (length w) (length w)))
       (sym e)
       (record {
         values = refl;
@@ -85,56 +87,56 @@ module _ (f : Framing) (w : List ℕ) (before : Before) (place reach : ℕ) (end
       })
 
 -- The buffer that a scan leaves is that of the call.
-call-buffer :
+pub call-buffer :
     (stop : Stop) (before : Before) (w : List ℕ) (place reach : ℕ) (buf : List ℕ) →
     stopBuffer stop buf ≡ bufferAt (calledAs stop before w place reach .out .frames) buf
 call-buffer (found used p) before w place reach buf = refl
 call-buffer undecided before w place reach buf = refl
 call-buffer passed before w place reach buf = refl
 
--- What is told of a call, with the buffer that the scan has left.
-pub tells :
-    (before : Before) (w buf : List ℕ) (x : Scanned) (told : First) (buf′ : List ℕ) → Told before w x told →
-    buf′ ≡ stopBuffer (x .stop) buf → Tells (calledBy before w x) w buf told buf′
-tells before w buf x told buf′ h b =
-    record {
+module _ (before : Before) (w : List ℕ) (x : Scanned) (k : Kept) (h : Keeps before w x k) (buf buf′ : List ℕ) (b : buf′ ≡ stopBuffer (x .stop) buf) where
+  -- The kept part, put into the front of an array, with the buffer that the scan has left.
+  pub stored-leaves : (held : List ℕ) (left : Left) → Stores (part (k .from) (k .end) w) k held left → Leaves (calledBy before w x) buf left held buf′
+  stored-leaves held left s =
+      record {
+        values = ap feedValuesOf (s .answer) ∙ h .values;
+        count = s .count ∙ ap length (h .held);
+        bytes = s .bytes ∙ h .held;
+        buffer = b ∙ call-buffer (x .stop) before w (x .place) (x .reach) buf;
+      }
+
+-- What leaves one call leaves an equal one.
+pub leaves-same : (c d : Called) (buf : List ℕ) (left : Left) (held buf′ : List ℕ) → c ≡ d → Leaves c buf left held buf′ → Leaves d buf left held buf′
+leaves-same c d buf left held buf′ e h = subst (λ (x : Called). Leaves x buf left held buf′) e h
+
+-- Of a slice whose first `base` bytes were held, the kept part ends with the bytes that were taken.
+kept-taken :
+    (stop : Stop) (base : ℕ) (w : List ℕ) (place reach : ℕ) → base ≤ reach → base ≤ length w →
+    keptEnd stop w reach ≡ base + calledAs stop (beforeScan base 0 (length w - base)) w place reach .taken
+kept-taken (found used p) base w place reach h l = omega arith
+kept-taken undecided base w place reach h l = omega arith
+kept-taken passed base w place reach h l = omega arith
+
+-- A whole slice was scanned: what a view's call keeps.
+pub view-keeps :
+    (f : Framing) (w : List ℕ) (count : ℕ) (x : Scanned) (k : Kept) (buf buf′ : List ℕ) → count ≤ length w → count ≤ x .reach →
+    x ≡ scanFrom (judging false f) (length w) 0 count w → Keeps (beforeScan count 0 (length w - count)) w x k →
+    buf′ ≡ stopBuffer (x .stop) buf → KeepsCall (line (holding f (take count w)) (drop count w)) count w k buf buf′
+view-keeps f w count x k buf buf′ l r is h b =
+    let before : Before = beforeScan count 0 (length w - count) in
+    let same : calledBy before w x ≡ line (holding f (take count w)) (drop count w) =
+    ap (calledBy before w) is ∙ scan-whole f count w l in
+    subst
+    (λ (c : Called). KeepsCall c count w k buf buf′)
+    same
+    (record {
       values = h .values;
       held = h .held;
       inside = h .inside;
       there = h .there;
-      most = h .most;
+      ends = h .ends ∙ kept-taken (x .stop) count w (x .place) (x .reach) r l;
       buffer = b ∙ call-buffer (x .stop) before w (x .place) (x .reach) buf;
-    }
-
--- Of a chunk, the held part ends with the bytes that were taken.
-pub ends-taken :
-    (noise : ℕ) (w : List ℕ) (x : Scanned) → toldEnd (x .stop) w (x .reach) ≡ calledBy (record { base = 0; noise = noise; size = length w }) w x .taken
-ends-taken noise w x = by-stop (x .stop)
-  where
-    by-stop : (stop : Stop) → toldEnd stop w (x .reach) ≡ calledAs stop (record { base = 0; noise = noise; size = length w }) w (x .place) (x .reach) .taken
-    by-stop (found used p) = sym (sub-zero (x .reach))
-    by-stop undecided = refl
-    by-stop passed = refl
-
-module _ (c : Called) (w buf : List ℕ) (told : First) (buf′ : List ℕ) (h : Tells c w buf told buf′) where
-  -- With the state that holds the told part, it is the answer.
-  pub kept-answers : (f : Framing) (fed : Fed) → Keeps f w told fed → Answered f c buf fed buf′
-  kept-answers f fed k =
-      record {
-        values = ap feedValuesOf (k .answer) ∙ h .values;
-        state = subst (λ (l : List ℕ). Holds f l (fed .reader)) (h .held) (k .state);
-        buffer = h .buffer;
-      }
-
-  -- So it is with the state as it was, where that holds nothing and the told part is empty.
-  pub none-answers : (r : Reader) → r .count ≡ 0 → told .from ≡ told .end → Answered (r .framing) c buf (record { reader = r; answer = told .answer }) buf′
-  none-answers r z e =
-      let none : told .end - told .from ≡ 0 = omega arith in
-      record {
-        values = h .values;
-        state = subst (λ (l : List ℕ). Holds (r .framing) l r) (sym (ap (λ (n : ℕ). take n (drop (told .from) w)) none) ∙ h .held) (none-held r z);
-        buffer = h .buffer;
-      }
+    })
 
 -- An answer can be made of a scan's result.
 usable :
@@ -159,102 +161,106 @@ answerable f w n reach x before l k m is b s =
     }
 
 -- The held bytes' places all fail: the chunk's follow.
-pub held-passed :
+held-passed :
     (f : Framing) (held chunk : List ℕ) (x : Scanned) → x ≡ scanHeld f held chunk → x .stop ≡ passed →
-    scanLine f held chunk ≡ scanChunk f (length held) (x .reach - length held) chunk
+    scanWhole f 0 (length held) (x .reach - length held) chunk ≡ line (holding f held) chunk
 unfolding scanLine
 held-passed f held chunk x is e =
-    ap (λ (y : Scanned). thenChunk (y .stop) f held chunk (y .place) (y .reach)) (sym is)
-    ∙ ap (λ (s : Stop). thenChunk s f held chunk (x .place) (x .reach)) e
+    ap (λ (s : Stop). thenChunk s f held chunk (x .place) (x .reach)) (sym e)
+    ∙ ap (λ (y : Scanned). thenChunk (y .stop) f held chunk (y .place) (y .reach)) is
+    ∙ scan-line f held chunk
 
 -- One of them does not.
 then-held : (s : Stop) (f : Framing) (held chunk : List ℕ) (place reach : ℕ) → (s ≡ passed → ⊥) →
-    thenChunk s f held chunk place reach ≡ calledAs s (beforeHeld held chunk) (joined f held chunk) place reach
+    calledAs s (beforeScan (length held) 0 (length chunk)) (joined f held chunk) place reach ≡ thenChunk s f held chunk place reach
 then-held (found used p) f held chunk place reach n = refl
 then-held undecided f held chunk place reach n = refl
 then-held passed f held chunk place reach n = absurd (n refl)
 
-pub held-found :
+held-found :
     (f : Framing) (held chunk : List ℕ) (x : Scanned) → x ≡ scanHeld f held chunk → (x .stop ≡ passed → ⊥) →
-    scanLine f held chunk ≡ calledBy (beforeHeld held chunk) (joined f held chunk) x
+    calledBy (beforeScan (length held) 0 (length chunk)) (joined f held chunk) x ≡ line (holding f held) chunk
 unfolding scanLine
 held-found f held chunk x is n =
-    ap (λ (y : Scanned). thenChunk (y .stop) f held chunk (y .place) (y .reach)) (sym is)
-    ∙ then-held (x .stop) f held chunk (x .place) (x .reach) n
-
--- The first `count` bytes of w are held, and the others are the chunk's, as many as can belong to a frame that begins in them; x is the result of
--- the scan of their places.
-module _ (f : Framing) (w chunk : List ℕ) (count : ℕ) (h : w ≡ joined f (take count w) chunk) (l : count ≤ length w) where
-  places-count : length (take count w) ≡ count
-  places-count = length-take-le count w l
-
-  pub places-long : length w ≡ count + min (limit f) (length chunk)
-  places-long =
-      ap length h ∙ length-append (take count w) (take (limit f) chunk)
-      ∙ ap₂ (λ (m n : ℕ). m + n) places-count (length-take (limit f) chunk)
-
-  module _ (x : Scanned) (is : x ≡ scanFrom (judging false f) count 0 count w) where
-    places-scan : x ≡ scanHeld f (take count w) chunk
-    places-scan = is ∙ ap₂ (λ (n : ℕ) (s : List ℕ). scanFrom (judging false f) n 0 n s) (sym places-count) h
-
-    -- All of them fail.
-    pub places-passed : x .stop ≡ passed → scanChunk f count (x .reach - count) chunk ≡ scanLine f (take count w) chunk
-    places-passed e =
-        ap (λ (n : ℕ). scanChunk f n (x .reach - n) chunk) (sym places-count) ∙ sym (held-passed f (take count w) chunk x places-scan e)
-
-    -- One does not.
-    pub places-found :
-        (x .stop ≡ passed → ⊥) → calledBy (record { base = count; noise = 0; size = length chunk }) w x ≡ scanLine f (take count w) chunk
-    places-found n =
-        ap₂ (λ (k : ℕ) (s : List ℕ). calledBy (record { base = k; noise = 0; size = length chunk }) s x) (sym places-count) h
-        ∙ sym (held-found f (take count w) chunk x places-scan n)
-
--- Such bytes, by the held ones.
-module _ (f : Framing) (held chunk w : List ℕ) (count : ℕ) (e : w ≡ joined f held chunk) (l : length held ≡ count) where
-  pub places-held : take count w ≡ held
-  places-held = ap (take count) e ∙ take-at held (take (limit f) chunk) count l
-
-  pub places-fed : (buf : List ℕ) → count ≤ limit f → 256 ≤ length buf → PlacesFed f w count chunk buf
-  places-fed buf m r =
-      record {
-        bytes = e ∙ ap (λ (s : List ℕ). joined f s chunk) (sym places-held);
-        inside = omega (arith, ap length e ∙ length-append held (take (limit f) chunk));
-        held = m;
-        room = r;
-      }
+    then-held (x .stop) f held chunk (x .place) (x .reach) n
+    ∙ ap (λ (y : Scanned). thenChunk (y .stop) f held chunk (y .place) (y .reach)) is
+    ∙ scan-line f held chunk
 
 -- A chunk that was put behind held bytes.
 pub appended :
-    (f : Framing) (d chunk : List ℕ) (count : ℕ) → count ≤ length d → length chunk ≤ limit f →
-    take (count + length chunk) (paste d count chunk (length chunk)) ≡ joined f (take count d) chunk
-appended f d chunk count h l =
-    take-paste d count chunk (length chunk) h (le-refl (length chunk))
-    ∙ ap (λ (s : List ℕ). take count d ++ s) (take-length chunk ∙ sym (take-all (limit f) chunk l))
+    (d chunk : List ℕ) (count : ℕ) → count ≤ length d →
+    take (count + length chunk) (paste d count chunk (length chunk)) ≡ take count d ++ chunk
+appended d chunk count h =
+    take-paste d count chunk (length chunk) h (le-refl (length chunk)) ∙ ap (λ (s : List ℕ). take count d ++ s) (take-length chunk)
+
+-- A scan from the first place on is one of all places.
+pub from-first :
+    (ended : Bool) (f : Framing) (n reach : ℕ) (w : List ℕ) (x : Scanned) → x ≡ scanFrom (judging ended f) (n - 0) 0 reach w →
+    x ≡ scanFrom (judging ended f) n 0 reach w
+from-first ended f n reach w x is = is ∙ ap (λ (k : ℕ). scanFrom (judging ended f) k 0 reach w) (sub-zero n)
+
+-- What is left of a chunk where nothing is held.
+pub chunk-leaves :
+    (f : Framing) (chunk : List ℕ) (noise reach : ℕ) (x : Scanned) (k : Kept) (buf buf′ held : List ℕ) (left : Left) →
+    x ≡ scanFrom (judging false f) (length chunk) 0 reach chunk → Keeps (beforeScan 0 noise (length chunk)) chunk x k →
+    buf′ ≡ stopBuffer (x .stop) buf → Stores (part (k .from) (k .end) chunk) k held left → Leaves (scanWhole f 0 noise reach chunk) buf left held buf′
+chunk-leaves f chunk noise reach x k buf buf′ held left is h b s =
+    leaves-same _ _ buf left held buf′
+    (ap₂ (λ (n : ℕ) (y : Scanned). calledBy (beforeScan 0 noise n) chunk y) (sym (sub-zero (length chunk))) is)
+    (stored-leaves (beforeScan 0 noise (length chunk)) chunk x k h buf buf′ b held left s)
+
+-- What is left of held bytes with a chunk behind them in one array, all of which were scanned.
+pub short-leaves :
+    (f : Framing) (h chunk array : List ℕ) (count : ℕ) (x : Scanned) (k : Kept) (buf buf′ held : List ℕ) (left : Left) → length h ≡ count →
+    let w : List ℕ = take (count + length chunk) array in
+    w ≡ h ++ chunk → x ≡ scanFrom (judging false f) (count + length chunk) 0 count w →
+    Keeps (beforeScan count 0 (length chunk)) w x k → buf′ ≡ stopBuffer (x .stop) buf →
+    Stores (part (k .from) (k .end) array) k held left → Leaves (line (holding f h) chunk) buf left held buf′
+short-leaves f h chunk array count x k buf buf′ held left n e is keeps b s =
+    let w : List ℕ = take (count + length chunk) array in
+    let long : length w ≡ count + length chunk = omega (arith, ap length e ∙ length-append h chunk) in
+    let rest : length chunk ≡ length w - count = omega arith in
+    let within : count ≤ length w = omega arith in
+    let same : calledBy (beforeScan count 0 (length chunk)) w x ≡ line (holding f h) chunk =
+    ap₂ (λ (n : ℕ) (y : Scanned). calledBy (beforeScan count 0 n) w y) rest (is ∙ ap (λ (n : ℕ). scanFrom (judging false f) n 0 count w) (sym long))
+    ∙ scan-whole f count w within
+    ∙ ap₂ (λ (a c : List ℕ). line (holding f a) c) (ap (take count) e ∙ take-at h chunk count n) (ap (drop count) e ∙ drop-at h chunk count n) in
+    leaves-same _ _ buf left held buf′ same
+    (stored-leaves (beforeScan count 0 (length chunk)) w x k keeps buf buf′ b held left
+    (subst (λ (l : List ℕ). Stores l k held left) (sym (part-front (k .from) (k .end) (count + length chunk) array (rw long at (keeps .there)))) s))
+
+-- Held bytes were joined with a chunk's front, and the places of the held ones were scanned.
+module _ (f : Framing) (h chunk w : List ℕ) (count : ℕ) (n : length h ≡ count) (j : w ≡ joined f h chunk) (x : Scanned)
+    (is : x ≡ scanFrom (judging false f) count 0 count w) where
+  scan-is : x ≡ scanHeld f h chunk
+  scan-is = is ∙ ap₂ (λ (m : ℕ) (s : List ℕ). scanFrom (judging false f) m 0 m s) (sym n) j
+
+  -- One of them does not fail.
+  pub long-leaves :
+      (k : Kept) (buf buf′ held : List ℕ) (left : Left) → (x .stop ≡ passed → ⊥) → Keeps (beforeScan count 0 (length chunk)) w x k →
+      buf′ ≡ stopBuffer (x .stop) buf → Stores (part (k .from) (k .end) w) k held left → Leaves (line (holding f h) chunk) buf left held buf′
+  long-leaves k buf buf′ held left p keeps b s =
+      leaves-same _ _ buf left held buf′
+      (ap₂ (λ (m : ℕ) (l : List ℕ). calledBy (beforeScan m 0 (length chunk)) l x) (sym n) j ∙ held-found f h chunk x scan-is p)
+      (stored-leaves (beforeScan count 0 (length chunk)) w x k keeps buf buf′ b held left s)
+
+  -- All of them fail.
+  pub long-passed : x .stop ≡ passed → scanWhole f 0 count (x .reach - count) chunk ≡ line (holding f h) chunk
+  long-passed p = ap (λ (m : ℕ). scanWhole f 0 m (x .reach - m) chunk) (sym n) ∙ held-passed f h chunk x scan-is p
+
+-- What a feed answers is what is left of the call.
+pub leaves-feeds :
+    (r : Reader) (chunk buf : List ℕ) (left : Left) (held buf′ : List ℕ) → feedRefusal r (length buf) (length chunk) ≡ 0 →
+    Leaves (line (stateOf r) chunk) buf left held buf′ →
+    Feeds r chunk buf (record { reader = record { framing = r .framing; held = held; count = left .count }; answer = left .answer }) buf′
+leaves-feeds r chunk buf left held buf′ z h =
+    answers z (h .values) (record { state = ap (holding (r .framing)) (h .bytes); count = h .count }) (h .buffer)
 
 -- A scan that passed says so.
 pub passed-end : (f : Framing) (s : List ℕ) (end : ScanEnd) → stopOf f s end ≡ passed → end ≡ Passed
 passed-end f s (Frame used len) e = cc
 passed-end f s Undecided e = cc
 passed-end f s Passed e = refl
-
-module _ (number : ℕ) (c : Called) (Next : Reader → Type 0) (r : Reader) (buf : List ℕ) where
-  -- A refused call: the number, with the state and the buffer as they were.
-  pub refuses : (n : ℕ) → number ≡ n → eqb n 0 ≡ false → Promise number c Next r buf (refusalValues n) r buf
-  refuses n e z =
-      record {
-        refuses = λ _. (ap refusalValues (sym e), refl, refl);
-        answers = λ t. absurd (true≢false (sym t ∙ ap (λ (k : ℕ). eqb k 0) e ∙ z));
-      }
-
-  -- A call that is not refused.
-  pub answers :
-      (v : Values) (r′ : Reader) (buf′ : List ℕ) → number ≡ 0 → v ≡ valuesAt c → Next r′ → buf′ ≡ bufferAt (c .out .frames) buf →
-      Promise number c Next r buf v r′ buf′
-  answers v r′ buf′ e h k b =
-      record {
-        refuses = λ t. absurd (true≢false (ap (λ (n : ℕ). eqb n 0) (sym e) ∙ t));
-        answers = λ _. (h, k, b);
-      }
 
 module _ (r : Reader) (room size : ℕ) where
   -- The refusals of a line call, in their order.
@@ -282,6 +288,6 @@ module _ (r : Reader) (room size : ℕ) where
 
 -- A quiet's answer is right where the call gives that.
 pub quiet-right :
-    (f : Framing) (c d : Called) (buf : List ℕ) (q : Quieted) (buf′ : List ℕ) → c ≡ d → QuietAnswered f d buf q buf′ →
-    QuietAnswered f c buf q buf′
-quiet-right f c d buf q buf′ e h = subst (λ (x : Called). QuietAnswered f x buf q buf′) (sym e) h
+    (s : State) (c d : Called) (buf : List ℕ) (q : Quieted) (buf′ : List ℕ) → c ≡ d → QuietAnswered s d buf q buf′ →
+    QuietAnswered s c buf q buf′
+quiet-right s c d buf q buf′ e h = subst (λ (x : Called). QuietAnswered s x buf q buf′) (sym e) h

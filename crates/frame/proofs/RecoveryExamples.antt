@@ -12,7 +12,7 @@ use lib.Dec.{eqb}
 use lib.ListN.{length, getD, take, drop, replicate}
 use Rattle.frame.specs.Checks.{byte, test, word, bytes}
 use Rattle.frame.specs.Binary.{binary, body, footer}
-use Rattle.frame.specs.Rule.{join, Found, ruleFrom, rule}
+use Rattle.frame.specs.Rule.{join, places, outFrom, Found, rule}
 use Rattle.frame.specs.Recovery.{Good, Stretch, none, another, concat, starts, All}
 use Rattle.frame.specs.RecoveryExamples.{response, swallowed, LostAndBack, holdsStart, unguarded, shortStart, lostFrame}
 use Rattle.frame.specs.RecoveryExamples.{ProvisoNeeded}
@@ -67,7 +67,7 @@ response-good = record { payload = 0xDB ∷ 0xA1 ∷ 0x80 ∷ 0x01 ∷ []; reads
 
 -- A stray start loses good frames, and later ones come back.
 pub lost-and-back : LostAndBack
-unfolding ruleFrom join binary body footer byte test word bytes
+unfolding rule places outFrom join binary body footer byte test word bytes
 lost-and-back =
     record {
       good =
@@ -89,7 +89,7 @@ elsewhere x (y ∷ ys) h m =
 
 -- Without the proviso a good frame far into the stretch is lost.
 pub proviso-needed : ProvisoNeeded
-unfolding ruleFrom join binary body footer byte test word bytes
+unfolding rule places outFrom join binary body footer byte test word bytes
 proviso-needed =
     record {
       good =

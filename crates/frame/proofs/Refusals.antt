@@ -11,22 +11,22 @@ use lib.Dec.{leb, eqb}
 use lib.ListN.{length, length-take}
 use Rattle.frame.specs.Framing.{limit}
 use Rattle.frame.specs.Rule.{Output}
-use Rattle.frame.specs.Reader.{Called, quiet, heldIn, Holds, Values, feedValuesOf, quietValuesOf, quietRefusal, feedRefusal}
-use Rattle.frame.specs.Reader.{Promise, AfterQuiet}
+use Rattle.frame.specs.Reader.{State, Called, line, quiet, stateOf, Holds, Values, feedValuesOf, quietValuesOf, quietRefusal, feedRefusal}
+use Rattle.frame.specs.Reader.{quietNumber, lineNumber, Promise, AfterQuiet}
 use Rattle.frame.specs.Calls.{Phase, Calls, fed, taken, quieted, emptied, feedRefused, quietRefused, done}
 use Rattle.frame.specs.Recovery.{All}
 use Rattle.frame.specs.Driving.{refusalsOf, StateNeverRefused, FeedStaysInLimit, QuietStaysInLimit}
 use Rattle.frame.specs.declared.framing.Framing.{Framing}
 use Rattle.frame.specs.declared.reader.Reader.{Reader}
 use Rattle.frame.proofs.Settling.{line-size, quiet-size}
-use Rattle.frame.proofs.Calling.{refusing, feed-refused, quiet-refused}
+use Rattle.frame.proofs.Promises.{refusing}
 
 -- A state that holds no more than a frame can have.
 abbrev pub StateFits : Reader → Type 0
 StateFits r = r .count ≤ limit (r .framing)
 
 -- Its held bytes are no more than a frame can have.
-pub fits-held : (r : Reader) → StateFits r → length (heldIn r) ≤ limit (r .framing)
+pub fits-held : (r : Reader) → StateFits r → length (stateOf r .held) ≤ limit (r .framing)
 fits-held r l = rw length-take (omega arith)
 
 -- The framing is this one, and the held bytes are within its limit.
@@ -38,11 +38,11 @@ in-limit-fits : {f : Framing} (r : Reader) → InLimit f r → StateFits r
 in-limit-fits r h = rw (h .0) (h .1)
 
 -- A state that holds no more bytes than the limit is within it.
-holds-in-limit : {f : Framing} {h : List ℕ} {r : Reader} → Holds f h r → length h ≤ limit f → InLimit f r
-holds-in-limit k l = (k .framing, rw (k .count) l)
+holds-in-limit : {s : State} {r : Reader} → Holds s r → length (s .held) ≤ limit (s .framing) → InLimit (s .framing) r
+holds-in-limit k l = (ap (λ (x : State). x .framing) (k .state), rw (k .count) l)
 
 -- A state that holds no more than a frame can have fits.
-pub holds-fits : {f : Framing} {h : List ℕ} {r : Reader} → Holds f h r → length h ≤ limit f → StateFits r
+pub holds-fits : {s : State} {r : Reader} → Holds s r → length (s .held) ≤ limit (s .framing) → StateFits r
 holds-fits {r = r} k l = in-limit-fits r (holds-in-limit k l)
 
 -- Such a state is not refused.
@@ -57,7 +57,7 @@ feed-other r room size l e =
     other-refusal (leb 256 room) (leb size 65536)
     (sym
     (ap
-    (λ (t : Bool). cond t (cond (leb 256 room) (cond (leb size 65536) 0 15) 13) 16)
+    (λ (t : Bool). lineNumber t room size)
     (le-leb (r .count) (limit (r .framing)) l))
     ∙ e)
 
@@ -65,13 +65,13 @@ feed-other r room size l e =
 quiet-other : (r : Reader) (room : ℕ) → StateFits r → quietRefusal r room ≡ 16 → ⊥
 quiet-other r room l e =
     other-refusal (leb 256 room) true
-    (sym (ap (λ (t : Bool). cond t (cond (leb 256 room) 0 13) 16) (le-leb (r .count) (limit (r .framing)) l)) ∙ e)
+    (sym (ap (λ (t : Bool). quietNumber t room) (le-leb (r .count) (limit (r .framing)) l)) ∙ e)
 
 -- A refused call leaves the state as it was; any other leaves one that follows.
 stays :
-    {number : ℕ} {c : Called} {Next : Reader → Type 0} {r : Reader} {buf : List ℕ} {values : Values} {r′ : Reader} {buf′ : List ℕ} →
-    Promise number c Next r buf values r′ buf′ → StateFits r → (Next r′ → InLimit (r .framing) r′) → InLimit (r .framing) r′
-stays {number} {r = r} {r′ = r′} p l next = by-refusal (eqb number 0) refl
+    {A : Type 0} {number : ℕ} {refusal answer v : A} {Next : Reader → Type 0} {filled buf buf′ : List ℕ} {r r′ : Reader} →
+    Promise number refusal answer Next filled r buf v r′ buf′ → StateFits r → (Next r′ → InLimit (r .framing) r′) → InLimit (r .framing) r′
+stays {number = number} {r = r} {r′ = r′} p l next = by-refusal (eqb number 0) refl
   where
     by-refusal : (q : Bool) → eqb number 0 ≡ q → InLimit (r .framing) r′
     by-refusal true e = next (p .answers e .1)
@@ -79,20 +79,20 @@ stays {number} {r = r} {r′ = r′} p l next = by-refusal (eqb number 0) refl
 
 -- The state after a quiet call is within the limit, where its held bytes are.
 after-in-limit :
-    (f : Framing) (c : Called) (fs : List (List ℕ)) (r : Reader) → AfterQuiet f c fs r → length (c .held) ≤ limit f → InLimit f r
-after-in-limit f c [] r h l = subst (InLimit f) (sym h) (refl, zero-le)
-after-in-limit f c (p ∷ ps) r h l = holds-in-limit h l
+    (s : State) (c : Called) (fs : List (List ℕ)) (r : Reader) → AfterQuiet s c fs r → length (c .held) ≤ limit (s .framing) →
+    InLimit (s .framing) r
+after-in-limit s c [] r h l = subst (InLimit (s .framing)) (sym h) (refl, zero-le)
+after-in-limit s c (p ∷ ps) r h l = holds-in-limit h l
 
 -- A line call keeps held bytes within the limit, whatever state it gets.
 pub feed-stays-in-limit : FeedStaysInLimit
-feed-stays-in-limit r chunk buf a buf′ p l = stays p l (λ k. holds-in-limit k (line-size (r .framing) (heldIn r) chunk (fits-held r l)))
+feed-stays-in-limit r chunk buf a buf′ p l = stays p l (λ k. holds-in-limit k (line-size (stateOf r) chunk (fits-held r l)))
 
 -- So does a quiet call.
 pub quiet-stays-in-limit : QuietStaysInLimit
 quiet-stays-in-limit r buf a buf′ p l =
-    let c : Called = quiet (r .framing) (heldIn r) in
-    stays p l (λ k.
-    after-in-limit (r .framing) c (c .out .frames) (a .reader) k (le-trans (quiet-size (r .framing) (heldIn r)) (fits-held r l)))
+    let c : Called = quiet (stateOf r) in
+    stays p l (λ k. after-in-limit (stateOf r) c (c .out .frames) (a .reader) k (le-trans (quiet-size (stateOf r)) (fits-held r l)))
 
 -- Whatever the calls, from a state that fits on.
 never :
@@ -103,11 +103,11 @@ never (taken later) l = never later l
 never (quieted {r} buf buf′ a p n later) l = never later (in-limit-fits (a .reader) (quiet-stays-in-limit r buf a buf′ p l))
 never (emptied {r} buf buf′ a p n later) l = never later (in-limit-fits (a .reader) (quiet-stays-in-limit r buf a buf′ p l))
 never (feedRefused {r = r} chunk buf buf′ a p n later) l =
-    let h = refusing p (feed-refused (a .answer) n) in
+    let h = refusing (line (stateOf r) chunk) p n in
     let number : feedValuesOf (a .answer) .number ≡ feedRefusal r (length buf) (length chunk) = ap (λ (v : Values). v .number) (h .0) in
     (λ e. feed-other r (length buf) (length chunk) l (sym number ∙ e), never later (subst StateFits (sym (h .1)) l))
 never (quietRefused {r = r} buf buf′ a p n later) l =
-    let h = refusing p (quiet-refused (a .answer) n) in
+    let h = refusing (quiet (stateOf r)) p n in
     let number : quietValuesOf (a .answer) .number ≡ quietRefusal r (length buf) = ap (λ (v : Values). v .number) (h .0) in
     (λ e. quiet-other r (length buf) l (sym number ∙ e), never later (subst StateFits (sym (h .1)) l))
 never done l = tt

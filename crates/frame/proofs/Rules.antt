@@ -8,10 +8,11 @@ use mathlib.Core.List.{List, [], _∷_, _++_, append-assoc, map-append}
 use lib.ListN.{length, drop}
 use Rattle.frame.specs.Checks.{Verdict, cut, refused, frame}
 use Rattle.frame.specs.Framing.{read}
-use Rattle.frame.specs.Rule.{Output, nothing, noiseByte, handed, join, Found, outAt, passAfter, ruleFrom, rule, payloads}
+use Rattle.frame.specs.Rule.{Output, output, nothing, noiseByte, handed, join, onBy, passAfter, places, Found, foundAt, outAt, outFrom}
+use Rattle.frame.specs.Rule.{rule, payloads}
 use Rattle.frame.specs.Recovery.{All, usedBytes, BytesAddUp}
 use Rattle.frame.specs.declared.framing.Framing.{Framing}
-use Rattle.frame.proofs.Shapes.{NoFrame, read-stands}
+use Rattle.frame.proofs.Shapes.{NoFrame, judge-stands}
 use Rattle.frame.proofs.Framings.{frame-sized}
 
 -- Outputs join in any grouping, and nothing adds nothing.
@@ -19,17 +20,48 @@ module _ {A : Type 0} where
   -- Nothing before an output adds nothing.
   pub join-nothing : (o : Output A) → join nothing o ≡ o
   unfolding join
-  join-nothing o = λ i. record { frames = o .frames; noise = zero-add (o .noise) i }
+  join-nothing o = λ i. output (o .frames) (zero-add (o .noise) i)
 
   -- Outputs join in any grouping.
   pub join-assoc : (a b c : Output A) → join (join a b) c ≡ join a (join b c)
   unfolding join
   join-assoc a b c =
-      λ i.
-      record {
-        frames = append-assoc (a .frames) (b .frames) (c .frames) i;
-        noise = add-assoc (a .noise) (b .noise) (c .noise) i;
-      }
+      λ i. output (append-assoc (a .frames) (b .frames) (c .frames) i) (add-assoc (a .noise) (b .noise) (c .noise) i)
+
+-- The rule over s, whose first byte stands at `place`, with `pass` bytes to pass over first: places and what is found there in one walk.
+unfoldable pub ruleFrom : Framing → ℕ → ℕ → List ℕ → Output Found
+ruleFrom f place pass [] = nothing
+ruleFrom f place zero (b ∷ s) =
+    join (outAt place (read f (b ∷ s))) (ruleFrom f (suc place) (passAfter (read f (b ∷ s))) s)
+ruleFrom f place (suc pass) (b ∷ s) = ruleFrom f (suc place) pass s
+
+module _ (f : Framing) where
+  -- The rule goes on by a byte or more, and no further than the bytes behind a place.
+  on-by : (b : ℕ) (s : List ℕ) (v : Verdict) → read f (b ∷ s) ≡ v → (onBy v ≡ suc (passAfter v)) × (passAfter v ≤ length s)
+  on-by b s cut e = (refl, zero-le)
+  on-by b s (refused judged n) e = (refl, zero-le)
+  on-by b s (frame used p) e =
+      let h = frame-sized f (b ∷ s) p used e in
+      let some : used ≡ suc (pred used) = omega (arith, h .some) in
+      let inside : pred used ≤ length s = omega (arith, h .some, h .there) in
+      (some, inside)
+
+  -- What is found at the rule's places is what the walk gives.
+  found-walk : (place pass : ℕ) (s : List ℕ) → pass ≤ length s → outFrom f (place + pass) (places f pass s) ≡ ruleFrom f place pass s
+  unfolding outFrom places ruleFrom
+  found-walk place pass [] l = refl
+  found-walk place zero (b ∷ s) l =
+      let v : Verdict = read f (b ∷ s) in
+      let h = on-by b s v refl in
+      let next : place + onBy v ≡ suc place + passAfter v = omega (arith, h .0) in
+      rw (add-zero, next) (ap (join (outAt place v)) (found-walk (suc place) (passAfter v) s (h .1)))
+  found-walk place (suc pass) (b ∷ s) l =
+      let next : place + suc pass ≡ suc place + pass = omega arith in rw next (found-walk (suc place) pass s (le-of-suc-le-suc l))
+
+  -- The rule over a segment is the walk from its first byte on.
+  pub rule-walk : (s : List ℕ) → rule f s ≡ ruleFrom f 0 0 s
+  unfolding rule
+  rule-walk s = found-walk 0 0 s zero-le
 
 -- The bytes of an output: those of its frames and its noise.
 abbrev bytesOf : Output Found → ℕ
@@ -79,11 +111,11 @@ add-up f place (suc pass) (b ∷ s) h = omega (arith, add-up f (suc place) pass 
 
 -- The bytes of a segment are those of its frames and noise.
 pub bytes-add-up : (f : Framing) → BytesAddUp f
-bytes-add-up f s = sym (add-zero (bytesOf (rule f s))) ∙ add-up f 0 0 s zero-le
+bytes-add-up f s = rw (rule-walk f s) (sym (add-zero (bytesOf (ruleFrom f 0 0 s))) ∙ add-up f 0 0 s zero-le)
 
 -- The rule gives no more frames than there are bytes.
 pub rule-few : (f : Framing) (s : List ℕ) → length (rule f s .frames) ≤ length s
-rule-few f s = omega (arith, bytes-add-up f s, count-used (rule f s .frames) (rule-used f 0 0 s))
+rule-few f s = omega (arith, bytes-add-up f s, count-used (rule f s .frames) (rw (rule-walk f s) (rule-used f 0 0 s)))
 
 module _ (f : Framing) where
   -- To pass over bytes is to begin behind them.
@@ -109,19 +141,19 @@ module _ (f : Framing) where
   -- A frame is handed out, and the rule goes on behind it.
   pub rule-frame :
       (place used : ℕ) (p s : List ℕ) → read f s ≡ frame used p →
-      ruleFrom f place 0 s ≡ join (handed (record { place = place; used = used; payload = p })) (ruleFrom f (place + used) 0 (drop used s))
+      ruleFrom f place 0 s ≡ join (handed (foundAt place used p)) (ruleFrom f (place + used) 0 (drop used s))
   unfolding ruleFrom
   rule-frame place used p [] e = absurd (not-suc-le-zero (le-trans (frame-sized f [] p used e .some) (frame-sized f [] p used e .there)))
   rule-frame place zero p (b ∷ s) e = absurd (not-suc-le-zero (frame-sized f (b ∷ s) p zero e .some))
   rule-frame place (suc used) p (b ∷ s) e =
       ap (λ (v : Verdict). join (outAt place v) (ruleFrom f (suc place) (passAfter v) s)) e
-      ∙ ap (join (handed (record { place = place; used = suc used; payload = p }))) (rule-pass (suc place) used s ∙ rw (suc-add, add-suc))
+      ∙ ap (join (handed (foundAt place (suc used) p))) (rule-pass (suc place) used s ∙ rw (suc-add, add-suc))
 
 -- Payloads of joined outputs are joined payloads.
 pub payloads-join : (a b : Output Found) → payloads (join a b) ≡ join (payloads a) (payloads b)
 unfolding join
 payloads-join a b =
-    λ i. record { frames = map-append (λ (x : Found). x .payload) (a .frames) (b .frames) i; noise = a .noise + b .noise }
+    λ i. output (map-append (λ (x : Found). x .payload) (a .frames) (b .frames) i) (a .noise + b .noise)
 
 -- The payload at a place does not depend on where the place is.
 payloads-at : (place place′ : ℕ) (v : Verdict) → payloads (outAt place v) ≡ payloads (outAt place′ v)
@@ -149,18 +181,19 @@ module _ (f : Framing) where
   -- Where no frame stands, one byte is noise.
   pub given-noise : (b : ℕ) (s : List ℕ) → NoFrame (read f (b ∷ s)) → given f (b ∷ s) ≡ join noiseByte (given f s)
   given-noise b s h =
-      ap payloads (rule-noise f 0 b s h) ∙ payloads-join noiseByte (ruleFrom f 1 0 s) ∙ ap (join noiseByte) (any-place 1 0 0 s)
+      rw (rule-walk f (b ∷ s), rule-walk f s)
+      (ap payloads (rule-noise f 0 b s h) ∙ payloads-join noiseByte (ruleFrom f 1 0 s) ∙ ap (join noiseByte) (any-place 1 0 0 s))
 
   -- A frame's payload is handed out, and the rule goes on behind it.
   pub given-frame : (used : ℕ) (p s : List ℕ) → read f s ≡ frame used p → given f s ≡ join (handed p) (given f (drop used s))
   given-frame used p s e =
-      ap payloads (rule-frame f 0 used p s e)
-      ∙ payloads-join (handed (record { place = 0; used = used; payload = p })) (ruleFrom f (0 + used) 0 (drop used s))
-      ∙ ap (join (handed p)) (any-place (0 + used) 0 0 (drop used s))
+      ap payloads (rule-walk f s ∙ rule-frame f 0 used p s e)
+      ∙ payloads-join (handed (foundAt 0 used p)) (ruleFrom f (0 + used) 0 (drop used s))
+      ∙ ap (join (handed p)) (any-place (0 + used) 0 0 (drop used s) ∙ ap payloads (sym (rule-walk f (drop used s))))
 
 -- Of no bytes the rule gives nothing.
 pub given-nil : (f : Framing) → given f [] ≡ nothing
-unfolding ruleFrom
+unfolding rule outFrom places
 given-nil f = refl
 
 -- Where what follows makes no frame of an undecided start, the rule over both is the rule over each.
@@ -173,10 +206,10 @@ module _ (f : Framing) (more : List ℕ) (breaks : (b : ℕ) (s : List ℕ) → 
   unfolding ruleFrom
   split-at place b s cut e = (rule-noise f place b (s ++ more) (breaks b s e), zero-le)
   split-at place b s (refused judged n) e =
-      (rule-noise f place b (s ++ more) (subst NoFrame (sym (read-stands f (b ∷ s) more (refused judged n) tt e)) tt), zero-le)
+      (rule-noise f place b (s ++ more) (subst NoFrame (sym (judge-stands f (b ∷ s) more (refused judged n) tt e)) tt), zero-le)
   split-at place b s (frame used p) e =
       let h = frame-sized f (b ∷ s) p used e in
-      let same : read f ((b ∷ s) ++ more) ≡ frame used p = read-stands f (b ∷ s) more (frame used p) tt e in
+      let same : read f ((b ∷ s) ++ more) ≡ frame used p = judge-stands f (b ∷ s) more (frame used p) tt e in
       let inside : pred used ≤ length s = omega (arith, h .some, h .there) in
       (ap (λ (v : Verdict). join (outAt place v) (ruleFrom f (suc place) (passAfter v) (s ++ more))) same, inside)
 

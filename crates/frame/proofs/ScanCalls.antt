@@ -9,14 +9,14 @@ use mathlib.Core.Bool.{true, false}
 use lib.ListN.{length, take, drop, length-append, length-take, length-drop, drop-of-length-le}
 use lib.Seq.{take-append-add, take-append-seam, drop-append-seam, take-take, take-all, drop-drop, drop-length}
 use Rattle.frame.specs.Checks.{Verdict, cut, refused, frame}
-use Rattle.frame.specs.Framing.{read, limit}
-use Rattle.frame.specs.Rule.{join}
-use Rattle.frame.specs.Reader.{settleAs, settle, Called, stopped, lineFrom, line, quiet}
+use Rattle.frame.specs.Framing.{judge, limit}
+use Rattle.frame.specs.Rule.{output, join}
+use Rattle.frame.specs.Reader.{holding, settleAs, settle, Called, called, stopped, lineFrom, line, quiet}
 use Rattle.frame.specs.Claims.{Sized}
 use Rattle.frame.specs.Scan.{judging, judgedBytes, Stop, found, undecided, passed, Scanned, scanAs, scanFrom}
-use Rattle.frame.specs.Scan.{calledAs, scanChunk, joined, thenChunk, scanHeld, scanLine}
+use Rattle.frame.specs.Scan.{beforeScan, calledAs, scanWhole, joined, thenChunk, scanHeld, scanLine}
+use Rattle.frame.specs.View.{part}
 use Rattle.frame.specs.declared.framing.Framing.{Framing}
-use Rattle.frame.specs.declared.reader.Before.{Before}
 use Rattle.frame.proofs.Lists.{drop-next, drop-take}
 use Rattle.frame.proofs.Framings.{undecided-short}
 use Rattle.frame.proofs.Prefixes.{refused-sized, limit-enough}
@@ -26,21 +26,21 @@ use Rattle.frame.proofs.Scanning.{step-refused, step-frame, step-undeci
 
 -- What a quiet call gives where the scan of s stopped so at a place.
 abbrev quietBy : List ℕ → Stop → ℕ → Called
-quietBy s (found used p) place = record { taken = 0; out = record { frames = p ∷ []; noise = place }; held = drop (place + used) s }
-quietBy s undecided place = record { taken = 0; out = record { frames = []; noise = place }; held = drop place s }
-quietBy s passed place = record { taken = 0; out = record { frames = []; noise = place }; held = [] }
+quietBy s (found used p) place = called 0 (output (p ∷ []) place) (drop (place + used) s)
+quietBy s undecided place = called 0 (output [] place) (drop place s)
+quietBy s passed place = called 0 (output [] place) []
 
 -- One step of settling at a place of s.
 settle-next :
-    (judge : List ℕ → Verdict) (s : List ℕ) (place : ℕ) → place < length s →
-    settle judge (drop place s) ≡ settleAs (judge (drop place s)) (drop place s) (settle judge (drop (place + 1) s))
+    (judgement : List ℕ → Verdict) (s : List ℕ) (place : ℕ) → place < length s →
+    settle judgement (drop place s) ≡ settleAs (judgement (drop place s)) (drop place s) (settle judgement (drop (place + 1) s))
 unfolding settle
-settle-next judge s place l = rw (drop-next s place l)
+settle-next judgement s place l = rw (drop-next s place l)
 
 module _ (f : Framing) (s : List ℕ) where
   -- A quiet at a place of this verdict.
   quiet-at :
-      (place reach : ℕ) (v : Verdict) → place < length s → read f (drop place s) ≡ v →
+      (place reach : ℕ) (v : Verdict) → place < length s → judge f (drop place s) ≡ v →
       ((far : ℕ) →
       let x : Scanned = scanFrom (judging true f) (length s - (place + 1)) (place + 1) far (drop (place + 1) s) in
       noisier (place + 1) (stopped (settle (judging true f) (drop (place + 1) s))) ≡ quietBy s (x .stop) (x .place)) →
@@ -64,22 +64,22 @@ module _ (f : Framing) (s : List ℕ) where
   quiet-from zero place reach d =
       rw (step-end (judging true f) (length s) place reach s (omega arith), drop-of-length-le s {i = place} (omega arith), add-zero)
   quiet-from (suc left) place reach d =
-      quiet-at place reach (read f (drop place s)) (omega arith) refl (λ far. quiet-from left (place + 1) far (omega arith))
+      quiet-at place reach (judge f (drop place s)) (omega arith) refl (λ far. quiet-from left (place + 1) far (omega arith))
 
   -- A quiet call gives what the scan of the held bytes gives.
-  quiet-scan : (x : Scanned) → x ≡ scanFrom (judging true f) (length s) 0 0 s → quiet f s ≡ quietBy s (x .stop) (x .place)
+  quiet-scan : (x : Scanned) → x ≡ scanFrom (judging true f) (length s) 0 0 s → quiet (holding f s) ≡ quietBy s (x .stop) (x .place)
   unfolding quiet
   quiet-scan x is = rw is (rw (sub-zero, zero-add) at (quiet-from (length s) 0 0 (sym (zero-add (length s)))))
 
   -- By the reason for which it stopped: at a frame, or behind the last place.
   pub scan-quiet-found :
       (x : Scanned) (used : ℕ) (p : List ℕ) → x ≡ scanFrom (judging true f) (length s) 0 0 s → x .stop ≡ found used p →
-      quiet f s ≡ record { taken = 0; out = record { frames = p ∷ []; noise = x .place }; held = drop (x .place + used) s }
+      quiet (holding f s) ≡ called 0 (output (p ∷ []) (x .place)) (drop (x .place + used) s)
   scan-quiet-found x used p is q = rw q at (quiet-scan x is)
 
   pub scan-quiet-passed :
       (x : Scanned) → x ≡ scanFrom (judging true f) (length s) 0 0 s → x .stop ≡ passed →
-      quiet f s ≡ record { taken = 0; out = record { frames = []; noise = x .place }; held = [] }
+      quiet (holding f s) ≡ called 0 (output [] (x .place)) []
   scan-quiet-passed x is q = rw q at (quiet-scan x is)
 
 -- The bytes taken up to a decision, counted from the place at which it is made, or from the first byte on.
@@ -92,14 +92,10 @@ count-far base place reach judged l b = omega arith
 abbrev callFrom : Framing → List ℕ → ℕ → ℕ → ℕ → Called
 callFrom f w base place reach = noisier place (more (reach - base) (lineAt f (drop place w) (reach - place)))
 
--- What was there before the scan of a whole call.
-abbrev atFirst : ℕ → ℕ → Before
-atFirst base size = record { base = base; noise = 0; size = size }
-
 -- The call where the scan stopped so; behind the last place it goes on.
 abbrev callAt : Framing → List ℕ → ℕ → ℕ → Stop → ℕ → ℕ → Called
-callAt f w base size (found used p) place reach = calledAs (found used p) (atFirst base size) w place reach
-callAt f w base size undecided place reach = calledAs undecided (atFirst base size) w place reach
+callAt f w base size (found used p) place reach = calledAs (found used p) (beforeScan base 0 size) w place reach
+callAt f w base size undecided place reach = calledAs undecided (beforeScan base 0 size) w place reach
 callAt f w base size passed place reach = callFrom f w base place reach
 
 -- The scan x goes on with the call at a place.
@@ -114,19 +110,19 @@ module _ (f : Framing) (w : List ℕ) (base place reach : ℕ) (l : place ≤ re
 
   -- At undecided bytes.
   call-undecided :
-      (size : ℕ) → base + size ≡ length w → read f (drop place w) ≡ cut →
-      callFrom f w base place reach ≡ calledAs undecided (atFirst base size) w place reach
+      (size : ℕ) → base + size ≡ length w → judge f (drop place w) ≡ cut →
+      callFrom f w base place reach ≡ calledAs undecided (beforeScan base 0 size) w place reach
   call-undecided size all q =
       let s : List ℕ = drop place w in
       let count : reach - base + (length s - (reach - place)) ≡ size = omega (arith, length-drop place w) in
       let noise : place + 0 ≡ 0 + place = omega arith in
       ap (λ (c : Called). noisier place (more (reach - base) c)) (line-cut f s (reach - place) held-there q)
-      ∙ (λ i. record { taken = count i; out = record { frames = []; noise = noise i }; held = s })
+      ∙ (λ i. called (count i) (output [] (noise i)) s)
 
   -- At a frame.
   call-frame :
-      (size used : ℕ) (p : List ℕ) → read f (drop place w) ≡ frame used p →
-      callFrom f w base place reach ≡ calledAs (found used p) (atFirst base size) w place (max reach (place + used))
+      (size used : ℕ) (p : List ℕ) → judge f (drop place w) ≡ frame used p →
+      callFrom f w base place reach ≡ calledAs (found used p) (beforeScan base 0 size) w place (max reach (place + used))
   call-frame size used p q =
       let s : List ℕ = drop place w in
       let m : ℕ = reach - place in
@@ -134,13 +130,13 @@ module _ (f : Framing) (w : List ℕ) (base place reach : ℕ) (l : place ≤ re
       let left : max m used - used ≡ far - (place + used) = omega arith in
       let noise : place + 0 ≡ 0 + place = omega arith in
       let count : reach - base + (max m used - m) ≡ far - base = count-far base place reach used l b in
-      let held : take (max m used - used) (drop used s) ≡ take (far - (place + used)) (drop (place + used) w) = rw (left, drop-drop) in
+      let held : take (max m used - used) (drop used s) ≡ part (place + used) far w = rw (left, drop-drop) in
       ap (λ (c : Called). noisier place (more (reach - base) c)) (line-found f s m used p held-there q)
-      ∙ (λ i. record { taken = count i; out = record { frames = p ∷ []; noise = noise i }; held = held i })
+      ∙ (λ i. called (count i) (output (p ∷ []) (noise i)) (held i))
 
   -- At a failed start.
   call-refused :
-      (judged n : ℕ) → read f (drop place w) ≡ refused judged n →
+      (judged n : ℕ) → judge f (drop place w) ≡ refused judged n →
       callFrom f w base place reach ≡ callFrom f w base (place + 1) (max reach (place + judged))
   call-refused judged n q =
       let s : List ℕ = drop place w in
@@ -158,15 +154,15 @@ module _ (f : Framing) (w : List ℕ) (base place reach : ℕ) (l : place ≤ re
       ∙ ap (more (max m judged - m)) (line-failed f s (max m judged) judged n q (le-max-right m judged) ∙ rw (left, drop-drop 1 place w))
       in
       ap (λ (c : Called). noisier place (more (reach - base) c)) first
-      ∙ (λ i. record { taken = count i; out = record { frames = c .out .frames; noise = noise i }; held = c .held })
+      ∙ (λ i. called (count i) (output (c .out .frames) (noise i)) (c .held))
 
 module _ (f : Framing) (w : List ℕ) (base size n : ℕ) (all : base + size ≡ length w) where
   -- The scan at a place of this verdict goes on with the call.
   goes-on-at :
-      (place reach : ℕ) (v : Verdict) → read f (drop place w) ≡ v → place < n → place ≤ reach → base ≤ reach → reach ≤ length w →
+      (place reach : ℕ) (v : Verdict) → judge f (drop place w) ≡ v → place < n → place ≤ reach → base ≤ reach → reach ≤ length w →
       ((far : ℕ) → place + 1 ≤ far → base ≤ far → far ≤ length w →
-      GoesOn f w base size (place + 1) far (scanFrom (read f) (n - (place + 1)) (place + 1) far (drop (place + 1) w))) →
-      GoesOn f w base size place reach (scanFrom (read f) (n - place) place reach (drop place w))
+      GoesOn f w base size (place + 1) far (scanFrom (judge f) (n - (place + 1)) (place + 1) far (drop (place + 1) w))) →
+      GoesOn f w base size place reach (scanFrom (judge f) (n - place) place reach (drop place w))
   goes-on-at place reach cut q h l b k later =
       rw (step-undecided f n place reach w h q) (record { same = call-undecided f w base place reach l b k size all q; behind = l })
   goes-on-at place reach (refused judged m) q h l b k later =
@@ -182,57 +178,65 @@ module _ (f : Framing) (w : List ℕ) (base size n : ℕ) (all : base + size ≡
   -- So does the scan from a place on.
   goes-on-from :
       (left place reach : ℕ) → n ≡ place + left → place ≤ reach → base ≤ reach → reach ≤ length w →
-      GoesOn f w base size place reach (scanFrom (read f) (n - place) place reach (drop place w))
+      GoesOn f w base size place reach (scanFrom (judge f) (n - place) place reach (drop place w))
   goes-on-from zero place reach d l b k =
-      rw (step-end (read f) n place reach w (omega arith)) (record { same = refl; behind = l })
+      rw (step-end (judge f) n place reach w (omega arith)) (record { same = refl; behind = l })
   goes-on-from (suc left) place reach d l b k =
-      goes-on-at place reach (read f (drop place w)) refl (omega arith) l b k
+      goes-on-at place reach (judge f (drop place w)) refl (omega arith) l b k
       (λ far l b k. goes-on-from left (place + 1) far (omega arith) l b k)
 
   -- So does the whole scan.
-  goes-on : (reach : ℕ) → base ≤ reach → reach ≤ length w → GoesOn f w base size 0 reach (scanFrom (read f) n 0 reach w)
+  goes-on : (reach : ℕ) → base ≤ reach → reach ≤ length w → GoesOn f w base size 0 reach (scanFrom (judge f) n 0 reach w)
   goes-on reach b k = rw sub-zero at (goes-on-from n 0 reach (sym (zero-add n)) zero-le b k)
 
--- Behind the last byte of a chunk nothing is left.
+-- Behind the last byte of w nothing is left.
 call-over :
-    (f : Framing) (chunk : List ℕ) (place reach : ℕ) → place ≡ length chunk → reach ≡ length chunk →
-    callFrom f chunk 0 place reach ≡ record { taken = length chunk; out = record { frames = []; noise = place }; held = [] }
+    (f : Framing) (w : List ℕ) (base place reach : ℕ) → place ≡ length w → reach ≡ length w →
+    callFrom f w base place reach ≡ called (length w - base) (output [] place) []
 unfolding line lineFrom settle
-call-over f chunk place reach a b = rw (a, b, drop-length, sub-self, sub-zero, add-zero)
+call-over f w base place reach a b = rw (a, b, drop-length, sub-self, add-zero, add-zero)
 
--- The line call over a chunk of which the first bytes are held, behind other noise, is what the scan of the chunk gives.
-chunk-line :
-    (f : Framing) (noise reach : ℕ) (chunk : List ℕ) → reach ≤ length chunk →
-    scanChunk f noise reach chunk ≡ noisier noise (more reach (lineAt f chunk reach))
-chunk-line f noise reach chunk l = by-stop (x .stop) refl ∙ ap (noisier noise) (sym (rest .same) ∙ rw (sub-zero, zero-add))
+-- The line call over all of w, of which the first bytes are taken, behind other noise, is what the scan of w gives.
+whole-line :
+    (f : Framing) (base noise reach : ℕ) (w : List ℕ) → base ≤ reach → reach ≤ length w →
+    scanWhole f base noise reach w ≡ noisier noise (more (reach - base) (lineAt f w reach))
+whole-line f base noise reach w b l = by-stop (x .stop) refl ∙ ap (noisier noise) (sym (rest .same) ∙ rw (sub-zero, zero-add))
   where
     x : Scanned
-    x = scanFrom (read f) (length chunk) 0 reach chunk
+    x = scanFrom (judge f) (length w) 0 reach w
 
-    rest : GoesOn f chunk 0 (length chunk) 0 reach x
-    rest = goes-on f chunk 0 (length chunk) (length chunk) (zero-add (length chunk)) reach zero-le l
+    rest : GoesOn f w base (length w - base) 0 reach x
+    rest = goes-on f w base (length w - base) (length w) (omega arith) reach b l
 
     by-stop :
         (v : Stop) → x .stop ≡ v →
-        calledAs v (record { base = 0; noise = noise; size = length chunk }) chunk (x .place) (x .reach)
-        ≡ noisier noise (callAt f chunk 0 (length chunk) v (x .place) (x .reach))
+        calledAs v (beforeScan base noise (length w - base)) w (x .place) (x .reach)
+        ≡ noisier noise (callAt f w base (length w - base) v (x .place) (x .reach))
     by-stop (found used p) q = rw zero-add
     by-stop undecided q = rw zero-add
     by-stop passed q =
-        let size = scan-facts false f chunk (length chunk) reach (le-refl (length chunk)) l x refl in
-        let last : x .place ≡ length chunk = scan-passed false f chunk (length chunk) reach (le-refl (length chunk)) l x refl q in
-        ap (noisier noise) (sym (call-over f chunk (x .place) (x .reach) last (omega (arith, size .there, rest .behind))))
+        let size = scan-facts false f w (length w) reach (le-refl (length w)) l x refl in
+        let last : x .place ≡ length w = scan-passed false f w (length w) reach (le-refl (length w)) l x refl q in
+        ap (noisier noise) (sym (call-over f w base (x .place) (x .reach) last (omega (arith, size .there, rest .behind))))
+
+-- So it is where the first bytes of w are held and the others are the chunk.
+pub scan-whole : (f : Framing) (count : ℕ) (w : List ℕ) → count ≤ length w → scanWhole f count 0 count w ≡ lineAt f w count
+scan-whole f count w l = whole-line f count 0 count w (le-refl count) l ∙ rw (sub-self, zero-add, zero-add)
+
+-- And where nothing is held.
+pub scan-chunk : (f : Framing) (chunk : List ℕ) → scanWhole f 0 0 0 chunk ≡ line (holding f []) chunk
+scan-chunk f chunk = scan-whole f 0 chunk zero-le
 
 -- The front of a list that holds the longest frame at each of n places is scanned as the whole list is.
 scan-front :
     (f : Framing) (n place reach k : ℕ) (s : List ℕ) → n + limit f ≤ k →
-    scanFrom (read f) n place reach (take k s) ≡ scanFrom (read f) n place reach s
+    scanFrom (judge f) n place reach (take k s) ≡ scanFrom (judge f) n place reach s
 unfolding scanFrom
 scan-front f zero place reach k s l = refl
 scan-front f (suc n) place reach k s l =
-    let far : ℕ = max reach (place + judgedBytes (read f s)) in
+    let far : ℕ = max reach (place + judgedBytes (judge f s)) in
     rw (limit-enough f s k (omega arith), drop-take 1 k s)
-    (ap (scanAs (read f s) place reach) (scan-front f n (suc place) far (k - 1) (drop 1 s) (omega arith)))
+    (ap (scanAs (judge f s) place reach) (scan-front f n (suc place) far (k - 1) (drop 1 s) (omega arith)))
 
 module _ (f : Framing) (held chunk : List ℕ) where
   -- The joined bytes are the front of all bytes.
@@ -243,7 +247,7 @@ module _ (f : Framing) (held chunk : List ℕ) where
   joined-size = rw (length-append, length-take)
 
   -- The scan of the places among the held bytes is the same over all bytes.
-  held-scan : scanHeld f held chunk ≡ scanFrom (read f) (length held) 0 (length held) (held ++ chunk)
+  held-scan : scanHeld f held chunk ≡ scanFrom (judge f) (length held) 0 (length held) (held ++ chunk)
   held-scan = rw joined-front (scan-front f (length held) 0 (length held) (length held + limit f) (held ++ chunk) (le-refl _))
 
   -- Where it stopped, the call is the same over all bytes.
@@ -254,11 +258,11 @@ module _ (f : Framing) (held chunk : List ℕ) where
       let w : List ℕ = held ++ chunk in
       let next : ℕ = x .place + used in
       let size = joined-size in
-      let part : take (x .reach - next) (drop next (joined f held chunk)) ≡ take (x .reach - next) (drop next w) =
+      let same : part next (x .reach) (joined f held chunk) ≡ part next (x .reach) w =
       rw (joined-front, drop-take)
       (take-take (x .reach - next) (length held + limit f - next) (drop next w) (omega (arith, facts .there)))
       in
-      λ i. record { taken = x .reach - length held; out = record { frames = p ∷ []; noise = 0 + x .place }; held = part i }
+      λ i. called (x .reach - length held) (output (p ∷ []) (0 + x .place)) (same i)
   held-stop x undecided facts q =
       let at : AtUndecided false f (joined f held chunk) (length held) (x .place) = rw q at (facts .ends) in
       let short = undecided-short f (drop (x .place) (joined f held chunk)) (at .is-cut) in
@@ -269,10 +273,11 @@ module _ (f : Framing) (held chunk : List ℕ) where
   held-stop x passed facts q =
       let last : x .place ≡ length held = rw q at (facts .ends) in
       let size = joined-size in
-      rw (last, drop-append-seam) (chunk-line f (length held) (x .reach - length held) chunk (omega (arith, facts .there)))
+      rw (last, drop-append-seam)
+      (whole-line f 0 (length held) (x .reach - length held) chunk zero-le (omega (arith, facts .there)) ∙ rw sub-zero)
 
   -- What the line call gives is what the scan gives.
-  pub scan-line : scanLine f held chunk ≡ line f held chunk
+  pub scan-line : scanLine f held chunk ≡ line (holding f held) chunk
   unfolding scanLine
   scan-line =
       let w : List ℕ = held ++ chunk in

@@ -10,30 +10,30 @@ use mathlib.Core.Bool.{Bool, true, false}
 use lib.ListN.{length, drop, length-drop}
 use lib.Seq.{drop-drop}
 use Rattle.frame.specs.Checks.{Verdict, cut, refused, frame}
-use Rattle.frame.specs.Framing.{read, limit}
+use Rattle.frame.specs.Framing.{judge, limit}
 use Rattle.frame.specs.Reader.{ended}
 use Rattle.frame.specs.Claims.{Sized}
-use Rattle.frame.specs.Scan.{judging, judgedBytes, Stop, found, undecided, passed, Scanned, scanAs, scanFrom}
+use Rattle.frame.specs.Scan.{judging, judgedBytes, Stop, found, undecided, passed, Scanned, scannedTo, scanAs, scanFrom}
 use Rattle.frame.specs.declared.framing.Framing.{Framing}
 use Rattle.frame.proofs.Framings.{frame-sized}
 use Rattle.frame.proofs.Prefixes.{refused-sized}
 
 -- What is decided is judged so whether the segment ends or not.
-judging-refused : (e : Bool) (f : Framing) (s : List ℕ) (judged n : ℕ) → read f s ≡ refused judged n → judging e f s ≡ refused judged n
+judging-refused : (e : Bool) (f : Framing) (s : List ℕ) (judged n : ℕ) → judge f s ≡ refused judged n → judging e f s ≡ refused judged n
 judging-refused true f s judged n q = ap ended q
 judging-refused false f s judged n q = q
 
-judging-frame : (e : Bool) (f : Framing) (s p : List ℕ) (used : ℕ) → read f s ≡ frame used p → judging e f s ≡ frame used p
+judging-frame : (e : Bool) (f : Framing) (s p : List ℕ) (used : ℕ) → judge f s ≡ frame used p → judging e f s ≡ frame used p
 judging-frame true f s p used q = ap ended q
 judging-frame false f s p used q = q
 
-module _ (judge : List ℕ → Verdict) (stop place far : ℕ) (s : List ℕ) where
+module _ (judgement : List ℕ → Verdict) (stop place far : ℕ) (s : List ℕ) where
   -- The scan of the places from one on.
   scan-at :
       place < stop →
-      scanFrom judge (stop - place) place far (drop place s)
-      ≡ scanAs (judge (drop place s)) place far
-      (scanFrom judge (stop - (place + 1)) (place + 1) (max far (place + judgedBytes (judge (drop place s)))) (drop (place + 1) s))
+      scanFrom judgement (stop - place) place far (drop place s)
+      ≡ scanAs (judgement (drop place s)) place far
+      (scanFrom judgement (stop - (place + 1)) (place + 1) (max far (place + judgedBytes (judgement (drop place s)))) (drop (place + 1) s))
   unfolding scanFrom
   scan-at l =
       let left : stop - place ≡ suc (stop - (place + 1)) = omega arith in
@@ -41,14 +41,14 @@ module _ (judge : List ℕ → Verdict) (stop place far : ℕ) (s : List ℕ) wh
 
   -- Behind the last place.
   pub step-end :
-      stop ≤ place → scanFrom judge (stop - place) place far (drop place s) ≡ record { place = place; reach = far; stop = passed }
+      stop ≤ place → scanFrom judgement (stop - place) place far (drop place s) ≡ scannedTo place far passed
   unfolding scanFrom
   step-end l = let left : stop - place ≡ 0 = omega arith in rw left
 
 module _ (e : Bool) (f : Framing) (stop place far : ℕ) (s : List ℕ) (l : place < stop) where
   -- The scan goes on behind a place that fails.
   pub step-refused :
-      (judged n : ℕ) → read f (drop place s) ≡ refused judged n →
+      (judged n : ℕ) → judge f (drop place s) ≡ refused judged n →
       scanFrom (judging e f) (stop - place) place far (drop place s)
       ≡ scanFrom (judging e f) (stop - (place + 1)) (place + 1) (max far (place + judged)) (drop (place + 1) s)
   step-refused judged n q =
@@ -56,16 +56,16 @@ module _ (e : Bool) (f : Framing) (stop place far : ℕ) (s : List ℕ) (l : pla
 
   -- It stops at a frame.
   pub step-frame :
-      (used : ℕ) (p : List ℕ) → read f (drop place s) ≡ frame used p →
+      (used : ℕ) (p : List ℕ) → judge f (drop place s) ≡ frame used p →
       scanFrom (judging e f) (stop - place) place far (drop place s)
-      ≡ record { place = place; reach = max far (place + used); stop = found used p }
+      ≡ scannedTo place (max far (place + used)) (found used p)
   step-frame used p q = scan-at (judging e f) stop place far s l ∙ rw (judging-frame e f (drop place s) p used q)
 
-module _ (f : Framing) (stop place far : ℕ) (s : List ℕ) (l : place < stop) (q : read f (drop place s) ≡ cut) where
+module _ (f : Framing) (stop place far : ℕ) (s : List ℕ) (l : place < stop) (q : judge f (drop place s) ≡ cut) where
   -- It stops at undecided bytes where the segment goes on.
   pub step-undecided :
-      scanFrom (judging false f) (stop - place) place far (drop place s) ≡ record { place = place; reach = far; stop = undecided }
-  step-undecided = scan-at (read f) stop place far s l ∙ rw q
+      scanFrom (judging false f) (stop - place) place far (drop place s) ≡ scannedTo place far undecided
+  step-undecided = scan-at (judge f) stop place far s l ∙ rw q
 
   -- Where the segment has ended, they fail.
   pub step-ended :
@@ -75,14 +75,14 @@ module _ (f : Framing) (stop place far : ℕ) (s : List ℕ) (l : place < stop) 
 
 -- A scan of s over n places stopped at `place`, having judged bytes up to `reach`: at a frame.
 pub record AtFrame (f : Framing) (s : List ℕ) (n place reach used : ℕ) (p : List ℕ) : Type 0 where
-  pub is-frame : read f (drop place s) ≡ frame used p
+  pub is-frame : judge f (drop place s) ≡ frame used p
   pub inside : place + used ≤ reach
   pub before : place < n
 
 -- At undecided bytes, where the segment goes on.
 pub record AtUndecided (e : Bool) (f : Framing) (s : List ℕ) (n place : ℕ) : Type 0 where
   pub goes-on : e ≡ false
-  pub is-cut : read f (drop place s) ≡ cut
+  pub is-cut : judge f (drop place s) ≡ cut
   pub before : place < n
 
 -- By the reason for which it stopped.
@@ -126,7 +126,7 @@ module _ (f : Framing) (s : List ℕ) (n : ℕ) (l : n ≤ length s) where
 
   -- The facts at a place of this verdict.
   facts-at :
-      (e : Bool) (place reach : ℕ) (v : Verdict) → read f (drop place s) ≡ v → place < n → reach ≤ length s →
+      (e : Bool) (place reach : ℕ) (v : Verdict) → judge f (drop place s) ≡ v → place < n → reach ≤ length s →
       ((far : ℕ) → far ≤ length s →
       FactsFrom e f s n (place + 1) far (scanFrom (judging e f) (n - (place + 1)) (place + 1) far (drop (place + 1) s))) →
       FactsFrom e f s n place reach (scanFrom (judging e f) (n - place) place reach (drop place s))
@@ -167,7 +167,7 @@ module _ (f : Framing) (s : List ℕ) (n : ℕ) (l : n ≤ length s) where
       rw (step-end (judging e f) n place reach s (omega arith))
       (record { facts = record { far = le-refl reach; there = k; near = omega arith; ends = omega arith }; onward = le-refl place })
   facts-from e (suc left) place reach d k =
-      facts-at e place reach (read f (drop place s)) refl (omega arith) k (λ far m. facts-from e left (place + 1) far (omega arith) m)
+      facts-at e place reach (judge f (drop place s)) refl (omega arith) k (λ far m. facts-from e left (place + 1) far (omega arith) m)
 
 module _ (e : Bool) (f : Framing) (s : List ℕ) (n reach : ℕ) (l : n ≤ length s) (k : reach ≤ length s) (x : Scanned)
     (is : x ≡ scanFrom (judging e f) n 0 reach s) where
@@ -184,3 +184,11 @@ module _ (e : Bool) (f : Framing) (s : List ℕ) (n reach : ℕ) (l : n ≤ leng
 
   pub scan-passed : x .stop ≡ passed → x .place ≡ n
   scan-passed q = rw q at (scan-facts .ends)
+
+-- A scan from a later place on stopped at a frame.
+pub scan-found-from :
+    (e : Bool) (f : Framing) (s : List ℕ) (n from reach : ℕ) → n ≤ length s → reach ≤ length s → from ≤ n → (x : Scanned) →
+    x ≡ scanFrom (judging e f) (n - from) from reach (drop from s) → (used : ℕ) (p : List ℕ) → x .stop ≡ found used p →
+    AtFrame f s n (x .place) (x .reach) used p
+scan-found-from e f s n from reach l k m x is used p q =
+    let facts : ScanFacts e f s n reach x = rw is (facts-from f s n l e (n - from) from reach (omega arith) k .facts) in rw q at (facts .ends)

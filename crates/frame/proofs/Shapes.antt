@@ -7,10 +7,11 @@ use mathlib.Core.Bool.{Bool, true, false, cond}
 use lib.Dec.{eqb}
 use lib.ListN.{length}
 use Rattle.frame.specs.Checks.{Checks, next, fails, whole, byte, test, Verdict, cut, refused, frame, behind, run}
-use Rattle.frame.specs.Binary.{binary}
-use Rattle.frame.specs.Ascii.{ascii, digits, isDigit, digitValue, digitCount, afterDigits, lineEnd, pairs, sum, colon, carriageReturn}
-use Rattle.frame.specs.Ascii.{lineFeed}
-use Rattle.frame.specs.Framing.{checks, read}
+use Rattle.frame.specs.Binary.{binary, footer}
+use Rattle.frame.specs.Digit.{isDigit, digitValue}
+use Rattle.frame.specs.Hex.{pairs, sum}
+use Rattle.frame.specs.Ascii.{colon, carriageReturn, lineFeed, digits, digitCount, afterDigits, ascii, lineEnd, crLf}
+use Rattle.frame.specs.Framing.{checks, judge}
 use Rattle.frame.specs.Claims.{Decided}
 use Rattle.frame.specs.declared.framing.Framing.{Framing}
 use Rattle.frame.specs.declared.framing.Framing.the-variants.{Binary, Ascii}
@@ -23,8 +24,8 @@ NoFrame (refused judged n) = Unit {0}
 NoFrame (frame used p) = ⊥
 
 -- A decision stands when more bytes follow.
-pub read-stands : (f : Framing) (s more : List ℕ) (v : Verdict) → Decided v → read f s ≡ v → read f (s ++ more) ≡ v
-read-stands f s more v d e = stands (checks f) s more (subst Decided (sym e) d) ∙ e
+pub judge-stands : (f : Framing) (s more : List ℕ) (v : Verdict) → Decided v → judge f s ≡ v → judge f (s ++ more) ≡ v
+judge-stands f s more v d e = stands (checks f) s more (subst Decided (sym e) d) ∙ e
 
 -- What holds of a tree whichever way a test goes.
 by-cond : (P : Checks → Type 0) (q : Bool) (t u : Checks) → (q ≡ true → P t) → P u → P (cond q t u)
@@ -86,14 +87,18 @@ bars-test : (c : ℕ) (q : Bool) (n : ℕ) (t : Checks) → Bars c t → Bars c 
 unfolding test
 bars-test c q n t h = by-cond (Bars c) q t (fails n) (λ _. h) tt
 
--- A colon is neither a digit nor part of a frame's ending.
-bars-ending : (ds : List ℕ) (c : ℕ) → Bars colon (afterDigits ds c)
-unfolding afterDigits lineEnd byte
+-- A colon does not end the checks behind the digits.
+bars-after : (ds : List ℕ) (rest : List ℕ → Checks) → ((p : List ℕ) → Bars colon (rest p)) → Bars colon (afterDigits ds rest)
+unfolding afterDigits
+bars-after ds rest h =
+    bars-test colon (digitCount (length ds)) 3 _ (bars-test colon (eqb (sum (pairs ds) % 256) 0) 4 _ (h (dropLast (pairs ds))))
+
+-- It is no part of the ending CR LF.
+bars-ending : (ds : List ℕ) (c : ℕ) → Bars colon (crLf ds c)
+unfolding crLf lineEnd byte
 bars-ending ds c =
-    let p : List ℕ = dropLast (pairs ds) in
-    bars-test colon (eqb c carriageReturn) 6 _ (bars-test colon (digitCount (length ds)) 3 _
-    (bars-test colon (eqb (sum (pairs ds) % 256) 0) 4 _
-    (tt, λ b. by-cond (Bars colon) (eqb b lineFeed) (whole p) (fails 5) (λ _. tt) tt)))
+    bars-test colon (eqb c carriageReturn) 6 _
+    (bars-after ds lineEnd (λ p. (tt, λ b. by-cond (Bars colon) (eqb b lineFeed) (whole p) (fails 5) (λ _. tt) tt)))
 
 -- Digits before it do not change that.
 bars-digits :
@@ -106,28 +111,43 @@ bars-digits (suc room) t h k =
     λ b. bars-digits room (λ ds e. t (digitValue b ∷ ds) e) (λ ds. h (digitValue b ∷ ds)) (λ ds e. k (digitValue b ∷ ds) e) in
     (h [], λ b. by-cond (Bars colon) (isDigit b) (digits room (λ ds e. t (digitValue b ∷ ds) e)) (t [] b) (λ _. more b) (k [] b))
 
--- Behind an ASCII frame's first colon the checks fail at any other.
-pub bars-line : Bars colon (digits 514 afterDigits)
-unfolding afterDigits test
-bars-line = bars-digits 514 afterDigits (λ ds. tt) bars-ending
+-- Whatever the ending of an ASCII frame.
+module _ (end : List ℕ → ℕ → Checks) where
+  -- Where the checks behind the first colon fail at any other, no undecided start goes on over a colon.
+  ascii-stops : Bars colon (digits 514 end) → (b : ℕ) (s more : List ℕ) → run (ascii end) (b ∷ s) ≡ cut
+      → IsRefused (run (ascii end) ((b ∷ s) ++ (colon ∷ more)))
+  unfolding ascii byte
+  ascii-stops bars b s more e =
+      let t : Checks = cond (eqb b colon) (digits 514 end) (fails 1) in
+      let h : Bars colon t = by-cond (Bars colon) (eqb b colon) (digits 514 end) (fails 1) (λ _. bars) tt in
+      refused-behind 1 (run t (s ++ (colon ∷ more))) (bars-stop colon t s more h (cut-behind 1 (run t s) e))
 
--- No undecided start of an ASCII frame goes on over a colon.
-pub colon-stops : (b : ℕ) (s more : List ℕ) → read Ascii (b ∷ s) ≡ cut → IsRefused (read Ascii ((b ∷ s) ++ (colon ∷ more)))
-unfolding ascii byte
-colon-stops b s more e =
-    let t : Checks = cond (eqb b colon) (digits 514 afterDigits) (fails 1) in
-    let h : Bars colon t = by-cond (Bars colon) (eqb b colon) (digits 514 afterDigits) (fails 1) (λ _. bars-line) tt in
-    refused-behind 1 (run t (s ++ (colon ∷ more))) (bars-stop colon t s more h (cut-behind 1 (run t s) e))
+  -- It begins with a colon.
+  ascii-first : (s p : List ℕ) (used : ℕ) → run (ascii end) s ≡ frame used p → (rest : List ℕ) × (s ≡ colon ∷ rest)
+  unfolding ascii
+  ascii-first s p used e = let h = took-byte colon 1 _ s p used e in (h .rest, h .split)
 
--- An ASCII frame begins with a colon.
-pub colon-first : (s p : List ℕ) (used : ℕ) → read Ascii s ≡ frame used p → (rest : List ℕ) × (s ≡ colon ∷ rest)
-unfolding ascii
-colon-first s p used e = let h = took-byte colon 1 _ s p used e in (h .rest, h .split)
-
--- A binary frame begins with A5 5A.
-pub pair-first : (s p : List ℕ) (used : ℕ) → read Binary s ≡ frame used p → (rest : List ℕ) × (s ≡ 0xA5 ∷ 0x5A ∷ rest)
+-- A binary frame begins with A5 5A, whatever its ending.
+binary-first : (end : List ℕ → Checks) (s p : List ℕ) (used : ℕ) → run (binary end) s ≡ frame used p
+    → (rest : List ℕ) × (s ≡ 0xA5 ∷ 0x5A ∷ rest)
 unfolding binary
-pair-first s p used e =
+binary-first end s p used e =
     let h = took-byte 0xA5 1 _ s p used e in
     let k = took-byte 0x5A 1 _ (h .rest) p (h .left) (h .goes) in
     (k .rest, h .split ∙ ap (λ (l : List ℕ). 0xA5 ∷ l) (k .split))
+
+-- Behind an ASCII frame's first colon the checks fail at any other.
+pub bars-line : Bars colon (digits 514 crLf)
+unfolding crLf test
+bars-line = bars-digits 514 crLf (λ ds. tt) bars-ending
+
+-- No undecided start of an ASCII frame goes on over a colon.
+pub colon-stops : (b : ℕ) (s more : List ℕ) → judge Ascii (b ∷ s) ≡ cut → IsRefused (judge Ascii ((b ∷ s) ++ (colon ∷ more)))
+colon-stops = ascii-stops crLf bars-line
+
+-- What each framing begins with.
+pub colon-first : (s p : List ℕ) (used : ℕ) → judge Ascii s ≡ frame used p → (rest : List ℕ) × (s ≡ colon ∷ rest)
+colon-first = ascii-first crLf
+
+pub pair-first : (s p : List ℕ) (used : ℕ) → judge Binary s ≡ frame used p → (rest : List ℕ) × (s ≡ 0xA5 ∷ 0x5A ∷ rest)
+pair-first = binary-first footer

@@ -13,7 +13,8 @@ use lib.ListN.{length, getD, take, drop}
 use lib.Seq.{take-add, take-take, drop-drop}
 use Rattle.frame.specs.Checks.{Checks, next, fails, whole, test, Verdict, cut, refused, frame, behind, run}
 use Rattle.frame.specs.Binary.{binary}
-use Rattle.frame.specs.Ascii.{ascii, colon, isDigit, digitValue, digits, afterDigits}
+use Rattle.frame.specs.Digit.{isDigit, digitValue}
+use Rattle.frame.specs.Ascii.{ascii, colon, digits, crLf}
 use Rattle.frame.specs.Framing.{read}
 use Rattle.frame.specs.Judged.{every}
 use Rattle.frame.specs.Scan.{judging, scanFrom, startOf, doubledNumber, other, passedBy, Skips}
@@ -69,7 +70,7 @@ module _ (b : ℕ) (s : List ℕ) (from stop : ℕ) where
 pub start-fails : (f : Framing) (s : List ℕ) (place : ℕ) → place < length s → (getD s place 0 ≡ startOf f → ⊥) → read f (drop place s) ≡ refused 1 1
 unfolding binary ascii
 start-fails Binary s place l e = fail-byte 0xA5 1 _ s place l e
-start-fails Ascii s place l e = fail-byte colon 1 (digits 514 afterDigits) s place l e
+start-fails Ascii s place l e = fail-byte colon 1 (digits 514 crLf) s place l e
 
 -- What is refused behind one byte is refused with one byte judged fewer.
 refused-left : (v : Verdict) (judged n : ℕ) → behind 1 v ≡ refused judged n → (left : ℕ) × (judged ≡ 1 + left) × (v ≡ refused left n)
@@ -122,10 +123,10 @@ colon-fails :
 unfolding ascii
 colon-fails s place judged n l is q =
     let rest : List ℕ = drop (suc place) s in
-    let line : Checks = digits 514 afterDigits in
+    let line : Checks = digits 514 crLf in
     let v = refused-left (run line rest) judged n (sym (pass-byte colon 1 line s place l is) ∙ q) in
     let size : judged - 2 ≡ v .0 - 1 = omega (arith, v .1) in (
-      omega (arith, v .1, digits-judged 514 afterDigits rest (v .0) n (v .2)),
+      omega (arith, v .1, digits-judged 514 crLf rest (v .0) n (v .2)),
       rw (size, add-one) (barred colon line rest (v .0) n bars-line (v .2)),
     )
 
@@ -154,15 +155,15 @@ fails-over Ascii s stop place judged n m l is q =
 pub doubled-fails :
     (f : Framing) (s : List ℕ) (place : ℕ) → place + 1 < length s → getD s place 0 ≡ startOf f → getD s (place + 1) 0 ≡ startOf f →
     read f (drop place s) ≡ refused 2 (doubledNumber f)
-unfolding binary ascii digits afterDigits isDigit test
+unfolding binary ascii digits crLf isDigit test
 doubled-fails Binary s place l e d =
     let second : getD s (suc place) 0 ≡ 0xA5 = ap (λ (k : ℕ). getD s k 0) (sym (add-one place)) ∙ d in
     pass-byte 0xA5 1 _ s place (omega arith) e
     ∙ ap (behind 1) (fail-byte 0x5A 1 _ s (suc place) (omega arith) (λ z. let no : _≡_ {A = ℕ} 0xA5 0x5A = sym second ∙ z in omega arith))
 doubled-fails Ascii s place l e d =
     let second : getD s (suc place) 0 ≡ colon = ap (λ (k : ℕ). getD s k 0) (sym (add-one place)) ∙ d in
-    pass-byte colon 1 (digits 514 afterDigits) s place (omega arith) e
-    ∙ ap (λ (r : List ℕ). behind 1 (run (digits 514 afterDigits) r))
+    pass-byte colon 1 (digits 514 crLf) s place (omega arith) e
+    ∙ ap (λ (r : List ℕ). behind 1 (run (digits 514 crLf) r))
     (drop-next s (suc place) (omega arith) ∙ ap (λ (c : ℕ). c ∷ drop (suc place + 1) s) second)
 
 module _ (e : Bool) (f : Framing) (s : List ℕ) (stop : ℕ) (m : stop ≤ length s) where

@@ -7,39 +7,39 @@ use lib.ListN.{length}
 use lib.Seq.{drop-append-seam}
 use Rattle.frame.specs.Checks.{frame}
 use Rattle.frame.specs.Framing.{read}
-use Rattle.frame.specs.Rule.{handed, join, ruleFrom}
+use Rattle.frame.specs.Rule.{output, handed, join, foundAt}
 use Rattle.frame.specs.Recovery.{Good, Stretch, none, another, concat, payloadIn, foundsFrom, CleanLine}
 use Rattle.frame.specs.declared.framing.Framing.{Framing}
-use Rattle.frame.proofs.Shapes.{read-stands}
-use Rattle.frame.proofs.Rules.{rule-frame}
+use Rattle.frame.proofs.Shapes.{judge-stands}
+use Rattle.frame.proofs.Rules.{ruleFrom, rule-walk, rule-frame}
 
 module _ (f : Framing) where
   -- A good frame is read whatever follows.
   pub good-reads : {g : List ℕ} (good : Good f g) (more : List ℕ) → read f (g ++ more) ≡ frame (length g) (good .payload)
-  good-reads {g} good more = read-stands f g more (frame (length g) (good .payload)) tt (good .reads)
+  good-reads {g} good more = judge-stands f g more (frame (length g) (good .payload)) tt (good .reads)
 
   -- The rule over a good frame and what follows it.
   pub rule-good :
       {g : List ℕ} (place : ℕ) (more : List ℕ) → Good f g →
       ruleFrom f place 0 (g ++ more)
-      ≡ join (handed (record { place = place; used = length g; payload = payloadIn (read f g) })) (ruleFrom f (place + length g) 0 more)
+      ≡ join (handed (foundAt place (length g) (payloadIn (read f g)))) (ruleFrom f (place + length g) 0 more)
   rule-good {g} place more good =
       rule-frame f place (length g) (good .payload) (g ++ more) (good-reads good more)
       ∙ ap₂
-      (λ (p s : List ℕ). join (handed (record { place = place; used = length g; payload = p })) (ruleFrom f (place + length g) 0 s))
+      (λ (p s : List ℕ). join (handed (foundAt place (length g) p)) (ruleFrom f (place + length g) 0 s))
       (ap payloadIn (sym (good .reads)))
       (drop-append-seam g more)
 
   -- The rule over a stretch: every good frame, in order, and no noise.
   pub rule-stretch :
       {gs : List (List ℕ)} (place : ℕ) → Stretch f gs →
-      ruleFrom f place 0 (concat gs) ≡ record { frames = foundsFrom f place gs; noise = 0 }
+      ruleFrom f place 0 (concat gs) ≡ output (foundsFrom f place gs) 0
   unfolding ruleFrom join
   rule-stretch place none = refl
   rule-stretch place (another {g} {gs} good st) =
       rule-good place (concat gs) good
-      ∙ ap (join (handed (record { place = place; used = length g; payload = payloadIn (read f g) }))) (rule-stretch (place + length g) st)
+      ∙ ap (join (handed (foundAt place (length g) (payloadIn (read f g))))) (rule-stretch (place + length g) st)
 
   -- With no damage: every good frame, in order, and no noise.
   pub clean-line : CleanLine f
-  clean-line gs st = rule-stretch 0 st
+  clean-line gs st = rule-walk f (concat gs) ∙ rule-stretch 0 st

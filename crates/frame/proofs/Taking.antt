@@ -9,9 +9,9 @@ use mathlib.Core.List.{List, [], _∷_, _++_}
 use lib.ListN.{length, getD, take, drop, length-append}
 use lib.Seq.{drop-cons, drop-length, take-suc, take-length, take-append-seam, drop-append-seam}
 use Rattle.frame.specs.Checks.{Verdict, cut, refused, frame}
-use Rattle.frame.specs.Framing.{checks, read}
-use Rattle.frame.specs.Rule.{nothing, noiseByte, handed, join}
-use Rattle.frame.specs.Reader.{Settled, settleAs, settle, Called, stopped, oneMore, ifFrame, lineFrom, line}
+use Rattle.frame.specs.Framing.{checks, judge}
+use Rattle.frame.specs.Rule.{output, nothing, noiseByte, handed, join}
+use Rattle.frame.specs.Reader.{holding, Settled, settled, settleAs, settle, Called, called, stopped, oneMore, ifFrame, lineFrom, line}
 use Rattle.frame.specs.Recovery.{HeldIsHeard}
 use Rattle.frame.specs.Scan.{judgedBytes}
 use Rattle.frame.specs.declared.framing.Framing.{Framing}
@@ -22,16 +22,16 @@ use Rattle.frame.proofs.Prefixes.{enough, too-few, front-undecided, jud
 
 -- A call that took d bytes more.
 abbrev pub more : ℕ → Called → Called
-more d c = record { taken = d + c .taken; out = c .out; held = c .held }
+more d c = called (d + c .taken) (c .out) (c .held)
 
 -- A call with k bytes of noise more.
 abbrev pub noisier : ℕ → Called → Called
-noisier k c = record { taken = c .taken; out = record { frames = c .out .frames; noise = k + c .out .noise }; held = c .held }
+noisier k c = called (c .taken) (output (c .out .frames) (k + c .out .noise)) (c .held)
 
 -- Noise that came out before a byte was taken does not change the call.
 noise-more :
     (st : Settled) (c : Called) (fs : List (List ℕ)) →
-    let st′ : Settled = record { out = join noiseByte (st .out); rest = st .rest } in
+    let st′ : Settled = settled (join noiseByte (st .out)) (st .rest) in
     ifFrame fs (stopped st′) (oneMore (st′ .out) c) ≡ noisier 1 (ifFrame fs (stopped st) (oneMore (st .out) c))
 unfolding join
 noise-more st c [] = rw add-assoc
@@ -39,28 +39,28 @@ noise-more st c (p ∷ ps) = refl
 
 module _ (f : Framing) where
   -- Undecided bytes stay as they are.
-  settle-cut : (h : List ℕ) → read f h ≡ cut → settle (read f) h ≡ record { out = nothing; rest = h }
+  settle-cut : (h : List ℕ) → judge f h ≡ cut → settle (judge f) h ≡ settled nothing h
   unfolding settle
   settle-cut [] q = refl
   settle-cut (b ∷ h) q = rw q
 
   -- A frame is handed out.
-  settle-frame : (h p : List ℕ) (used : ℕ) → read f h ≡ frame used p → settle (read f) h ≡ record { out = handed p; rest = drop used h }
+  settle-frame : (h p : List ℕ) (used : ℕ) → judge f h ≡ frame used p → settle (judge f) h ≡ settled (handed p) (drop used h)
   unfolding settle
   settle-frame [] p used q = let size = frame-sized f [] p used q in absurd (not-suc-le-zero (le-trans (size .some) (size .there)))
   settle-frame (b ∷ h) p used q = rw q
 
   -- Behind undecided bytes a further byte is taken.
-  line-more : (h : List ℕ) (b : ℕ) (chunk : List ℕ) → read f h ≡ cut → line f h (b ∷ chunk) ≡ more 1 (line f (h ++ (b ∷ [])) chunk)
+  line-more : (h : List ℕ) (b : ℕ) (chunk : List ℕ) → judge f h ≡ cut → line (holding f h) (b ∷ chunk) ≡ more 1 (line (holding f (h ++ (b ∷ []))) chunk)
   unfolding line lineFrom
   line-more h b chunk q =
-      let c : Called = line f (h ++ (b ∷ [])) chunk in
-      rw (settle-cut h q, one-add) (λ i. record { taken = suc (c .taken); out = join-nothing (c .out) i; held = c .held })
+      let c : Called = line (holding f (h ++ (b ∷ []))) chunk in
+      rw (settle-cut h q, one-add) (λ i. called (suc (c .taken)) (join-nothing (c .out) i) (c .held))
 
   -- A call stops at a frame.
   line-frame :
-      (h p chunk : List ℕ) (used : ℕ) → read f h ≡ frame used p →
-      line f h chunk ≡ record { taken = 0; out = handed p; held = drop used h }
+      (h p chunk : List ℕ) (used : ℕ) → judge f h ≡ frame used p →
+      line (holding f h) chunk ≡ called 0 (handed p) (drop used h)
   unfolding line lineFrom
   line-frame h p [] used q = rw (settle-frame h p used q)
   line-frame h p (b ∷ chunk) used q = rw (settle-frame h p used q)
@@ -68,25 +68,25 @@ module _ (f : Framing) where
   -- Nor does it change a call over a whole chunk.
   noise-first :
       (st : Settled) (chunk : List ℕ) →
-      lineFrom f (record { out = join noiseByte (st .out); rest = st .rest }) chunk ≡ noisier 1 (lineFrom f st chunk)
+      lineFrom f (settled (join noiseByte (st .out)) (st .rest)) chunk ≡ noisier 1 (lineFrom f st chunk)
   unfolding lineFrom join
   noise-first st [] = refl
-  noise-first st (b ∷ chunk) = noise-more st (lineFrom f (settle (read f) (st .rest ++ (b ∷ []))) chunk) (st .out .frames)
+  noise-first st (b ∷ chunk) = noise-more st (lineFrom f (settle (judge f) (st .rest ++ (b ∷ []))) chunk) (st .out .frames)
 
   -- A failed start is one byte of noise.
   line-refused :
-      (b : ℕ) (h chunk : List ℕ) (judged n : ℕ) → read f (b ∷ h) ≡ refused judged n → line f (b ∷ h) chunk ≡ noisier 1 (line f h chunk)
+      (b : ℕ) (h chunk : List ℕ) (judged n : ℕ) → judge f (b ∷ h) ≡ refused judged n → line (holding f (b ∷ h)) chunk ≡ noisier 1 (line (holding f h) chunk)
   unfolding line settle
-  line-refused b h chunk judged n q = rw q (noise-first (settle (read f) h) chunk)
+  line-refused b h chunk judged n q = rw q (noise-first (settle (judge f) h) chunk)
 
   -- The line call where the first m bytes of s are held and the others are the chunk.
   abbrev pub lineAt : List ℕ → ℕ → Called
-  lineAt s m = line f (take m s) (drop m s)
+  lineAt s m = line (holding f (take m s)) (drop m s)
 
   module _ (s : List ℕ) where
     -- While its front is undecided, bytes are taken.
     advance :
-        (d m : ℕ) → m + d ≤ length s → ((i : ℕ) → m ≤ i → i < m + d → read f (take i s) ≡ cut) → lineAt s m ≡ more d (lineAt s (m + d))
+        (d m : ℕ) → m + d ≤ length s → ((i : ℕ) → m ≤ i → i < m + d → judge f (take i s) ≡ cut) → lineAt s m ≡ more d (lineAt s (m + d))
     advance zero m l q = rw (add-zero, zero-add)
     advance (suc d) m l q =
         let c : Called = lineAt s (m + suc d) in
@@ -98,10 +98,10 @@ module _ (f : Framing) where
         let rest : lineAt s (suc m) ≡ more d (lineAt s (m + suc d)) =
         rw next (advance d (suc m) (omega arith) (λ i a b. q i (omega arith) (omega arith))) in
         let count : 1 + (d + c .taken) ≡ suc d + c .taken = omega arith in
-        one ∙ ap (more 1) rest ∙ (λ i. record { taken = count i; out = c .out; held = c .held })
+        one ∙ ap (more 1) rest ∙ (λ i. called (count i) (c .out) (c .held))
 
     -- Undecided bytes are all taken.
-    pub line-cut : (m : ℕ) → m ≤ length s → read f s ≡ cut → lineAt s m ≡ record { taken = length s - m; out = nothing; held = s }
+    pub line-cut : (m : ℕ) → m ≤ length s → judge f s ≡ cut → lineAt s m ≡ called (length s - m) nothing s
     unfolding line lineFrom
     line-cut m l q =
         let all : m + (length s - m) ≡ length s = omega arith in
@@ -111,39 +111,39 @@ module _ (f : Framing) where
     -- Bytes are taken up to a decision, where the first m are not enough for it.
     pub line-decided :
         (m : ℕ) → m ≤ length s →
-        let far : ℕ = max m (judgedBytes (read f s)) in
+        let far : ℕ = max m (judgedBytes (judge f s)) in
         lineAt s m ≡ more (far - m) (lineAt s far)
     line-decided m l =
-        let far : ℕ = max m (judgedBytes (read f s)) in
+        let far : ℕ = max m (judgedBytes (judge f s)) in
         let all : m + (far - m) ≡ far = omega arith in
         let inside : m + (far - m) ≤ length s = omega (arith, judged-there f s) in
         rw all at (advance (far - m) m inside (λ i a b. too-few (checks f) s i (omega arith)))
 
     -- A frame.
     pub line-found :
-        (m used : ℕ) (p : List ℕ) → m ≤ length s → read f s ≡ frame used p →
-        lineAt s m ≡ record { taken = max m used - m; out = handed p; held = take (max m used - used) (drop used s) }
+        (m used : ℕ) (p : List ℕ) → m ≤ length s → judge f s ≡ frame used p →
+        lineAt s m ≡ called (max m used - m) (handed p) (take (max m used - used) (drop used s))
     line-found m used p l q =
         let far : ℕ = max m used in
-        let there : read f (take far s) ≡ frame used p = enough (checks f) s far (rw q tt) (rw q (omega arith)) ∙ q in
+        let there : judge f (take far s) ≡ frame used p = enough (checks f) s far (rw q tt) (rw q (omega arith)) ∙ q in
         rw q at (line-decided m l) ∙ rw (line-frame (take far s) p (drop far s) used there, add-zero, drop-take)
 
   -- A failed start with the bytes judged for it held.
   pub line-failed :
-      (s : List ℕ) (m judged n : ℕ) → read f s ≡ refused judged n → judged ≤ m → lineAt s m ≡ noisier 1 (lineAt (drop 1 s) (m - 1))
+      (s : List ℕ) (m judged n : ℕ) → judge f s ≡ refused judged n → judged ≤ m → lineAt s m ≡ noisier 1 (lineAt (drop 1 s) (m - 1))
   line-failed s zero judged n q l = absurd (not-suc-le-zero (le-trans (refused-sized f s judged n q .some) l))
   line-failed [] (suc m) judged n q l =
       let size = refused-sized f [] judged n q in absurd (not-suc-le-zero (le-trans (size .some) (size .there)))
   line-failed (b ∷ s) (suc m) judged n q l =
-      let there : read f (take (suc m) (b ∷ s)) ≡ refused judged n = enough (checks f) (b ∷ s) (suc m) (rw q tt) (rw q l) ∙ q in
+      let there : judge f (take (suc m) (b ∷ s)) ≡ refused judged n = enough (checks f) (b ∷ s) (suc m) (rw q tt) (rw q l) ∙ q in
       let less : suc m - 1 ≡ m = omega arith in
       rw less (line-refused b (take m s) (drop m s) judged n there)
 
   -- One place of what a call hands out, whichever bytes of s were held.
   hears-at :
-      (b m : ℕ) (s : List ℕ) (v : Verdict) → read f (b ∷ s) ≡ v → m ≤ length (b ∷ s) →
-      ((k : ℕ) → k ≤ length s → lineAt s k .out ≡ settle (read f) s .out) →
-      lineAt (b ∷ s) m .out ≡ settleAs v (b ∷ s) (settle (read f) s) .out
+      (b m : ℕ) (s : List ℕ) (v : Verdict) → judge f (b ∷ s) ≡ v → m ≤ length (b ∷ s) →
+      ((k : ℕ) → k ≤ length s → lineAt s k .out ≡ settle (judge f) s .out) →
+      lineAt (b ∷ s) m .out ≡ settleAs v (b ∷ s) (settle (judge f) s) .out
   unfolding join
   hears-at b m s cut q l later = ap (λ (c : Called). c .out) (line-cut (b ∷ s) m l q)
   hears-at b m s (refused judged n) q l later =
@@ -155,16 +155,17 @@ module _ (f : Framing) where
   hears-at b m s (frame used p) q l later = ap (λ (c : Called). c .out) (line-found (b ∷ s) m used p l q)
 
   -- What a call hands out is what all its bytes give when judged at once.
-  hears : (s : List ℕ) (m : ℕ) → m ≤ length s → lineAt s m .out ≡ settle (read f) s .out
+  hears : (s : List ℕ) (m : ℕ) → m ≤ length s → lineAt s m .out ≡ settle (judge f) s .out
   unfolding line lineFrom settle
   hears [] zero l = refl
   hears [] (suc m) l = absurd (not-suc-le-zero l)
-  hears (b ∷ s) m l = hears-at b m s (read f (b ∷ s)) refl l (hears s)
+  hears (b ∷ s) m l = hears-at b m s (judge f (b ∷ s)) refl l (hears s)
 
-  -- The held bytes count as if the chunk began with them.
-  pub held-is-heard : HeldIsHeard f
-  held-is-heard held chunk =
-      let s : List ℕ = held ++ chunk in
-      ap₂ (λ (h c : List ℕ). line f h c .out) (sym (take-append-seam held chunk)) (sym (drop-append-seam held chunk))
-      ∙ hears s (length held) (rw length-append (omega arith))
-      ∙ sym (hears s 0 zero-le)
+-- The held bytes count as if the chunk began with them.
+pub held-is-heard : HeldIsHeard
+held-is-heard state chunk =
+    let f : Framing = state .framing in
+    let s : List ℕ = state .held ++ chunk in
+    ap₂ (λ (h c : List ℕ). line (holding f h) c .out) (sym (take-append-seam (state .held) chunk)) (sym (drop-append-seam (state .held) chunk))
+    ∙ hears f s (length (state .held)) (rw length-append (omega arith))
+    ∙ sym (hears f s 0 zero-le)

@@ -6,7 +6,8 @@ use Rattle.frame.specs.Claims.{LayoutReads, OneSpelling, DecisionStands,
 use Rattle.frame.specs.Recovery.{BytesAddUp, TakenIsInside, NeedsMoreIsTrue, HeldIsHeard, CallsFollowRule, CleanLine, AsciiRecovers, BinaryRecovers}
 use Rattle.frame.specs.Recovery.{LateFramesComeBack, AsciiCallsRecover, BinaryCallsRecover, CleanCalls}
 use Rattle.frame.specs.Draining.{LineDrains, NeedsMoreIsDrained, DrainFollowsRule, QuietFollowsRule, EmptyIsDrained}
-use Rattle.frame.specs.Draining.{FeedTells, QuietTells, FirstIsFeed, DrainIsSized, RuleIsSized}
+use Rattle.frame.specs.Draining.{FeedTells, QuietTells, ViewTells, DrainIsSized, RuleIsSized}
+use Rattle.frame.specs.View.{ViewIsFeed, ViewStaysInside}
 use Rattle.frame.specs.Driving.{CanDrive, DrivesAreShort, StateNeverRefused, FeedStaysInLimit, QuietStaysInLimit, EndsFresh}
 use Rattle.frame.specs.RecoveryExamples.{LostAndBack, ProvisoNeeded}
 use Rattle.frame.specs.declared.framing.Framing.{Framing}
@@ -19,6 +20,7 @@ use Rattle.frame.proofs.Rules as rules
 use Rattle.frame.proofs.Settling as settling
 use Rattle.frame.proofs.Draining as draining
 use Rattle.frame.proofs.Calling as calling
+use Rattle.frame.proofs.Views as views
 use Rattle.frame.proofs.Stretches as stretches
 use Rattle.frame.proofs.AsciiRecovery as ascii-recovery
 use Rattle.frame.proofs.BinaryRecovery as binary-recovery
@@ -48,28 +50,28 @@ frame-is-sized = frame-sized
 pub bytes-add-up : (f : Framing) → BytesAddUp f
 bytes-add-up = rules.bytes-add-up
 
-pub taken-is-inside : (f : Framing) → TakenIsInside f
+pub taken-is-inside : TakenIsInside
 taken-is-inside = settling.line-taken
 
-pub needs-more-is-true : (f : Framing) → NeedsMoreIsTrue f
+pub needs-more-is-true : NeedsMoreIsTrue
 needs-more-is-true = settling.needs-more-is-true
 
-pub held-is-heard : (f : Framing) → HeldIsHeard f
+pub held-is-heard : HeldIsHeard
 held-is-heard = taking.held-is-heard
 
-pub line-drains : (f : Framing) → LineDrains f
+pub line-drains : LineDrains
 line-drains = draining.line-drains
 
-pub needs-more-is-drained : (f : Framing) → NeedsMoreIsDrained f
+pub needs-more-is-drained : NeedsMoreIsDrained
 needs-more-is-drained = draining.needs-more-is-drained
 
-pub drain-follows-rule : (f : Framing) → DrainFollowsRule f
+pub drain-follows-rule : DrainFollowsRule
 drain-follows-rule = draining.drain-follows-rule
 
-pub quiet-follows-rule : (f : Framing) → QuietFollowsRule f
+pub quiet-follows-rule : QuietFollowsRule
 quiet-follows-rule = settling.quiet-rule
 
-pub empty-is-drained : (f : Framing) → EmptyIsDrained f
+pub empty-is-drained : EmptyIsDrained
 empty-is-drained = settling.quiet-left
 
 pub feed-tells : FeedTells
@@ -78,10 +80,16 @@ feed-tells = calling.feed-tells
 pub quiet-tells : QuietTells
 quiet-tells = calling.quiet-tells
 
-pub first-is-feed : FirstIsFeed
-first-is-feed = calling.first-is-feed
+pub view-tells : ViewTells
+view-tells = views.view-tells
 
-pub drain-is-sized : (f : Framing) → DrainIsSized f
+pub view-is-feed : ViewIsFeed
+view-is-feed = views.view-is-feed
+
+pub view-stays-inside : ViewStaysInside
+view-stays-inside = views.view-stays-inside
+
+pub drain-is-sized : DrainIsSized
 drain-is-sized = draining.drain-is-sized
 
 pub rule-is-sized : (f : Framing) → RuleIsSized f

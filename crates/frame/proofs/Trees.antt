@@ -12,7 +12,7 @@ use mathlib.Core.Bool.{Bool, true, false, cond}
 use borrow.Author.Tests.{eq-eqb, ne-eqb, eqb-true}
 use lib.Dec.{eqb}
 use lib.ListN.{length, getD, take, drop, length-append}
-use lib.Seq.{drop-cons}
+use lib.Seq.{drop-cons, take-at}
 use lib.ListN.{drop-of-length-le}
 use Rattle.frame.specs.Checks.{Checks, next, fails, whole, byte, test, word, bytes, Verdict, cut, refused, frame, behind, run}
 use Rattle.frame.specs.Claims.{Decided}
@@ -199,21 +199,21 @@ cut≢refused i n e = let z : _≡_ {A = ℕ} 0 1 = cc in omega arith
 pub refused≢frame : (i n used : ℕ) (p : List ℕ) → refused i n ≡ frame used p → ⊥
 refused≢frame i n used p e = let z : _≡_ {A = ℕ} 0 1 = cc in omega arith
 
--- A frame behind one byte is that frame, one byte further on.
-frame-behind : (v : Verdict) (used : ℕ) (p : List ℕ) → behind 1 v ≡ frame used p → (left : ℕ) × (used ≡ suc left) × (v ≡ frame left p)
-frame-behind cut used p e = absurd (cut≢frame used p e)
-frame-behind (refused i n) used p e = absurd (refused≢frame (1 + i) n used p e)
-frame-behind (frame u q) used p e =
-    let a : 1 + u ≡ used = cc in
+-- A frame behind k bytes is that frame, k bytes further on.
+pub frame-behind : (k : ℕ) (v : Verdict) (used : ℕ) (p : List ℕ) → behind k v ≡ frame used p → (left : ℕ) × (v ≡ frame left p) × (used ≡ k + left)
+frame-behind k cut used p e = absurd (cut≢frame used p e)
+frame-behind k (refused i n) used p e = absurd (refused≢frame (k + i) n used p e)
+frame-behind k (frame u q) used p e =
+    let a : k + u ≡ used = cc in
     let b : q ≡ p = cc in
-    (u, sym a ∙ one-add u, ap (frame u) b)
+    (u, ap (frame u) b, sym a)
 
 -- What a frame's bytes must be where the tree begins by taking one.
 pub took-next : (t : ℕ → Checks) (s p : List ℕ) (used : ℕ) → run (next t) s ≡ frame used p → (b : ℕ) × Behind (t b) (b ∷ []) s used p
 took-next t [] p used e = absurd (cut≢frame used p e)
 took-next t (b ∷ s) p used e =
-    let h = frame-behind (run (t b) s) used p e in
-    (b, record { rest = s; left = h .0; split = refl; count = h .1 ∙ sym (one-add (h .0)); goes = h .2 })
+    let h = frame-behind 1 (run (t b) s) used p e in
+    (b, record { rest = s; left = h .0; split = refl; count = h .2; goes = h .1 })
 
 pub took-test : (holds : Bool) (n : ℕ) (t : Checks) (s p : List ℕ) (used : ℕ) → run (test holds n t) s ≡ frame used p → (holds ≡ true) × (run t s ≡ frame used p)
 unfolding test
@@ -265,3 +265,28 @@ took-bytes (suc n) t s p used e =
 
 pub took-whole : (q s p : List ℕ) (used : ℕ) → run (whole q) s ≡ frame used p → (used ≡ 0) × (q ≡ p)
 took-whole q s p used e = (cc, cc)
+
+-- Whatever is left for a payload hands on that payload.
+abbrev pub Keeps : (List ℕ → Checks) → Type 0
+Keeps rest = (q s p : List ℕ) (used : ℕ) → run (rest q) s ≡ frame used p → q ≡ p
+
+-- What a frame's bytes must be where one byte is left.
+took-last : (b n : ℕ) (q s p : List ℕ) (used : ℕ) → run (byte b n (whole q)) s ≡ frame used p
+    → (rest : List ℕ) × (s ≡ b ∷ rest) × (used ≡ 1) × (q ≡ p)
+took-last b n q s p used e =
+    let h = took-byte b n (whole q) s p used e in
+    let w = took-whole q (h .rest) p (h .left) (h .goes) in
+    (h .rest, h .split, omega (arith, h .count, w .0), w .1)
+
+-- One byte hands on the payload.
+pub keeps-byte : (b n : ℕ) → Keeps (λ p. byte b n (whole p))
+keeps-byte b n q s p used e = took-last b n q s p used e .3
+
+-- Where one byte is left behind q, the bytes used are q and that byte.
+pub used-last : (b n : ℕ) (p q s : List ℕ) (used : ℕ) → Behind (byte b n (whole p)) q s used p
+    → (take used s ≡ q ++ (b ∷ [])) × (used ≡ length (q ++ (b ∷ [])))
+used-last b n p q s used h =
+    let l = took-last b n p (h .rest) p (h .left) (h .goes) in
+    let same : s ≡ (q ++ (b ∷ [])) ++ (l .0) = h .split ∙ ap (λ (r : List ℕ). q ++ r) (l .1) ∙ sym (append-assoc q (b ∷ []) (l .0)) in
+    let size : used ≡ length (q ++ (b ∷ [])) = simp length-append (omega (arith, h .count, l .2)) in
+    (ap (take used) same ∙ take-at (q ++ (b ∷ [])) (l .0) used (sym size), size)

@@ -14,11 +14,11 @@ use lib.Dec.{eqb}
 use lib.ListN.{length, getD, take, drop, take-append-drop, length-drop}
 use lib.Seq.{length-take-le}
 use Rattle.frame.specs.Checks.{Bytes}
-use Rattle.frame.specs.Ascii.{isDigit}
-use Rattle.frame.specs.Judged.{digitRun, packed, every}
-use Rattle.frame.proofs.AsciiLeaves.{counted}
+use Rattle.frame.specs.Digit.{isDigit, digitRun, packed}
+use Rattle.frame.specs.Judged.{every}
+use Rattle.frame.proofs.DigitLaws.{counted}
 use Rattle.frame.proofs.Lists.{drop-next, bytes-left, bytes-right, take-least}
-use Rattle.frame.proofs.Numbers.{both-true}
+use Rattle.frame.proofs.Numbers.{below-at}
 
 -- n digits at the front are n more in the count.
 run-full : (n most : ℕ) (s : List ℕ) → n ≤ most → digitRun n s ≡ n → digitRun most s ≡ n + digitRun (most - n) (drop n s)
@@ -217,22 +217,6 @@ others-lanes s h =
 -- A character's byte afterwards: 0 for a digit, else the top bit.
 abbrev mark : ℕ → ℕ
 mark c = cond (isDigit c) 0 0x80
-
--- The test passes at all numbers below n.
-abbrev below : (ℕ → Bool) → ℕ → Bool
-below test zero = true
-below test (suc n) = test n && below test n
-
--- Then it passes at each of them.
-below-at : (test : ℕ → Bool) (n : ℕ) → below test n ≡ true → (c : ℕ) → c < n → test c ≡ true
-below-at test zero e c h = absurd (omega arith)
-below-at test (suc n) e c h =
-    let b = both-true (test n) (below test n) e in
-    by-place (eq-or-lt-of-le {n = c} {m = n} (omega arith)) (b .0) (below-at test n (b .1) c)
-  where
-    by-place : (c ≡ n) ⊎ (c < n) → test n ≡ true → (c < n → test c ≡ true) → test c ≡ true
-    by-place (inl p) t rest = ap test p ∙ t
-    by-place (inr l) t rest = rest l
 
 -- The program's result for one character, at all 256.
 other-mark : (c : ℕ) → c < 256 → other c ≡ mark c

@@ -1,60 +1,41 @@
 -- ASCII framing. Document 01, "Two framings": a colon; the payload and one checksum byte, each as two characters of 0-9 A-F;
 -- CR LF. The sum of payload and checksum is 0 modulo 256.
-use Prim.Native.Nat.{ℕ, zero, suc, _+_, _-_, _*_, _/_, _%_}
+use Prim.Native.Nat.{ℕ, zero, suc, _-_, _%_}
 use mathlib.Core.List.{List, [], _∷_, _++_, dropLast}
-use mathlib.Core.Bool.{Bool, cond, _&&_, _||_}
-use lib.Dec.{leb, ltb, eqb}
+use mathlib.Core.Bool.{Bool, cond, _&&_}
+use lib.Dec.{leb, eqb}
 use lib.ListN.{length}
 use Rattle.frame.specs.Checks.{Checks, next, fails, whole, byte, test}
+use Rattle.frame.specs.Digit.{isDigit, digitValue}
+use Rattle.frame.specs.Hex.{hex, pairs, sum}
 
--- The characters with a meaning of their own.
+-- The character that starts a frame.
 abbrev pub colon : ℕ
 colon = 0x3A
 
+-- The first character of the published ending.
 abbrev pub carriageReturn : ℕ
 carriageReturn = 0x0D
 
+-- The last.
 abbrev pub lineFeed : ℕ
 lineFeed = 0x0A
-
--- c lies from a to b.
-abbrev pub within : ℕ → ℕ → ℕ → Bool
-within a b c = leb a c && leb c b
-
--- A digit is a character of 0-9 or A-F.
-unfoldable pub isDigit : ℕ → Bool
-isDigit c = within 0x30 0x39 c || within 0x41 0x46 c
-
--- The value of a digit; 0 for any other character.
-unfoldable pub digitValue : ℕ → ℕ
-digitValue c = cond (within 0x30 0x39 c) (c - 0x30) (cond (within 0x41 0x46 c) (c - 0x37) 0)
-
--- The digit that stands for a value below 16.
-unfoldable pub digitOf : ℕ → ℕ
-digitOf v = cond (ltb v 10) (0x30 + v) (0x37 + v)
-
--- Two characters for each byte.
-abbrev pub hex : List ℕ → List ℕ
-hex [] = []
-hex (b ∷ s) = digitOf (b / 16) ∷ digitOf (b % 16) ∷ hex s
-
--- The bytes that digit values stand for, two to a byte; a last odd one stands for none.
-abbrev pub pairs : List ℕ → List ℕ
-pairs [] = []
-pairs (a ∷ []) = []
-pairs (a ∷ b ∷ s) = (a * 16 + b) ∷ pairs s
-
-abbrev pub sum : List ℕ → ℕ
-sum [] = 0
-sum (b ∷ s) = b + sum s
 
 -- The byte that brings the sum of payload and checksum to 0 modulo 256.
 abbrev pub checksumOf : List ℕ → ℕ
 checksumOf p = (256 - sum p % 256) % 256
 
+-- The front of a frame: all characters before the ending.
+unfoldable pub asciiFront : List ℕ → List ℕ
+asciiFront p = colon ∷ hex (p ++ (checksumOf p ∷ []))
+
+-- The characters of the ending.
+abbrev pub asciiEnding : List ℕ
+asciiEnding = carriageReturn ∷ lineFeed ∷ []
+
 -- The published layout, from payload to frame.
-unfoldable pub asciiLayout : List ℕ → List ℕ
-asciiLayout p = colon ∷ (hex (p ++ (checksumOf p ∷ [])) ++ (carriageReturn ∷ lineFeed ∷ []))
+abbrev pub asciiLayout : List ℕ → List ℕ
+asciiLayout p = asciiFront p ++ asciiEnding
 
 -- Up to `room` digits, whose values are handed to t with the first other character; a further digit is refusal 3.
 unfoldable pub digits : ℕ → (List ℕ → ℕ → Checks) → Checks
@@ -65,18 +46,18 @@ digits (suc room) t = next (λ c. cond (isDigit c) (digits room (λ ds e. t (dig
 abbrev pub digitCount : ℕ → Bool
 digitCount n = leb 4 n && eqb (n % 2) 0
 
--- The ending of a frame with the payload p: the byte after CR is LF (5).
+-- Behind digits of these values: their count (3), then their sum (4), then what is left for the payload that they stand for.
+unfoldable pub afterDigits : List ℕ → (List ℕ → Checks) → Checks
+afterDigits ds rest = test (digitCount (length ds)) 3 (test (eqb (sum (pairs ds) % 256) 0) 4 (rest (dropLast (pairs ds))))
+
+-- The checks: the start (1); at most 514 digits (3); the ending, given the digits' values and the first other character.
+unfoldable pub ascii : (List ℕ → ℕ → Checks) → Checks
+ascii end = byte colon 1 (digits 514 end)
+
+-- The character after CR is LF (5).
 unfoldable pub lineEnd : List ℕ → Checks
 lineEnd p = byte lineFeed 5 (whole p)
 
--- Behind digits of these values, at the character c: any other than CR (6); at CR the count (3), then the sum (4); the ending.
-unfoldable pub afterDigits : List ℕ → ℕ → Checks
-afterDigits ds c =
-    test (eqb c carriageReturn) 6
-    (test (digitCount (length ds)) 3
-    (test (eqb (sum (pairs ds) % 256) 0) 4
-    (lineEnd (dropLast (pairs ds)))))
-
--- The checks: the start (1); at most 514 digits (3); what stands behind them.
-unfoldable pub ascii : Checks
-ascii = byte colon 1 (digits 514 afterDigits)
+-- The ending CR LF: any other character than CR (6); at CR the digits are judged; then LF.
+unfoldable pub crLf : List ℕ → ℕ → Checks
+crLf ds c = test (eqb c carriageReturn) 6 (afterDigits ds lineEnd)

@@ -21,22 +21,30 @@ xorOf p = xorFrom 0 p
 abbrev pub bigEndian : ℕ → List ℕ
 bigEndian n = n / 256 ∷ n % 256 ∷ []
 
--- The published layout, from payload to frame.
-unfoldable pub binaryLayout : List ℕ → List ℕ
-binaryLayout p = 0xA5 ∷ 0x5A ∷ (bigEndian (0x8000 + length p) ++ (p ++ (xorOf p ∷ 0x04 ∷ [])))
+-- The front of a frame: all bytes before the ending.
+unfoldable pub binaryFront : List ℕ → List ℕ
+binaryFront p = 0xA5 ∷ 0x5A ∷ (bigEndian (0x8000 + length p) ++ (p ++ (xorOf p ∷ [])))
 
--- The ending of a frame with the payload p: the footer 04 (5).
-unfoldable pub footer : List ℕ → Checks
-footer p = byte 0x04 5 (whole p)
+-- The bytes of the ending.
+abbrev pub binaryEnding : List ℕ
+binaryEnding = 0x04 ∷ []
+
+-- The published layout, from payload to frame.
+abbrev pub binaryLayout : List ℕ → List ℕ
+binaryLayout p = binaryFront p ++ binaryEnding
 
 -- The number before the payload is 0x8000 plus a length from 1 to 256.
 abbrev pub lengthWord : ℕ → Bool
 lengthWord w = leb 0x8001 w && leb w 0x8100
 
--- Behind the length n: the payload, its checksum (4), the ending.
-unfoldable pub body : ℕ → Checks
-body n = bytes n (λ p. byte (xorOf p) 4 (footer p))
+-- Behind the length n: the payload, its checksum (4), the ending of a frame with that payload.
+unfoldable pub body : (List ℕ → Checks) → ℕ → Checks
+body end n = bytes n (λ p. byte (xorOf p) 4 (end p))
 
 -- The checks: each start byte (1); the length once both its bytes are there (3); what stands behind it.
-unfoldable pub binary : Checks
-binary = byte 0xA5 1 (byte 0x5A 1 (word (λ w. test (lengthWord w) 3 (body (w - 0x8000)))))
+unfoldable pub binary : (List ℕ → Checks) → Checks
+binary end = byte 0xA5 1 (byte 0x5A 1 (word (λ w. test (lengthWord w) 3 (body end (w - 0x8000)))))
+
+-- The ending of a frame with the payload p: the footer 04 (5).
+unfoldable pub footer : List ℕ → Checks
+footer p = byte 0x04 5 (whole p)

@@ -4,7 +4,7 @@ use mathlib.Core.Path.{_≡_}
 use mathlib.Core.List.{List, _++_}
 use lib.ListN.{length, take}
 use Rattle.frame.specs.Checks.{Verdict, cut, refused, frame, Bytes, Payload}
-use Rattle.frame.specs.Framing.{read, layout, limit}
+use Rattle.frame.specs.Framing.{judge, read, layout, limit}
 use Rattle.frame.specs.declared.framing.Framing.{Framing}
 
 -- What the layout gives is read as a frame of just that length with just that payload, whatever bytes follow.
@@ -29,17 +29,18 @@ Decided (frame used p) = Unit {0}
 
 -- A decision stands when more bytes follow.
 abbrev pub DecisionStands : Framing → Type 0
-DecisionStands f = (s more : List ℕ) → Decided (read f s) → read f (s ++ more) ≡ read f s
+DecisionStands f = (s more : List ℕ) → Decided (judge f s) → judge f (s ++ more) ≡ judge f s
 
 -- Bytes still undecided are fewer than the limit.
 abbrev pub UndecidedIsShort : Framing → Type 0
-UndecidedIsShort f = (s : List ℕ) → read f s ≡ cut → length s < limit f
+UndecidedIsShort f = (s : List ℕ) → judge f s ≡ cut → length s < limit f
 
--- A frame uses at least one byte, at most the limit, and no more than there are.
+-- As many bytes of s as a frame can use: at least one, at most the limit, and no more than there are.
 pub record Sized (f : Framing) (s : List ℕ) (used : ℕ) : Type 0 where
   pub some : 1 ≤ used
   pub most : used ≤ limit f
   pub there : used ≤ length s
 
+-- A frame that was judged uses so many.
 abbrev pub FrameIsSized : Framing → Type 0
-FrameIsSized f = (s p : List ℕ) (used : ℕ) → read f s ≡ frame used p → Sized f s used
+FrameIsSized f = (s p : List ℕ) (used : ℕ) → judge f s ≡ frame used p → Sized f s used

@@ -1,109 +1,103 @@
--- What the calls over one chunk, or of one quiet, give together, said of each call: it gives the first part, and the calls after it the rest. Document 01, "The leftmost rule and the line reader": the caller calls again
--- with the rest, even an empty rest, until more bytes are needed; a quiet is repeated until it is empty.
-use Prim.Native.Nat.{ℕ, zero, suc, _+_, _-_, _≤_}
+-- What the calls over one chunk, or of one quiet, give together, said of each call: it gives the first part, and the calls after it the rest.
+-- Document 01, "The leftmost rule and the line reader": the caller calls again with the rest, even an empty rest, until more bytes are needed; a
+-- quiet is repeated until it is empty.
+use Prim.Native.Nat.{ℕ, zero, suc, _+_, _≤_}
 use mathlib.Core.Path.{_≡_}
 use mathlib.Core.List.{List, [], _∷_, _++_}
 use mathlib.Core.Bool.{false}
 use lib.Dec.{eqb}
-use lib.ListN.{length, take, drop}
+use lib.ListN.{length, drop}
 use Rattle.frame.specs.Checks.{Verdict, cut, refused, frame}
-use Rattle.frame.specs.Framing.{read}
+use Rattle.frame.specs.Framing.{judge}
 use Rattle.frame.specs.Rule.{Output, nothing, noiseByte, handed, join, passAfter, rule, payloads}
-use Rattle.frame.specs.Reader.{Settled, line, quiet, heldIn, Holds, feedValuesOf, quietValuesOf, feedRefusal, quietRefusal, Feeds, AfterQuiet, Quiets}
-use Rattle.frame.specs.Reader.{newReader, firstRefusal, Firsts}
-use Rattle.frame.specs.Calls.{FeedIsRefused, QuietIsRefused, takenIn, feedOut, quietOut}
+use Rattle.frame.specs.Reader.{State, holding, Settled, settled, Called, line, quiet, after, stateOf, Holds, Values, feedValuesOf}
+use Rattle.frame.specs.Reader.{quietValuesOf, feedRefusal, quietRefusal, Feeds, AfterQuiet, Quiets}
+use Rattle.frame.specs.Calls.{Refused, Answered, outOf}
+use Rattle.frame.specs.View.{viewCall, Follows, viewRefusal, Views}
 use Rattle.frame.specs.declared.reader.Reader.{Reader}
 use Rattle.frame.specs.declared.reader.Fed.{Fed}
-use Rattle.frame.specs.declared.reader.First.{First}
 use Rattle.frame.specs.declared.reader.Quieted.{Quieted}
+use Rattle.frame.specs.declared.view.View.{View}
+use Rattle.frame.specs.declared.view.Viewed.{Viewed}
 use Rattle.frame.specs.declared.framing.Framing.{Framing}
 
 -- An output, and then what was settled.
 abbrev pub before : Output (List ℕ) → Settled → Settled
-before o st = record { out = join o (st .out); rest = st .rest }
+before o st = settled (join o (st .out)) (st .rest)
 
 -- The rule at a place of a segment that goes on: undecided bytes stay.
 abbrev pub drainAs : Verdict → List ℕ → Settled → Settled
-drainAs cut s later = record { out = nothing; rest = s }
+drainAs cut s later = settled nothing s
 drainAs (refused judged n) s later = before noiseByte later
 drainAs (frame used p) s later = before (handed p) later
 
 -- The leftmost rule over s, with `pass` bytes to pass over first, as far as it is settled: from the first undecided place on the bytes stay.
 unfoldable pub drainFrom : Framing → ℕ → List ℕ → Settled
-drainFrom f pass [] = record { out = nothing; rest = [] }
-drainFrom f zero (b ∷ s) = drainAs (read f (b ∷ s)) (b ∷ s) (drainFrom f (passAfter (read f (b ∷ s))) s)
+drainFrom f pass [] = settled nothing []
+drainFrom f zero (b ∷ s) = drainAs (judge f (b ∷ s)) (b ∷ s) (drainFrom f (passAfter (judge f (b ∷ s))) s)
 drainFrom f (suc pass) (b ∷ s) = drainFrom f pass s
 
-abbrev pub drain : Framing → List ℕ → Settled
-drain f s = drainFrom f 0 s
+-- What the line calls over a chunk give together from a state on, and the state that follows them.
+abbrev pub drain : State → List ℕ → Settled
+drain s chunk = drainFrom (s .framing) 0 (s .held ++ chunk)
 
--- A line call gives the first part of that, and the same call again with the rest gives the others.
-abbrev pub LineDrains : Framing → Type 0
-LineDrains f =
-    (held chunk : List ℕ) →
-    drain f (held ++ chunk) ≡ before (line f held chunk .out) (drain f (line f held chunk .held ++ drop (line f held chunk .taken) chunk))
+abbrev pub afterDrain : State → Settled → State
+afterDrain s d = holding (s .framing) (d .rest)
+
+-- What the rule gives from a state on, where these bytes are still to come.
+abbrev pub ruleAfter : State → List ℕ → Output (List ℕ)
+ruleAfter s todo = payloads (rule (s .framing) (s .held ++ todo))
+
+-- A line call gives the first part of what is drained, and the same call again with the rest gives the others.
+abbrev pub LineDrains : Type 0
+LineDrains =
+    (s : State) (chunk : List ℕ) → let c : Called = line s chunk in drain s chunk ≡ before (c .out) (drain (after s c) (drop (c .taken) chunk))
 
 -- Where no frame comes out of a line call, all is drained.
-abbrev pub NeedsMoreIsDrained : Framing → Type 0
-NeedsMoreIsDrained f =
-    (held chunk : List ℕ) → line f held chunk .out .frames ≡ [] →
-    drain f (line f held chunk .held) ≡ record { out = nothing; rest = line f held chunk .held }
+abbrev pub NeedsMoreIsDrained : Type 0
+NeedsMoreIsDrained =
+    (s : State) (chunk : List ℕ) → let c : Called = line s chunk in c .out .frames ≡ [] → drain (after s c) [] ≡ settled nothing (c .held)
 
 -- What is drained, and then the rule over what is left and what follows, is the rule over all.
-abbrev pub DrainFollowsRule : Framing → Type 0
-DrainFollowsRule f =
-    (s more : List ℕ) → payloads (rule f (s ++ more)) ≡ join (drain f s .out) (payloads (rule f (drain f s .rest ++ more)))
+abbrev pub DrainFollowsRule : Type 0
+DrainFollowsRule =
+    (s : State) (chunk more : List ℕ) →
+    let d : Settled = drain s chunk in ruleAfter s (chunk ++ more) ≡ join (d .out) (ruleAfter (afterDrain s d) more)
 
 -- A quiet call gives the first part of what the rule gives over the held bytes, and the same call again the others.
-abbrev pub QuietFollowsRule : Framing → Type 0
-QuietFollowsRule f = (held : List ℕ) → payloads (rule f held) ≡ join (quiet f held .out) (payloads (rule f (quiet f held .held)))
+abbrev pub QuietFollowsRule : Type 0
+QuietFollowsRule = (s : State) → let c : Called = quiet s in ruleAfter s [] ≡ join (c .out) (ruleAfter (after s c) [])
 
 -- Where no frame comes out of a quiet call, nothing is held.
-abbrev pub EmptyIsDrained : Framing → Type 0
-EmptyIsDrained f = (held : List ℕ) → quiet f held .out .frames ≡ [] → quiet f held .held ≡ []
+abbrev pub EmptyIsDrained : Type 0
+EmptyIsDrained = (s : State) → quiet s .out .frames ≡ [] → quiet s .held ≡ []
 
--- What the answer of a line call says. Not refused: what it hands out, the bytes that it takes and the state that follows are those of the call;
--- refused: the number, and state and buffer stay. A payload is within the buffer as it then is.
-pub record FeedSays (r : Reader) (chunk buf : List ℕ) (a : Fed) (buf′ : List ℕ) : Type 0 where
-  pub inside : feedValuesOf (a .answer) .len ≤ length buf′
-  pub answered :
-      (FeedIsRefused (a .answer) → ⊥) →
-      (feedRefusal r (length buf) (length chunk) ≡ 0)
-      × (feedOut (a .answer) buf′ ≡ line (r .framing) (heldIn r) chunk .out)
-      × (takenIn (a .answer) ≡ line (r .framing) (heldIn r) chunk .taken)
-      × Holds (r .framing) (line (r .framing) (heldIn r) chunk .held) (a .reader)
-  pub refused :
-      FeedIsRefused (a .answer) →
-      (eqb (feedRefusal r (length buf) (length chunk)) 0 ≡ false)
-      × (feedValuesOf (a .answer) .number ≡ feedRefusal r (length buf) (length chunk))
-      × (a .reader ≡ r) × (buf′ ≡ buf)
+-- What the answer of a call that gives c says. Not refused: what it hands out, the bytes that it takes and the state that follows are those of the
+-- call; refused: the number, and state and buffer stay. A payload is within the buffer as it then is, and no more is taken than the call takes.
+pub record Says {S : Type 0} (number : ℕ) (c : Called) (Next : S → Type 0) (s : S) (buf : List ℕ) (v : Values) (s′ : S) (buf′ : List ℕ) : Type 0 where
+  pub inside : v .len ≤ length buf′
+  pub most : v .taken ≤ c .taken
+  pub answered : Answered v → (number ≡ 0) × (outOf v buf′ ≡ c .out) × (v .taken ≡ c .taken) × Next s′
+  pub refused : Refused v → (eqb number 0 ≡ false) × (v .number ≡ number) × (s′ ≡ s) × (buf′ ≡ buf)
 
+-- Of a line call, of a quiet call, and of a view's call.
 abbrev pub FeedTells : Type 0
-FeedTells = (r : Reader) (chunk buf : List ℕ) (a : Fed) (buf′ : List ℕ) → Feeds r chunk buf a buf′ → FeedSays r chunk buf a buf′
-
--- The same of a quiet call.
-pub record QuietSays (r : Reader) (buf : List ℕ) (a : Quieted) (buf′ : List ℕ) : Type 0 where
-  pub inside : quietValuesOf (a .answer) .len ≤ length buf′
-  pub answered :
-      (QuietIsRefused (a .answer) → ⊥) →
-      (quietRefusal r (length buf) ≡ 0)
-      × (quietOut (a .answer) buf′ ≡ quiet (r .framing) (heldIn r) .out)
-      × AfterQuiet (r .framing) (quiet (r .framing) (heldIn r)) (quiet (r .framing) (heldIn r) .out .frames) (a .reader)
-  pub refused :
-      QuietIsRefused (a .answer) →
-      (eqb (quietRefusal r (length buf)) 0 ≡ false)
-      × (quietValuesOf (a .answer) .number ≡ quietRefusal r (length buf))
-      × (a .reader ≡ r) × (buf′ ≡ buf)
+FeedTells =
+    (r : Reader) (chunk buf : List ℕ) (a : Fed) (buf′ : List ℕ) → Feeds r chunk buf a buf′ →
+    let c : Called = line (stateOf r) chunk in
+    Says (feedRefusal r (length buf) (length chunk)) c (Holds (after (stateOf r) c)) r buf (feedValuesOf (a .answer)) (a .reader) buf′
 
 abbrev pub QuietTells : Type 0
-QuietTells = (r : Reader) (buf : List ℕ) (a : Quieted) (buf′ : List ℕ) → Quiets r buf a buf′ → QuietSays r buf a buf′
+QuietTells =
+    (r : Reader) (buf : List ℕ) (a : Quieted) (buf′ : List ℕ) → Quiets r buf a buf′ →
+    let c : Called = quiet (stateOf r) in
+    Says (quietRefusal r (length buf)) c (AfterQuiet (stateOf r) c (c .out .frames)) r buf (quietValuesOf (a .answer)) (a .reader) buf′
 
--- A first call is the line call of a new reader: with any state that holds the told part of the chunk, its answer is that call's.
-abbrev pub FirstIsFeed : Type 0
-FirstIsFeed =
-    (f : Framing) (chunk buf : List ℕ) (a : First) (buf′ : List ℕ) (r : Reader) → Firsts f chunk buf a buf′ →
-    firstRefusal (length buf) (length chunk) ≡ 0 → Holds f (take (a .end - a .from) (drop (a .from) chunk)) r →
-    Feeds (newReader f) chunk buf (record { reader = r; answer = a .answer }) buf′
+abbrev pub ViewTells : Type 0
+ViewTells =
+    (v : View) (chunk buf : List ℕ) (a : Viewed) (buf′ : List ℕ) → Views v chunk buf a buf′ →
+    let c : Called = viewCall v chunk in
+    Says (viewRefusal v (length buf) (length chunk)) c (Follows v chunk c) v buf (feedValuesOf (a .answer)) (a .view) buf′
 
 -- The sum of a number over a list.
 abbrev pub total : (List ℕ → ℕ) → List (List ℕ) → ℕ
@@ -111,9 +105,11 @@ total size [] = 0
 total size (p ∷ ps) = size p + total size ps
 
 -- Each payload that is drained takes its length and six bytes or more, and each byte of noise one.
-abbrev pub DrainIsSized : Framing → Type 0
-DrainIsSized f =
-    (s : List ℕ) → total (λ p. length p + 6) (drain f s .out .frames) + drain f s .out .noise + length (drain f s .rest) ≤ length s
+abbrev pub DrainIsSized : Type 0
+DrainIsSized =
+    (s : State) (chunk : List ℕ) →
+    let d : Settled = drain s chunk in
+    total (λ p. length p + 6) (d .out .frames) + d .out .noise + length (d .rest) ≤ length (s .held) + length chunk
 
 -- So does each payload that the rule gives.
 abbrev pub RuleIsSized : Framing → Type 0

@@ -3,17 +3,16 @@
 use Prim.Native.Nat.{ℕ, suc, _+_, _≤_}
 use mathlib.Core.Path.{_≡_}
 use mathlib.Core.List.{List, [], _∷_}
+use mathlib.Core.Bool.{cond}
 use lib.ListN.{length, drop}
 use Rattle.frame.specs.Framing.{limit}
 use Rattle.frame.specs.Rule.{Output}
-use Rattle.frame.specs.Reader.{newReader, feedValuesOf, quietValuesOf, Feeds, Quiets}
+use Rattle.frame.specs.Reader.{newReader, Values, feedValuesOf, quietValuesOf, Feeds, Quiets}
 use Rattle.frame.specs.Calls.{Phase, offering, Calls, fed, taken, quieted, emptied, feedRefused, quietRefused, done}
 use Rattle.frame.specs.Recovery.{concat, All}
 use Rattle.frame.specs.declared.framing.Framing.{Framing}
 use Rattle.frame.specs.declared.reader.Reader.{Reader}
 use Rattle.frame.specs.declared.reader.Fed.{Fed}
-use Rattle.frame.specs.declared.reader.FeedAnswer.{FeedAnswer}
-use Rattle.frame.specs.declared.reader.FeedAnswer.the-variants.{Frame as FeedFrame, NeedsMore, Refused as FeedRefused}
 use Rattle.frame.specs.declared.reader.Quieted.{Quieted}
 
 -- The number of calls in a list.
@@ -47,16 +46,14 @@ lastState (quietRefused buf buf′ a p n later) = lastState later
 lastState (done {r}) = r
 
 -- The chunks still to be offered after an answer to the first: its rest again, until "needs more".
-abbrev pub chunksAfter : FeedAnswer → List ℕ → List (List ℕ) → List (List ℕ)
-chunksAfter (FeedFrame k noise len) chunk chunks = drop k chunk ∷ chunks
-chunksAfter (NeedsMore k noise) chunk chunks = chunks
-chunksAfter (FeedRefused r) chunk chunks = chunk ∷ chunks
+abbrev pub chunksAfter : Values → List ℕ → List (List ℕ) → List (List ℕ)
+chunksAfter v chunk chunks = cond (v .isFrame) (drop (v .taken) chunk ∷ chunks) chunks
 
 -- The calls offer these chunks in order, each one's rest again until "needs more"; then come the quiet calls, up to "empty". None is
 -- refused.
 abbrev pub Offers : {phase : Phase} {r : Reader} {todo : List ℕ} {out : Output (List ℕ)} → Calls phase r todo out → List (List ℕ) → Type 0
 Offers (fed offered more buf buf′ a p n e later) [] = ⊥
-Offers (fed offered more buf buf′ a p n e later) (chunk ∷ chunks) = (offered ≡ chunk) × Offers later (chunksAfter (a .answer) chunk chunks)
+Offers (fed offered more buf buf′ a p n e later) (chunk ∷ chunks) = (offered ≡ chunk) × Offers later (chunksAfter (feedValuesOf (a .answer)) chunk chunks)
 Offers (taken later) [] = Offers later []
 Offers (taken later) (chunk ∷ chunks) = ⊥
 Offers (quieted buf buf′ a p n later) chunks = Offers later chunks

@@ -2,6 +2,8 @@
 -- "piece" is called chunk here, and its "wants more" needs more.
 pub mod Checks
 pub mod Binary
+pub mod Digit
+pub mod Hex
 pub mod Ascii
 pub mod Framing
 pub mod Refusal
@@ -10,6 +12,7 @@ pub mod Claims
 pub mod Rule
 pub mod Reader
 pub mod Calls
+pub mod View
 pub mod Draining
 pub mod Recovery
 pub mod Driving

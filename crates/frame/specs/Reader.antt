@@ -1,38 +1,48 @@
 -- The line reader's calls. Document 01, "The leftmost rule and the line reader" and "Refusal numbers".
-use Prim.Native.Nat.{ℕ, suc, _+_, _-_, _≤_}
+use Prim.Native.Nat.{ℕ, suc}
 use mathlib.Core.Path.{_≡_}
 use mathlib.Core.List.{List, [], _∷_, _++_}
 use mathlib.Core.Bool.{Bool, true, false, cond}
 use lib.Dec.{leb, eqb}
 use lib.ListN.{length, take, drop, replicate}
 use Rattle.frame.specs.Checks.{Verdict, cut, refused, frame}
-use Rattle.frame.specs.Framing.{read, limit, inFront}
+use Rattle.frame.specs.Framing.{judge, limit, inFront}
 use Rattle.frame.specs.Refusal.{numberOf}
 use Rattle.frame.specs.Rule.{Output, nothing, noiseByte, handed, join}
 use Rattle.frame.specs.declared.framing.Framing.{Framing}
 use Rattle.frame.specs.declared.reader.Reader.{Reader}
 use Rattle.frame.specs.declared.reader.Fed.{Fed}
-use Rattle.frame.specs.declared.reader.FeedAnswer.{FeedAnswer}
-use Rattle.frame.specs.declared.reader.FeedAnswer.the-variants.{Frame as FeedFrame, NeedsMore, Refused as FeedRefused}
-use Rattle.frame.specs.declared.reader.First.{First}
+use Rattle.frame.specs.declared.answer.FeedAnswer.{FeedAnswer}
+use Rattle.frame.specs.declared.answer.FeedAnswer.the-variants.{Frame as FeedFrame, NeedsMore, Refused as FeedRefused}
 use Rattle.frame.specs.declared.reader.Quieted.{Quieted}
-use Rattle.frame.specs.declared.reader.QuietAnswer.{QuietAnswer}
-use Rattle.frame.specs.declared.reader.QuietAnswer.the-variants.{Frame as QuietFrame, Empty, Refused as QuietRefused}
+use Rattle.frame.specs.declared.answer.QuietAnswer.{QuietAnswer}
+use Rattle.frame.specs.declared.answer.QuietAnswer.the-variants.{Frame as QuietFrame, Empty, Refused as QuietRefused}
+
+-- What a reader's calls depend on: its framing, and the bytes that it holds.
+pub record State : Type 0 where
+  pub framing : Framing
+  pub held : List ℕ
+
+abbrev pub holding : Framing → List ℕ → State
+holding f h = record { framing = f; held = h }
 
 -- Bytes after judging: what they gave, and those that are still held.
 pub record Settled : Type 0 where
   pub out : Output (List ℕ)
   pub rest : List ℕ
 
+abbrev pub settled : Output (List ℕ) → List ℕ → Settled
+settled out rest = record { out = out; rest = rest }
+
 -- The held bytes h, judged so: undecided, they stay; a frame is handed out; a failed start loses one byte, and the rest is judged again.
 abbrev pub settleAs : Verdict → List ℕ → Settled → Settled
-settleAs cut h later = record { out = nothing; rest = h }
-settleAs (refused judged n) h later = record { out = join noiseByte (later .out); rest = later .rest }
-settleAs (frame used p) h later = record { out = handed p; rest = drop used h }
+settleAs cut h later = settled nothing h
+settleAs (refused judged n) h later = settled (join noiseByte (later .out)) (later .rest)
+settleAs (frame used p) h later = settled (handed p) (drop used h)
 
 unfoldable pub settle : (List ℕ → Verdict) → List ℕ → Settled
-settle judge [] = record { out = nothing; rest = [] }
-settle judge (b ∷ h) = let later : Settled = settle judge h in settleAs (judge (b ∷ h)) (b ∷ h) later
+settle judgement [] = settled nothing []
+settle judgement (b ∷ h) = let later : Settled = settle judgement h in settleAs (judgement (b ∷ h)) (b ∷ h) later
 
 -- What a call gives: bytes taken, what came out, the bytes held afterwards.
 pub record Called : Type 0 where
@@ -40,13 +50,16 @@ pub record Called : Type 0 where
   pub out : Output (List ℕ)
   pub held : List ℕ
 
+abbrev pub called : ℕ → Output (List ℕ) → List ℕ → Called
+called taken out held = record { taken = taken; out = out; held = held }
+
 -- The call stops here.
 abbrev pub stopped : Settled → Called
-stopped st = record { taken = 0; out = st .out; held = st .rest }
+stopped st = called 0 (st .out) (st .rest)
 
 -- The call took one byte more, after `out` had come out.
 abbrev pub oneMore : Output (List ℕ) → Called → Called
-oneMore out c = record { taken = suc (c .taken); out = join out (c .out); held = c .held }
+oneMore out c = called (suc (c .taken)) (join out (c .out)) (c .held)
 
 -- A frame came out: the first; otherwise the second.
 abbrev pub ifFrame : List (List ℕ) → Called → Called → Called
@@ -58,11 +71,11 @@ ifFrame (p ∷ ps) a b = a
 unfoldable pub lineFrom : Framing → Settled → List ℕ → Called
 lineFrom f st [] = stopped st
 lineFrom f st (b ∷ chunk) =
-    let next : Called = oneMore (st .out) (lineFrom f (settle (read f) (st .rest ++ (b ∷ []))) chunk) in
+    let next : Called = oneMore (st .out) (lineFrom f (settle (judge f) (st .rest ++ (b ∷ []))) chunk) in
     ifFrame (st .out .frames) (stopped st) next
 
-unfoldable pub line : Framing → List ℕ → List ℕ → Called
-line f held chunk = lineFrom f (settle (read f) held) chunk
+unfoldable pub line : State → List ℕ → Called
+line s chunk = lineFrom (s .framing) (settle (judge (s .framing)) (s .held)) chunk
 
 -- At a quiet the held bytes end the segment: an unfinished frame fails like any other. (How many bytes were judged is of no use here.)
 abbrev pub ended : Verdict → Verdict
@@ -70,22 +83,25 @@ ended cut = refused 0 2
 ended (refused judged n) = refused judged n
 ended (frame used p) = frame used p
 
-unfoldable pub quiet : Framing → List ℕ → Called
-quiet f held = stopped (settle (λ s. ended (read f s)) held)
+unfoldable pub quiet : State → Called
+quiet s = stopped (settle (λ h. ended (judge (s .framing) h)) (s .held))
 
--- A new reader's state.
+-- The state that follows a call.
+abbrev pub after : State → Called → State
+after s c = holding (s .framing) (c .held)
+
+-- The state of a reader: the bytes that it holds are the first `count` of its array.
+abbrev pub stateOf : Reader → State
+stateOf r = holding (r .framing) (take (r .count) (r .held))
+
+-- A reader with this state; the other bytes of its array may be any.
+pub record Holds (s : State) (r : Reader) : Type 0 where
+  pub state : stateOf r ≡ s
+  pub count : r .count ≡ length (s .held)
+
+-- A new reader.
 abbrev pub newReader : Framing → Reader
 newReader f = record { framing = f; held = replicate 517 0; count = 0 }
-
--- The bytes that a state holds.
-abbrev pub heldIn : Reader → List ℕ
-heldIn r = take (r .count) (r .held)
-
--- A state with this framing and these held bytes; the other bytes of its array may be any.
-pub record Holds (f : Framing) (h : List ℕ) (r : Reader) : Type 0 where
-  pub framing : r .framing ≡ f
-  pub count : r .count ≡ length h
-  pub bytes : heldIn r ≡ h
 
 -- An answer as document 01 has it: the refusal's number, 0 for none, bytes taken, noise, the payload's length, and whether there is one.
 pub record Values : Type 0 where
@@ -98,21 +114,27 @@ pub record Values : Type 0 where
 abbrev pub refusalValues : ℕ → Values
 refusalValues n = record { number = n; taken = 0; noise = 0; len = 0; isFrame = false }
 
--- The numbers of each answer.
+abbrev pub frameValues : ℕ → ℕ → ℕ → Values
+frameValues taken noise len = record { number = 0; taken = taken; noise = noise; len = len; isFrame = true }
+
+abbrev pub noFrameValues : ℕ → ℕ → Values
+noFrameValues taken noise = record { number = 0; taken = taken; noise = noise; len = 0; isFrame = false }
+
+-- The values of each answer; everything else that is said of answers goes by them.
 abbrev pub feedValuesOf : FeedAnswer → Values
-feedValuesOf (FeedFrame taken noise len) = record { number = 0; taken = taken; noise = noise; len = len; isFrame = true }
-feedValuesOf (NeedsMore taken noise) = record { number = 0; taken = taken; noise = noise; len = 0; isFrame = false }
+feedValuesOf (FeedFrame taken noise len) = frameValues taken noise len
+feedValuesOf (NeedsMore taken noise) = noFrameValues taken noise
 feedValuesOf (FeedRefused r) = refusalValues (numberOf r)
 
 abbrev pub quietValuesOf : QuietAnswer → Values
-quietValuesOf (QuietFrame noise len) = record { number = 0; taken = 0; noise = noise; len = len; isFrame = true }
-quietValuesOf (Empty noise) = record { number = 0; taken = 0; noise = noise; len = 0; isFrame = false }
+quietValuesOf (QuietFrame noise len) = frameValues 0 noise len
+quietValuesOf (Empty noise) = noFrameValues 0 noise
 quietValuesOf (QuietRefused r) = refusalValues (numberOf r)
 
--- The numbers of a call that is not refused, by the payloads that came out.
+-- The values of a call that is not refused, by the payloads that came out.
 abbrev pub calledValues : Called → List (List ℕ) → Values
-calledValues c [] = record { number = 0; taken = c .taken; noise = c .out .noise; len = 0; isFrame = false }
-calledValues c (p ∷ ps) = record { number = 0; taken = c .taken; noise = c .out .noise; len = length p; isFrame = true }
+calledValues c [] = noFrameValues (c .taken) (c .out .noise)
+calledValues c (p ∷ ps) = frameValues (c .taken) (c .out .noise) (length p)
 
 abbrev pub valuesAt : Called → Values
 valuesAt c = calledValues c (c .out .frames)
@@ -122,55 +144,48 @@ abbrev pub bufferAt : List (List ℕ) → List ℕ → List ℕ
 bufferAt [] buf = buf
 bufferAt (p ∷ ps) buf = inFront p buf
 
--- The refusals of the quiet call: 16, 13; of the line call: 16, 13, 15. 0: none.
+-- The refusals of a quiet call: 16, unless the state is sound, then 13; of a line call: 16, 13, 15. 0: none.
+abbrev pub quietNumber : Bool → ℕ → ℕ
+quietNumber sound room = cond sound (cond (leb 256 room) 0 13) 16
+
+abbrev pub lineNumber : Bool → ℕ → ℕ → ℕ
+lineNumber sound room size = cond sound (cond (leb 256 room) (cond (leb size 65536) 0 15) 13) 16
+
+-- A state is sound where it holds no more bytes than the longest frame has.
+abbrev pub sound : Reader → Bool
+sound r = leb (r .count) (limit (r .framing))
+
 abbrev pub quietRefusal : Reader → ℕ → ℕ
-quietRefusal r room = cond (leb (r .count) (limit (r .framing))) (cond (leb 256 room) 0 13) 16
+quietRefusal r room = quietNumber (sound r) room
 
 abbrev pub feedRefusal : Reader → ℕ → ℕ → ℕ
-feedRefusal r room size = cond (leb (r .count) (limit (r .framing))) (cond (leb 256 room) (cond (leb size 65536) 0 15) 13) 16
+feedRefusal r room size = lineNumber (sound r) room size
 
--- What a call promises, where its refusal is `number`, 0 for none, and otherwise it gives c and the state that follows has the property Next:
--- numbers, state and buffer.
-pub record Promise (number : ℕ) (c : Called) (Next : Reader → Type 0) (r : Reader) (buf : List ℕ) (values : Values) (r′ : Reader) (buf′ : List ℕ) : Type 0 where
-  pub refuses : (eqb number 0 ≡ false) → (values ≡ refusalValues number) × (r′ ≡ r) × (buf′ ≡ buf)
-  pub answers : (eqb number 0 ≡ true) → (values ≡ valuesAt c) × Next r′ × (buf′ ≡ bufferAt (c .out .frames) buf)
+-- What any call with a state and a buffer promises, by its refusal's number, 0 for none. Refused, it answers `refusal`, and state and buffer stay.
+-- Otherwise it answers `answer`, the state that follows has the property Next, and the buffer holds `filled`.
+pub record Promise {A S : Type 0} (number : ℕ) (refusal answer : A) (Next : S → Type 0) (filled : List ℕ)
+    (s : S) (buf : List ℕ) (values : A) (s′ : S) (buf′ : List ℕ) : Type 0 where
+  pub refuses : (eqb number 0 ≡ false) → (values ≡ refusal) × (s′ ≡ s) × (buf′ ≡ buf)
+  pub answers : (eqb number 0 ≡ true) → (values ≡ answer) × Next s′ × (buf′ ≡ filled)
 
--- The promise of a line call with the state r, a chunk and a buffer.
+-- The promise of a reader's call that gives c.
+abbrev pub Gives : {S : Type 0} → ℕ → Called → (S → Type 0) → S → List ℕ → Values → S → List ℕ → Type 0
+Gives number c Next s buf values s′ buf′ =
+    Promise number (refusalValues number) (valuesAt c) Next (bufferAt (c .out .frames) buf) s buf values s′ buf′
+
+-- The promise of a line call with the reader r, a chunk and a buffer.
 abbrev pub Feeds : Reader → List ℕ → List ℕ → Fed → List ℕ → Type 0
 Feeds r chunk buf fed buf′ =
-    Promise (feedRefusal r (length buf) (length chunk)) (line (r .framing) (heldIn r) chunk)
-    (Holds (r .framing) (line (r .framing) (heldIn r) chunk .held)) r buf (feedValuesOf (fed .answer)) (fed .reader) buf′
+    let c : Called = line (stateOf r) chunk in
+    Gives (feedRefusal r (length buf) (length chunk)) c (Holds (after (stateOf r) c)) r buf (feedValuesOf (fed .answer)) (fed .reader) buf′
 
--- After a quiet call: a fresh state where no frame came out.
-abbrev pub AfterQuiet : Framing → Called → List (List ℕ) → Reader → Type 0
-AfterQuiet f c [] r = r ≡ newReader f
-AfterQuiet f c (p ∷ ps) r = Holds f (c .held) r
+-- After a quiet call: a new reader where no frame came out.
+abbrev pub AfterQuiet : State → Called → List (List ℕ) → Reader → Type 0
+AfterQuiet s c [] r = r ≡ newReader (s .framing)
+AfterQuiet s c (p ∷ ps) r = Holds (after s c) r
 
--- The promise of a quiet call with the state r and a buffer.
+-- The promise of a quiet call with the reader r and a buffer.
 abbrev pub Quiets : Reader → List ℕ → Quieted → List ℕ → Type 0
 Quiets r buf q buf′ =
-    Promise (quietRefusal r (length buf)) (quiet (r .framing) (heldIn r))
-    (AfterQuiet (r .framing) (quiet (r .framing) (heldIn r)) (quiet (r .framing) (heldIn r) .out .frames)) r buf
-    (quietValuesOf (q .answer)) (q .reader) buf′
-
--- What c gives, where the bytes held afterwards are a part of w: from `from` up to `end`.
-pub record Tells (c : Called) (w buf : List ℕ) (told : First) (buf′ : List ℕ) : Type 0 where
-  pub values : feedValuesOf (told .answer) ≡ valuesAt c
-  pub held : take (told .end - told .from) (drop (told .from) w) ≡ c .held
-  pub inside : told .from ≤ told .end
-  pub there : told .end ≤ length w
-  pub most : told .end ≤ told .from + 517
-  pub buffer : buf′ ≡ bufferAt (c .out .frames) buf
-
--- The refusals of a first call: 13, 15. 0: none.
-abbrev pub firstRefusal : ℕ → ℕ → ℕ
-firstRefusal room size = cond (leb 256 room) (cond (leb size 65536) 0 15) 13
-
--- The promise of a first call: what a new reader's line call gives, without the state.
-pub record Firsts (f : Framing) (chunk buf : List ℕ) (a : First) (buf′ : List ℕ) : Type 0 where
-  pub refuses :
-      (eqb (firstRefusal (length buf) (length chunk)) 0 ≡ false) →
-      (feedValuesOf (a .answer) ≡ refusalValues (firstRefusal (length buf) (length chunk))) × (a .from ≡ 0) × (a .end ≡ 0) × (buf′ ≡ buf)
-  pub answers : (eqb (firstRefusal (length buf) (length chunk)) 0 ≡ true) → Tells (line f [] chunk) chunk buf a buf′
-  -- The part that it would hold is the last of the bytes that were taken.
-  pub stands : (eqb (firstRefusal (length buf) (length chunk)) 0 ≡ true) → a .end ≡ line f [] chunk .taken
+    let c : Called = quiet (stateOf r) in
+    Gives (quietRefusal r (length buf)) c (AfterQuiet (stateOf r) c (c .out .frames)) r buf (quietValuesOf (q .answer)) (q .reader) buf′

@@ -7,9 +7,9 @@ use mathlib.Core.Logic.{_⊎_}
 use lib.Dec.{leb, ltb}
 use lib.ListN.{length, getD}
 use Rattle.frame.specs.Checks.{Verdict, cut, refused, frame}
-use Rattle.frame.specs.Framing.{read}
-use Rattle.frame.specs.Rule.{Output, join, Found, rule, payloads}
-use Rattle.frame.specs.Reader.{newReader, line}
+use Rattle.frame.specs.Framing.{judge, read}
+use Rattle.frame.specs.Rule.{Output, output, join, Found, foundAt, rule, payloads}
+use Rattle.frame.specs.Reader.{State, holding, Called, line, newReader}
 use Rattle.frame.specs.Calls.{Calls, offering}
 use Rattle.frame.specs.declared.framing.Framing.{Framing}
 use Rattle.frame.specs.declared.framing.Framing.the-variants.{Binary, Ascii}
@@ -38,13 +38,13 @@ payloadIn (frame used p) = p
 abbrev pub foundsFrom : Framing → ℕ → List (List ℕ) → List Found
 foundsFrom f place [] = []
 foundsFrom f place (g ∷ gs) =
-    record { place = place; used = length g; payload = payloadIn (read f g) } ∷ foundsFrom f (place + length g) gs
+    foundAt place (length g) (payloadIn (read f g)) ∷ foundsFrom f (place + length g) gs
 
 -- The rule over damage and a stretch in ASCII framing: what the damage alone gives, then every good frame, in order, and no noise.
 abbrev pub AsciiRecovers : Type 0
 AsciiRecovers =
     (damage : List ℕ) (gs : List (List ℕ)) → Stretch Ascii gs →
-    rule Ascii (damage ++ concat gs) ≡ join (rule Ascii damage) (record { frames = foundsFrom Ascii (length damage) gs; noise = 0 })
+    rule Ascii (damage ++ concat gs) ≡ join (rule Ascii damage) (output (foundsFrom Ascii (length damage) gs) 0)
 
 -- The places at which the frames of a stretch begin, the first at `place`.
 abbrev pub starts : ℕ → List (List ℕ) → List ℕ
@@ -103,7 +103,7 @@ LateFramesComeBack =
 
 -- With no damage, in either framing and without the proviso: every good frame, in order, and no noise.
 abbrev pub CleanLine : Framing → Type 0
-CleanLine f = (gs : List (List ℕ)) → Stretch f gs → rule f (concat gs) ≡ record { frames = foundsFrom f 0 gs; noise = 0 }
+CleanLine f = (gs : List (List ℕ)) → Stretch f gs → rule f (concat gs) ≡ output (foundsFrom f 0 gs) 0
 
 -- Any list of calls hands out what the rule gives over the whole segment.
 abbrev pub CallsFollowRule : Framing → Type 0
@@ -119,7 +119,7 @@ abbrev pub AsciiCallsRecover : Type 0
 AsciiCallsRecover =
     (damage : List ℕ) (gs : List (List ℕ)) (out : Output (List ℕ)) → Stretch Ascii gs →
     Calls offering (newReader Ascii) (damage ++ concat gs) out →
-    out ≡ join (payloads (rule Ascii damage)) (record { frames = payloadsOf Ascii gs; noise = 0 })
+    out ≡ join (payloads (rule Ascii damage)) (output (payloadsOf Ascii gs) 0)
 
 -- What calls over damage and a stretch in binary framing hand out: the payloads of the frames that begin in the damage, then those of the
 -- good frames clear of them, among which are all that begin 260 or more bytes into the stretch; the noise is the rule's.
@@ -140,7 +140,7 @@ BinaryCallsRecover =
 abbrev pub CleanCalls : Framing → Type 0
 CleanCalls f =
     (gs : List (List ℕ)) (out : Output (List ℕ)) → Stretch f gs → Calls offering (newReader f) (concat gs) out →
-    out ≡ record { frames = payloadsOf f gs; noise = 0 }
+    out ≡ output (payloadsOf f gs) 0
 
 -- The bytes of a segment are those of its frames and noise.
 abbrev pub usedBytes : List Found → ℕ
@@ -151,15 +151,16 @@ abbrev pub BytesAddUp : Framing → Type 0
 BytesAddUp f = (s : List ℕ) → usedBytes (rule f s .frames) + rule f s .noise ≡ length s
 
 -- A line call takes no more bytes than the chunk has.
-abbrev pub TakenIsInside : Framing → Type 0
-TakenIsInside f = (held chunk : List ℕ) → line f held chunk .taken ≤ length chunk
+abbrev pub TakenIsInside : Type 0
+TakenIsInside = (s : State) (chunk : List ℕ) → line s chunk .taken ≤ length chunk
 
 -- A line call that hands out no frame has taken the whole chunk, and holds nothing or undecided bytes.
-abbrev pub NeedsMoreIsTrue : Framing → Type 0
-NeedsMoreIsTrue f =
-    (held chunk : List ℕ) → line f held chunk .out .frames ≡ [] →
-    (line f held chunk .taken ≡ length chunk) × ((line f held chunk .held ≡ []) ⊎ (read f (line f held chunk .held) ≡ cut))
+abbrev pub NeedsMoreIsTrue : Type 0
+NeedsMoreIsTrue =
+    (s : State) (chunk : List ℕ) →
+    let c : Called = line s chunk in
+    c .out .frames ≡ [] → (c .taken ≡ length chunk) × ((c .held ≡ []) ⊎ (judge (s .framing) (c .held) ≡ cut))
 
 -- A line call hands out, noise too, what it would with nothing held and the held bytes put before the chunk.
-abbrev pub HeldIsHeard : Framing → Type 0
-HeldIsHeard f = (held chunk : List ℕ) → line f held chunk .out ≡ line f [] (held ++ chunk) .out
+abbrev pub HeldIsHeard : Type 0
+HeldIsHeard = (s : State) (chunk : List ℕ) → line s chunk .out ≡ line (holding (s .framing) []) (s .held ++ chunk) .out

@@ -4,7 +4,7 @@ use Prim.Native.Nat.{ℕ, _+_, _≤_}
 use mathlib.Core.Path.{_≡_}
 use mathlib.Core.List.{List, [], _∷_, _++_, List·Memᴰ}
 use lib.ListN.{length, take, drop, replicate}
-use Rattle.frame.specs.Rule.{Found, rule}
+use Rattle.frame.specs.Rule.{output, Found, foundAt, rule}
 use Rattle.frame.specs.Recovery.{Stretch, concat, foundsFrom, PairsBegin}
 use Rattle.frame.specs.declared.framing.Framing.the-variants.{Binary}
 
@@ -18,7 +18,7 @@ blank n = 0xA5 ∷ 0x5A ∷ 0x80 ∷ n ∷ (replicate n 0 ++ (0x00 ∷ 0x04 ∷ 
 
 -- A response found at a place.
 abbrev pub responseAt : ℕ → Found
-responseAt place = record { place = place; used = 10; payload = 0xDB ∷ 0xA1 ∷ 0x80 ∷ 0x01 ∷ [] }
+responseAt place = foundAt place 10 (0xDB ∷ 0xA1 ∷ 0x80 ∷ 0x01 ∷ [])
 
 -- The start of a frame with 256 bytes of payload.
 abbrev pub strayStart : List ℕ
@@ -34,10 +34,7 @@ pub record LostAndBack : Type 0 where
   pub pairs : PairsBegin swallowed
   pub frames :
       rule Binary (strayStart ++ concat swallowed)
-      ≡ record {
-        frames = record { place = 0; used = 262; payload = take 256 (concat swallowed) } ∷ responseAt 262 ∷ responseAt 272 ∷ [];
-        noise = 0;
-      }
+      ≡ output (foundAt 0 262 (take 256 (concat swallowed)) ∷ responseAt 262 ∷ responseAt 272 ∷ []) 0
 
 -- A good frame of 262 bytes whose payload holds another frame's start, and one that happens to complete that start.
 abbrev pub holdsStart : List ℕ
@@ -55,7 +52,7 @@ shortStart = 0xA5 ∷ 0x5A ∷ 0x80 ∷ 0x04 ∷ []
 
 -- The second good frame, which begins 262 bytes into the stretch.
 abbrev pub lostFrame : Found
-lostFrame = record { place = 266; used = 10; payload = 0x7B ∷ 0x04 ∷ 0x00 ∷ 0x00 ∷ [] }
+lostFrame = foundAt 266 10 (0x7B ∷ 0x04 ∷ 0x00 ∷ 0x00 ∷ [])
 
 -- Without the proviso: it is lost to a frame that begins inside the first good one.
 pub record ProvisoNeeded : Type 0 where
@@ -64,12 +61,5 @@ pub record ProvisoNeeded : Type 0 where
   pub late : length shortStart + 260 ≤ lostFrame .place
   pub frames :
       rule Binary (shortStart ++ concat unguarded)
-      ≡ record {
-        frames =
-            record { place = 0; used = 10; payload = strayStart }
-            ∷ record { place = 10; used = 262; payload = take 256 (drop 10 (concat unguarded)) }
-            ∷ responseAt 276
-            ∷ [];
-        noise = 4;
-      }
+      ≡ output (foundAt 0 10 strayStart ∷ foundAt 10 262 (take 256 (drop 10 (concat unguarded))) ∷ responseAt 276 ∷ []) 4
   pub lost : List·Memᴰ lostFrame (rule Binary (shortStart ++ concat unguarded) .frames) → ⊥

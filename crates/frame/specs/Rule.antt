@@ -11,18 +11,38 @@ pub record Output (A : Type 0) : Type 0 where
   pub noise : ℕ
 
 module _ {A : Type 0} where
+  abbrev pub output : List A → ℕ → Output A
+  output frames noise = record { frames = frames; noise = noise }
+
   abbrev pub nothing : Output A
-  nothing = record { frames = []; noise = 0 }
+  nothing = output [] 0
 
   abbrev pub noiseByte : Output A
-  noiseByte = record { frames = []; noise = 1 }
+  noiseByte = output [] 1
 
   abbrev pub handed : A → Output A
-  handed x = record { frames = x ∷ []; noise = 0 }
+  handed x = output (x ∷ []) 0
 
   -- One output and then another.
   unfoldable pub join : Output A → Output A → Output A
-  join a b = record { frames = a .frames ++ b .frames; noise = a .noise + b .noise }
+  join a b = output (a .frames ++ b .frames) (a .noise + b .noise)
+
+-- How far the rule goes on from a place: behind the last byte of a frame that fails nothing, otherwise by one. At the segment's end an
+-- unfinished frame fails like any other.
+abbrev pub onBy : Verdict → ℕ
+onBy cut = 1
+onBy (refused judged n) = 1
+onBy (frame used p) = used
+
+-- How many bytes behind a place it passes over.
+abbrev pub passAfter : Verdict → ℕ
+passAfter v = pred (onBy v)
+
+-- The places at which the rule stands in s, with `pass` bytes to pass over first: each as the bytes from there on.
+unfoldable pub places : Framing → ℕ → List ℕ → List (List ℕ)
+places f pass [] = []
+places f zero (b ∷ s) = (b ∷ s) ∷ places f (passAfter (read f (b ∷ s))) s
+places f (suc pass) (b ∷ s) = places f pass s
 
 -- A frame of a segment: the place at which it begins, the bytes it uses, its payload.
 pub record Found : Type 0 where
@@ -30,30 +50,24 @@ pub record Found : Type 0 where
   pub used : ℕ
   pub payload : List ℕ
 
--- What the rule gives at a place: a frame that fails nothing is handed out, otherwise one byte is noise. At the segment's end an
--- unfinished frame fails like any other.
+abbrev pub foundAt : ℕ → ℕ → List ℕ → Found
+foundAt place used p = record { place = place; used = used; payload = p }
+
+-- What the rule gives at a place: a frame is handed out, otherwise one byte is noise.
 abbrev pub outAt : ℕ → Verdict → Output Found
 outAt place cut = noiseByte
 outAt place (refused judged n) = noiseByte
-outAt place (frame used p) = handed (record { place = place; used = used; payload = p })
+outAt place (frame used p) = handed (foundAt place used p)
 
--- How many bytes behind that place the rule passes over: those of the frame.
-abbrev pub passAfter : Verdict → ℕ
-passAfter cut = 0
-passAfter (refused judged n) = 0
-passAfter (frame used p) = pred used
+-- What it gives at places in order, the first of which is `place`.
+unfoldable pub outFrom : Framing → ℕ → List (List ℕ) → Output Found
+outFrom f place [] = nothing
+outFrom f place (s ∷ ss) = join (outAt place (read f s)) (outFrom f (place + onBy (read f s)) ss)
 
--- The rule over s, whose first byte stands at `place`, with `pass` bytes to pass over first.
-unfoldable pub ruleFrom : Framing → ℕ → ℕ → List ℕ → Output Found
-ruleFrom f place pass [] = nothing
-ruleFrom f place zero (b ∷ s) =
-    join (outAt place (read f (b ∷ s))) (ruleFrom f (suc place) (passAfter (read f (b ∷ s))) s)
-ruleFrom f place (suc pass) (b ∷ s) = ruleFrom f (suc place) pass s
-
--- The rule over a whole segment.
-abbrev pub rule : Framing → List ℕ → Output Found
-rule f s = ruleFrom f 0 0 s
+-- The rule over a whole segment: it starts at place 0.
+unfoldable pub rule : Framing → List ℕ → Output Found
+rule f s = outFrom f 0 (places f 0 s)
 
 -- The payloads of an output, with its noise.
 abbrev pub payloads : Output Found → Output (List ℕ)
-payloads o = record { frames = map (λ (x : Found). x .payload) (o .frames); noise = o .noise }
+payloads o = output (map (λ (x : Found). x .payload) (o .frames)) (o .noise)

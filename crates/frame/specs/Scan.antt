@@ -1,5 +1,5 @@
 -- How the code behind the line reader finds a frame: by judging whole slices, not byte by byte. Only contracts of functions behind the public
--- calls cite these definitions; proofs/ shows that `scanLine` gives what `line` gives.
+-- calls cite these definitions; proofs/ shows that what is made of a scan is what `line` gives.
 use Prim.Native.Nat.{ℕ, zero, suc, _+_, _-_, _≤_, max}
 use mathlib.Core.Path.{_≡_}
 use mathlib.Core.List.{List, [], _∷_, _++_}
@@ -7,26 +7,27 @@ use mathlib.Core.Bool.{Bool, true, false, not}
 use lib.Dec.{eqb}
 use lib.ListN.{length, take, drop}
 use Rattle.frame.specs.Checks.{Verdict, cut, refused, frame}
-use Rattle.frame.specs.Framing.{read, limit, inFront}
+use Rattle.frame.specs.Framing.{judge, limit, inFront}
 use Rattle.frame.specs.Ascii.{colon}
 use Rattle.frame.specs.Judged.{payloadAt, every}
-use Rattle.frame.specs.Reader.{Called, ended, Holds, AfterQuiet, feedValuesOf, quietValuesOf, valuesAt, bufferAt}
+use Rattle.frame.specs.Rule.{output}
+use Rattle.frame.specs.Reader.{State, holding, Called, called, line, ended, AfterQuiet, feedValuesOf, quietValuesOf, valuesAt, bufferAt}
+use Rattle.frame.specs.View.{part}
 use Rattle.frame.specs.declared.framing.Framing.{Framing}
 use Rattle.frame.specs.declared.framing.Framing.the-variants.{Binary, Ascii}
 use Rattle.frame.specs.declared.scan.ScanResult.{ScanResult}
 use Rattle.frame.specs.declared.scan.ScanEnd.{ScanEnd}
 use Rattle.frame.specs.declared.scan.ScanEnd.the-variants.{Frame, Undecided, Passed}
-use Rattle.frame.specs.declared.reader.Reader.{Reader}
-use Rattle.frame.specs.declared.reader.Fed.{Fed}
+use Rattle.frame.specs.declared.answer.Before.{Before}
+use Rattle.frame.specs.declared.answer.Kept.{Kept}
+use Rattle.frame.specs.declared.reader.Left.{Left}
 use Rattle.frame.specs.declared.reader.Quieted.{Quieted}
 use Rattle.frame.specs.declared.reader.Joined.{Joined}
-use Rattle.frame.specs.declared.reader.Before.{Before}
-use Rattle.frame.specs.declared.reader.First.{First}
 
 -- The judge of a segment that goes on, or has ended.
 abbrev pub judging : Bool → Framing → List ℕ → Verdict
-judging true f s = ended (read f s)
-judging false f s = read f s
+judging true f s = ended (judge f s)
+judging false f s = judge f s
 
 -- How many bytes were judged for a decision.
 abbrev pub judgedBytes : Verdict → ℕ
@@ -46,18 +47,21 @@ pub record Scanned : Type 0 where
   pub reach : ℕ
   pub stop : Stop
 
+abbrev pub scannedTo : ℕ → ℕ → Stop → Scanned
+scannedTo place reach stop = record { place = place; reach = reach; stop = stop }
+
 -- The scan at a place with this verdict.
 abbrev pub scanAs : Verdict → ℕ → ℕ → Scanned → Scanned
-scanAs cut place reach later = record { place = place; reach = reach; stop = undecided }
+scanAs cut place reach later = scannedTo place reach undecided
 scanAs (refused judged n) place reach later = later
-scanAs (frame used p) place reach later = record { place = place; reach = max reach (place + used); stop = found used p }
+scanAs (frame used p) place reach later = scannedTo place (max reach (place + used)) (found used p)
 
 -- The scan of s, whose first byte stands at `place`, over n places; bytes up to `reach` were judged before.
 unfoldable pub scanFrom : (List ℕ → Verdict) → ℕ → ℕ → ℕ → List ℕ → Scanned
-scanFrom judge zero place reach s = record { place = place; reach = reach; stop = passed }
-scanFrom judge (suc n) place reach s =
-    let later : Scanned = scanFrom judge n (suc place) (max reach (place + judgedBytes (judge s))) (drop 1 s) in
-    scanAs (judge s) place reach later
+scanFrom judgement zero place reach s = scannedTo place reach passed
+scanFrom judgement (suc n) place reach s =
+    let later : Scanned = scanFrom judgement n (suc place) (max reach (place + judgedBytes (judgement s))) (drop 1 s) in
+    scanAs (judgement s) place reach later
 
 -- The first byte of every frame.
 abbrev pub startOf : Framing → ℕ
@@ -86,7 +90,7 @@ stopOf f s Undecided = undecided
 stopOf f s Passed = passed
 
 abbrev pub scanned : Framing → List ℕ → ScanResult → Scanned
-scanned f s r = record { place = r .place; reach = r .reach; stop = stopOf f (drop (r .place) s) (r .end) }
+scanned f s r = scannedTo (r .place) (r .reach) (stopOf f (drop (r .place) s) (r .end))
 
 abbrev pub stoppedAt : ℕ → ℕ → ScanEnd → ScanResult
 stoppedAt place reach end = record { place = place; reach = reach; end = end }
@@ -103,64 +107,42 @@ abbrev pub passedBy : Framing → ℕ → ℕ
 passedBy Binary judged = 1
 passedBy Ascii judged = judged - 1
 
--- What a scan of w gives as a call, by what was there before it: `base` bytes of w were held, `noise` bytes were settled, and the chunk has
--- `size` bytes.
+-- What was there before a scan: `base` bytes of the slice were held, `noise` bytes were settled, and the chunk has `size` bytes.
+abbrev pub beforeScan : ℕ → ℕ → ℕ → Before
+beforeScan base noise size = record { base = base; noise = noise; size = size }
+
+-- What a scan of w that stopped so gives as a call.
 abbrev pub calledAs : Stop → Before → List ℕ → ℕ → ℕ → Called
 calledAs (found used p) before w place reach =
-    record {
-      taken = reach - before .base;
-      out = record { frames = p ∷ []; noise = before .noise + place };
-      held = take (reach - (place + used)) (drop (place + used) w);
-    }
-calledAs undecided before w place reach =
-    record { taken = before .size; out = record { frames = []; noise = before .noise + place }; held = drop place w }
-calledAs passed before w place reach =
-    record { taken = before .size; out = record { frames = []; noise = before .noise + place }; held = [] }
+    called (reach - before .base) (output (p ∷ []) (before .noise + place)) (part (place + used) reach w)
+calledAs undecided before w place reach = called (before .size) (output [] (before .noise + place)) (drop place w)
+calledAs passed before w place reach = called (before .size) (output [] (before .noise + place)) []
 
 abbrev pub calledBy : Before → List ℕ → Scanned → Called
-calledBy before w r = calledAs (r .stop) before w (r .place) (r .reach)
+calledBy before w x = calledAs (x .stop) before w (x .place) (x .reach)
 
--- The call over a chunk of which `reach` bytes were judged before and `noise` bytes before it were settled.
-abbrev pub scanChunk : Framing → ℕ → ℕ → List ℕ → Called
-scanChunk f noise reach chunk =
-    calledBy (record { base = 0; noise = noise; size = length chunk }) chunk (scanFrom (read f) (length chunk) 0 reach chunk)
+-- The call over all of w, whose first `base` bytes were held, where bytes up to `reach` were judged before and `noise` bytes before w were settled.
+abbrev pub scanWhole : Framing → ℕ → ℕ → ℕ → List ℕ → Called
+scanWhole f base noise reach w = calledBy (beforeScan base noise (length w - base)) w (scanFrom (judge f) (length w) 0 reach w)
 
 -- The held bytes and as much of the chunk as a frame that begins in them can have.
 abbrev pub joined : Framing → List ℕ → List ℕ → List ℕ
 joined f held chunk = held ++ take (limit f) chunk
 
 abbrev pub scanHeld : Framing → List ℕ → List ℕ → Scanned
-scanHeld f held chunk = scanFrom (read f) (length held) 0 (length held) (joined f held chunk)
-
-abbrev pub beforeHeld : List ℕ → List ℕ → Before
-beforeHeld held chunk = record { base = length held; noise = 0; size = length chunk }
+scanHeld f held chunk = scanFrom (judge f) (length held) 0 (length held) (joined f held chunk)
 
 -- The places among the held bytes first; where all fail, the chunk's.
 abbrev pub thenChunk : Stop → Framing → List ℕ → List ℕ → ℕ → ℕ → Called
-thenChunk passed f held chunk place reach = scanChunk f (length held) (reach - length held) chunk
-thenChunk undecided f held chunk place reach = calledAs undecided (beforeHeld held chunk) (joined f held chunk) place reach
-thenChunk (found used p) f held chunk place reach = calledAs (found used p) (beforeHeld held chunk) (joined f held chunk) place reach
+thenChunk passed f held chunk place reach = scanWhole f 0 (length held) (reach - length held) chunk
+thenChunk undecided f held chunk place reach =
+    calledAs undecided (beforeScan (length held) 0 (length chunk)) (joined f held chunk) place reach
+thenChunk (found used p) f held chunk place reach =
+    calledAs (found used p) (beforeScan (length held) 0 (length chunk)) (joined f held chunk) place reach
 
 unfoldable pub scanLine : Framing → List ℕ → List ℕ → Called
 scanLine f held chunk =
     thenChunk (scanHeld f held chunk .stop) f held chunk (scanHeld f held chunk .place) (scanHeld f held chunk .reach)
-
--- A function behind `feed` answers what c gives: numbers, state and buffer.
-pub record Answered (f : Framing) (c : Called) (buf : List ℕ) (fed : Fed) (buf′ : List ℕ) : Type 0 where
-  pub values : feedValuesOf (fed .answer) ≡ valuesAt c
-  pub state : Holds f (c .held) (fed .reader)
-  pub buffer : buf′ ≡ bufferAt (c .out .frames) buf
-
--- The answer that was told, with a state that holds that part of w.
-pub record Keeps (f : Framing) (w : List ℕ) (told : First) (fed : Fed) : Type 0 where
-  pub answer : fed .answer ≡ told .answer
-  pub state : Holds f (take (told .end - told .from) (drop (told .from) w)) (fed .reader)
-
--- After a quiet: the same as `Answered`, with the state that follows.
-pub record QuietAnswered (f : Framing) (c : Called) (buf : List ℕ) (q : Quieted) (buf′ : List ℕ) : Type 0 where
-  pub values : quietValuesOf (q .answer) ≡ valuesAt c
-  pub state : AfterQuiet f c (c .out .frames) (q .reader)
-  pub buffer : buf′ ≡ bufferAt (c .out .frames) buf
 
 -- Bytes joined in front of a larger array.
 pub record Joins (f : Framing) (held chunk : List ℕ) (j : Joined) : Type 0 where
@@ -169,45 +151,77 @@ pub record Joins (f : Framing) (held chunk : List ℕ) (j : Joined) : Type 0 whe
 
 -- A scan's result from which an answer can be made.
 abbrev pub Usable : Stop → Framing → List ℕ → ℕ → ℕ → Type 0
-Usable (found used p) f w place reach = (read f (drop place w) ≡ frame used p) × (place + used ≤ reach) × (reach ≤ place + 517)
-Usable undecided f w place reach = read f (drop place w) ≡ cut
+Usable (found used p) f w place reach = (judge f (drop place w) ≡ frame used p) × (place + used ≤ reach) × (reach ≤ place + 517)
+Usable undecided f w place reach = judge f (drop place w) ≡ cut
 Usable passed f w place reach = Unit {0}
 
-pub record Answerable (f : Framing) (w : List ℕ) (r : Scanned) (before : Before) : Type 0 where
-  pub usable : Usable (r .stop) f w (r .place) (r .reach)
-  pub inside : r .place ≤ length w
-  pub from : before .base ≤ r .reach
-  pub there : r .reach ≤ length w
+pub record Answerable (f : Framing) (w : List ℕ) (x : Scanned) (before : Before) : Type 0 where
+  pub usable : Usable (x .stop) f w (x .place) (x .reach)
+  pub inside : x .place ≤ length w
+  pub from : before .base ≤ x .reach
+  pub there : x .reach ≤ length w
   pub small : before .noise ≤ 517
 
--- Where the held part of w ends, by where the scan stopped.
-abbrev pub toldEnd : Stop → List ℕ → ℕ → ℕ
-toldEnd (found used p) w reach = reach
-toldEnd undecided w reach = length w
-toldEnd passed w reach = length w
+-- Where the kept part of w ends, by where the scan stopped.
+abbrev pub keptEnd : Stop → List ℕ → ℕ → ℕ
+keptEnd (found used p) w reach = reach
+keptEnd undecided w reach = length w
+keptEnd passed w reach = length w
 
--- What `answer` tells of a scan of w but for the buffer, which the scan has filled.
-pub record Told (before : Before) (w : List ℕ) (x : Scanned) (told : First) : Type 0 where
-  pub values : feedValuesOf (told .answer) ≡ valuesAt (calledBy before w x)
-  pub held : take (told .end - told .from) (drop (told .from) w) ≡ calledBy before w x .held
-  pub inside : told .from ≤ told .end
-  pub there : told .end ≤ length w
-  pub most : told .end ≤ told .from + 517
-  pub ends : told .end ≡ toldEnd (x .stop) w (x .reach)
+-- The answer that is made of a scan of w, and the part of w that is held afterwards. The buffer is another function's.
+pub record Keeps (before : Before) (w : List ℕ) (x : Scanned) (k : Kept) : Type 0 where
+  pub values : feedValuesOf (k .answer) ≡ valuesAt (calledBy before w x)
+  pub held : part (k .from) (k .end) w ≡ calledBy before w x .held
+  pub inside : k .from ≤ k .end
+  pub there : k .end ≤ length w
+  pub most : k .end ≤ k .from + 517
+  pub ends : k .end ≡ keptEnd (x .stop) w (x .reach)
 
--- What `feed_chunk`, `feed_places` and `feed_held` are called with.
-pub record ChunkFed (f : Framing) (chunk : List ℕ) (reach noise : ℕ) (buf : List ℕ) : Type 0 where
+-- The bytes of a kept part are the first of an array, and the answer goes on.
+pub record Stores (s : List ℕ) (k : Kept) (held : List ℕ) (left : Left) : Type 0 where
+  pub answer : left .answer ≡ k .answer
+  pub count : left .count ≡ length s
+  pub bytes : take (left .count) held ≡ s
+
+-- A function behind `feed` answers what c gives: values, the held bytes in the front of an array, and the buffer.
+pub record Leaves (c : Called) (buf : List ℕ) (left : Left) (held buf′ : List ℕ) : Type 0 where
+  pub values : feedValuesOf (left .answer) ≡ valuesAt c
+  pub count : left .count ≡ length (c .held)
+  pub bytes : take (left .count) held ≡ c .held
+  pub buffer : buf′ ≡ bufferAt (c .out .frames) buf
+
+-- The same of the line call where the first `count` bytes of an array are held.
+abbrev pub LeavesLine : Framing → List ℕ → ℕ → List ℕ → List ℕ → Left → List ℕ → List ℕ → Type 0
+LeavesLine f array count chunk buf left held buf′ = Leaves (line (holding f (take count array)) chunk) buf left held buf′
+
+-- A function behind `quiet` answers what c gives, with the reader that follows.
+pub record QuietAnswered (s : State) (c : Called) (buf : List ℕ) (q : Quieted) (buf′ : List ℕ) : Type 0 where
+  pub values : quietValuesOf (q .answer) ≡ valuesAt c
+  pub state : AfterQuiet s c (c .out .frames) (q .reader)
+  pub buffer : buf′ ≡ bufferAt (c .out .frames) buf
+
+-- The call over w, whose first `count` bytes are held and whose others are offered.
+abbrev pub lineOver : Framing → ℕ → List ℕ → Called
+lineOver f count w = line (holding f (take count w)) (drop count w)
+
+-- What a view's call answers, and the part of w that is held afterwards, where the first `count` bytes of w were held.
+pub record KeepsCall (c : Called) (count : ℕ) (w : List ℕ) (k : Kept) (buf buf′ : List ℕ) : Type 0 where
+  pub values : feedValuesOf (k .answer) ≡ valuesAt c
+  pub held : part (k .from) (k .end) w ≡ c .held
+  pub inside : k .from ≤ k .end
+  pub there : k .end ≤ length w
+  pub ends : k .end ≡ count + c .taken
+  pub buffer : buf′ ≡ bufferAt (c .out .frames) buf
+
+-- What `feed_chunk` is called with, and what `feed_long`, `feed_short` and `feed_on` are.
+pub record ChunkFed (f : Framing) (held chunk : List ℕ) (reach noise : ℕ) (buf : List ℕ) : Type 0 where
+  pub long : 517 ≤ length held
   pub reached : reach ≤ length chunk
-  pub before : reach ≤ limit f
-  pub noise-small : noise ≤ 517
+  pub near : reach ≤ limit f
+  pub small : noise ≤ 517
   pub room : 256 ≤ length buf
 
-pub record PlacesFed (f : Framing) (w : List ℕ) (count : ℕ) (chunk buf : List ℕ) : Type 0 where
-  pub bytes : w ≡ joined f (take count w) chunk
-  pub inside : count ≤ length w
-  pub held : count ≤ limit f
-  pub room : 256 ≤ length buf
-
-pub record HeldFed (r : Reader) (chunk : List ℕ) (buf : List ℕ) : Type 0 where
-  pub held : r .count ≤ limit (r .framing)
+pub record HeldFed (f : Framing) (held : List ℕ) (count : ℕ) (buf : List ℕ) : Type 0 where
+  pub long : 517 ≤ length held
+  pub fits : count ≤ limit f
   pub room : 256 ≤ length buf

@@ -20,6 +20,7 @@ pub record Reading : Type 0 where
   pub used : ℕ
   pub len : ℕ
 
+-- A refused read.
 abbrev pub noReading : ℕ → Reading
 noReading n = record { number = n; used = 0; len = 0 }
 
@@ -51,6 +52,7 @@ pub record Writing : Type 0 where
   pub number : ℕ
   pub len : ℕ
 
+-- A refused write.
 abbrev pub noWriting : ℕ → Writing
 noWriting n = record { number = n; len = 0 }
 

@@ -6,10 +6,10 @@ ghost use mathlib.Core.Path.{_≡_};
 ghost use Prim.Native.Nat.{_≤_, _<_, _+_};
 ghost use lib.ListN.{length, drop};
 ghost use Rattle.frame.specs.declared.framing.Framing.the-variants.{Binary};
-ghost use Rattle.frame.specs.Binary.{xorOf, body, binaryLayout};
+ghost use Rattle.frame.specs.Binary.{xorOf, body, footer, binaryLayout};
 ghost use Rattle.frame.specs.Checks.{run, behind};
-ghost use Rattle.frame.specs.Framing.{read, inFront};
-ghost use Rattle.frame.specs.Judged.{verdictOf};
+ghost use Rattle.frame.specs.Framing.{judge, inFront};
+ghost use Rattle.frame.specs.Judged.{payloadAt, Packed, verdictOf, handedOut};
 
 // The XOR of all bytes.
 pub(crate) fn xor_of(s: &[u8]) -> u8
@@ -26,15 +26,17 @@ pub(crate) fn xor_of(s: &[u8]) -> u8
 
 // A byte as an index.
 fn wide(b: u8) -> usize
-    ensures { λ r. ⌜ (r ≡ b) × (r < 256) ⌝ }
+    ensures { λ r. ⌜ r ≡ b ⌝ }
+    ensures { λ r. ⌜ r < 256 ⌝ }
 {
     b as usize
 }
 
 // Judges what stands behind the length `len`: the payload, its checksum and the footer.
 fn judge_body(s: &[u8], len: usize) -> Judged
-    requires { ⌜ (4 ≤ length (now s)) × (len ≤ 256) ⌝ }
-    ensures { λ r. ⌜ behind 4 (run (body len) (drop 4 (now (s .entry)))) ≡ verdictOf Binary (now (s .entry)) r ⌝ }
+    requires { ⌜ 4 ≤ length (now s) ⌝ }
+    requires { ⌜ len ≤ 256 ⌝ }
+    ensures { λ r. ⌜ behind 4 (run (body footer len) (drop 4 (now (s .entry)))) ≡ verdictOf Binary (now (s .entry)) r ⌝ }
 {
     let n = s.len();
     let end = 4 + len;
@@ -64,7 +66,7 @@ fn judge_body(s: &[u8], len: usize) -> Judged
 
 // Judges the front of s: the start bytes, the length, and what stands behind them.
 pub(crate) fn judge(s: &[u8]) -> Judged
-    ensures { λ r. ⌜ read Binary (now (s .entry)) ≡ verdictOf Binary (now (s .entry)) r ⌝ }
+    ensures { λ r. ⌜ judge Binary (now (s .entry)) ≡ verdictOf Binary (now (s .entry)) r ⌝ }
 {
     let n = s.len();
     if n == 0 {
@@ -100,9 +102,32 @@ pub(crate) fn judge(s: &[u8]) -> Judged
     judge_body(s, word - 0x8000)
 }
 
+// Puts the payload of `len` bytes of the frame at the front of s into the front of buf.
+pub(crate) fn unpack(s: &[u8], len: usize, buf: &mut [u8])
+    requires { ⌜ Packed Binary (now s) len ⌝ }
+    requires { ⌜ len ≤ length (now buf) ⌝ }
+    ensures { λ _. ⌜ now (buf .exit) ≡ inFront (payloadAt Binary (now (s .entry)) len) (now (buf .entry)) ⌝ }
+{
+    copy::put(buf, 0, &s[4..4 + len]);
+}
+
+// Judges the front of s, and puts the payload of a frame into the front of buf.
+pub(crate) fn extract(s: &[u8], buf: &mut [u8]) -> Judged
+    requires { ⌜ 256 ≤ length (now buf) ⌝ }
+    ensures { λ r. ⌜ judge Binary (now (s .entry)) ≡ verdictOf Binary (now (s .entry)) r ⌝ }
+    ensures { λ r. ⌜ now (buf .exit) ≡ handedOut (judge Binary (now (s .entry))) (now (buf .entry)) ⌝ }
+{
+    let verdict = judge(s);
+    if let Judged::Frame { used: _, len } = verdict {
+        unpack(s, len, buf);
+    }
+    verdict
+}
+
 // Writes the frame with the payload p into the front of buf.
 pub(crate) fn pack(p: &[u8], buf: &mut [u8])
-    requires { ⌜ (length (now p) ≤ 256) × (length (now p) + 6 ≤ length (now buf)) ⌝ }
+    requires { ⌜ length (now p) ≤ 256 ⌝ }
+    requires { ⌜ length (now p) + 6 ≤ length (now buf) ⌝ }
     ensures { λ _. ⌜ now (buf .exit) ≡ inFront (binaryLayout (now (p .entry))) (now (buf .entry)) ⌝ }
 {
     let len = p.len();

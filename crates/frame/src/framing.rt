@@ -1,13 +1,12 @@
 // The two framings under one name: judging the front of a slice, taking the payload out and writing a frame.
 use crate::ascii;
 use crate::binary;
-use crate::copy;
 use crate::refusal::Refusal;
 ghost use mathlib.Core.Path.{_≡_};
 ghost use Prim.Native.Nat.{_≤_};
 ghost use lib.ListN.{length};
-ghost use Rattle.frame.specs.Framing.{read, layout, inFront};
-ghost use Rattle.frame.specs.Judged.{verdictOf, handedOut, payloadAt, Packed, frameLength, runOf};
+ghost use Rattle.frame.specs.Framing.{judge, layout, inFront};
+ghost use Rattle.frame.specs.Judged.{verdictOf, handedOut, payloadAt, Packed, frameLength};
 
 // How frames are laid out on the line.
 pub enum Framing {
@@ -33,60 +32,31 @@ pub(crate) fn unpack(framing: Framing, s: &[u8], len: usize, buf: &mut [u8])
     ensures { λ _. ⌜ now (buf .exit) ≡ inFront (payloadAt framing (now (s .entry)) len) (now (buf .entry)) ⌝ }
 {
     match framing {
-        Framing::Binary => copy::put(buf, 0, &s[4..4 + len]),
-        Framing::Ascii => ascii::decode(&s[1..1 + 2 * len], buf),
-    }
-}
-
-// Puts the payload of the frame that s begins with, if it does, into the front of buf, and returns the verdict unchanged.
-fn hand_out(framing: Framing, s: &[u8], verdict: Judged, buf: &mut [u8]) -> Judged
-    requires { ⌜ (read framing (now s) ≡ verdictOf framing (now s) verdict) × (256 ≤ length (now buf)) ⌝ }
-    ensures { λ r. ⌜ (r ≡ verdict) × (now (buf .exit) ≡ handedOut (read framing (now (s .entry))) (now (buf .entry))) ⌝ }
-{
-    if let Judged::Frame { used: _, len } = verdict {
-        unpack(framing, s, len, buf);
-    }
-    verdict
-}
-
-// How many digits stand behind the first character, up to one more than the most that a frame has; none in binary framing.
-fn run_of(framing: Framing, s: &[u8]) -> usize
-    ensures { λ r. ⌜ r ≡ runOf framing (now (s .entry)) ⌝ }
-{
-    match framing {
-        Framing::Binary => 0,
-        Framing::Ascii => ascii::run_behind(s),
-    }
-}
-
-// Judges the front of s, where so many digits were counted.
-fn judge_run(framing: Framing, s: &[u8], count: usize) -> Judged
-    requires { ⌜ count ≡ runOf framing (now s) ⌝ }
-    ensures { λ r. ⌜ read framing (now (s .entry)) ≡ verdictOf framing (now (s .entry)) r ⌝ }
-{
-    match framing {
-        Framing::Binary => binary::judge(s),
-        Framing::Ascii => ascii::judge_run(s, count),
+        Framing::Binary => binary::unpack(s, len, buf),
+        Framing::Ascii => ascii::unpack(s, len, buf),
     }
 }
 
 // Judges the front of s.
 pub(crate) fn judge(framing: Framing, s: &[u8]) -> Judged
-    ensures { λ r. ⌜ read framing (now (s .entry)) ≡ verdictOf framing (now (s .entry)) r ⌝ }
+    ensures { λ r. ⌜ judge framing (now (s .entry)) ≡ verdictOf framing (now (s .entry)) r ⌝ }
 {
-    judge_run(framing, s, run_of(framing, s))
+    match framing {
+        Framing::Binary => binary::judge(s),
+        Framing::Ascii => ascii::judge(s),
+    }
 }
 
 // Judges the front of s, and puts the payload of a frame into the front of buf.
 pub(crate) fn extract(framing: Framing, s: &[u8], buf: &mut [u8]) -> Judged
     requires { ⌜ 256 ≤ length (now buf) ⌝ }
-    ensures { λ r. ⌜ (read framing (now (s .entry)) ≡ verdictOf framing (now (s .entry)) r) × (now (buf .exit) ≡ handedOut (read framing (now (s .entry))) (now (buf .entry))) ⌝ }
+    ensures { λ r. ⌜ judge framing (now (s .entry)) ≡ verdictOf framing (now (s .entry)) r ⌝ }
+    ensures { λ r. ⌜ now (buf .exit) ≡ handedOut (judge framing (now (s .entry))) (now (buf .entry)) ⌝ }
 {
-    let count = run_of(framing, s);
-    if ascii::is_short(s, count) {
-        return ascii::extract_short(s, count, buf);
+    match framing {
+        Framing::Binary => binary::extract(s, buf),
+        Framing::Ascii => ascii::extract(s, buf),
     }
-    hand_out(framing, s, judge_run(framing, s, count), buf)
 }
 
 // The length of a frame with a payload of `len` bytes.

@@ -1,19 +1,22 @@
 // The line reader: frames out of chunks of a serial line, as they come.
+use crate::answer::Before;
+use crate::answer::FeedAnswer;
+use crate::answer::Kept;
+use crate::answer::QuietAnswer;
+use crate::answer::answer;
 use crate::copy::put;
 use crate::framing::Framing;
 use crate::refusal::Refusal;
 use crate::scan::ScanEnd;
-use crate::scan::ScanResult;
-use crate::scan::scan;
-use crate::scan::scan_all;
+use crate::scan::find;
 use crate::scan::smaller;
 ghost use mathlib.Core.Path.{_≡_};
 ghost use Prim.Native.Nat.{_+_, _≤_};
-ghost use lib.ListN.{length, take};
+ghost use lib.ListN.{length, take, drop};
 ghost use Rattle.frame.specs.Framing.{limit};
-ghost use Rattle.frame.specs.Reader.{newReader, heldIn, quiet, Holds, Feeds, Quiets, Tells, Firsts};
-ghost use Rattle.frame.specs.Scan.{scanned, scanChunk, scanLine, Joins, Answerable, Told, ChunkFed, HeldFed, Keeps, Answered, QuietAnswered};
-ghost use Rattle.frame.specs.Scan.{PlacesFed};
+ghost use Rattle.frame.specs.Reader.{holding, quiet, newReader, Holds, Feeds, Quiets};
+ghost use Rattle.frame.specs.Scan.{scanWhole, Joins, Stores, Leaves, LeavesLine, QuietAnswered, ChunkFed, HeldFed};
+ghost use Rattle.frame.specs.View.{part};
 
 // A reader's state, by value: its framing and the bytes that it holds, the first `count` of `held`.
 pub struct Reader {
@@ -22,33 +25,10 @@ pub struct Reader {
     pub count: usize,
 }
 
-pub enum FeedAnswer {
-    // A frame: `taken` bytes of the chunk were taken, `noise` bytes were settled as noise, and the payload of `len` bytes is in the buffer.
-    Frame {
-        taken: usize,
-        noise: usize,
-        len: usize,
-    },
-    // The whole chunk was taken, and more bytes are needed.
-    NeedsMore {
-        taken: usize,
-        noise: usize,
-    },
-    Refused(Refusal),
-}
-
 // The answer to a chunk, with the state that follows.
 pub struct Fed {
     pub reader: Reader,
     pub answer: FeedAnswer,
-}
-
-pub enum QuietAnswer {
-    // A frame among the held bytes.
-    Frame { noise: usize, len: usize },
-    // No frame is left, and the state is a new reader's.
-    Empty { noise: usize },
-    Refused(Refusal),
 }
 
 // The answer to a quiet, with the state that follows.
@@ -63,22 +43,14 @@ struct Joined {
     size: usize,
 }
 
-// What a new reader's line call answers to a chunk, and the part of the chunk that it would hold: from index `from` up to `end`, which is behind it.
-pub struct First {
-    pub answer: FeedAnswer,
-    pub from: usize,
-    pub end: usize,
-}
-
-// What was there before a scan: held bytes in front of the chunk, noise bytes settled, and the chunk's length.
-struct Before {
-    base: usize,
-    noise: usize,
-    size: usize,
+// An answer, and how many bytes are held afterwards: the first of an array that was lent.
+struct Left {
+    answer: FeedAnswer,
+    count: usize,
 }
 
 // The longest frame of a framing.
-fn limit_of(framing: Framing) -> usize
+pub(crate) fn limit_of(framing: Framing) -> usize
     ensures { λ r. ⌜ r ≡ limit framing ⌝ }
 {
     match framing {
@@ -88,9 +60,9 @@ fn limit_of(framing: Framing) -> usize
 }
 
 // A state that holds the bytes of s.
-fn hold(framing: Framing, s: &[u8]) -> Reader
+pub(crate) fn hold(framing: Framing, s: &[u8]) -> Reader
     requires { ⌜ length (now s) ≤ 517 ⌝ }
-    ensures { λ r. ⌜ Holds framing (now (s .entry)) r ⌝ }
+    ensures { λ r. ⌜ Holds (holding framing (now (s .entry))) r ⌝ }
 {
     let mut held = [0u8; 517];
     put(&mut held, 0, s);
@@ -102,133 +74,152 @@ fn hold(framing: Framing, s: &[u8]) -> Reader
     }
 }
 
-// Joins the held bytes and the chunk's front.
-fn join(reader: Reader, chunk: &[u8]) -> Joined
-    requires { ⌜ reader .count ≤ limit (reader .framing) ⌝ }
-    ensures { λ r. ⌜ Joins (reader .framing) (heldIn reader) (now (chunk .entry)) r ⌝ }
+// Joins held bytes and the chunk's front.
+fn join(framing: Framing, held: &[u8], chunk: &[u8]) -> Joined
+    requires { ⌜ length (now held) ≤ limit framing ⌝ }
+    ensures { λ r. ⌜ Joins framing (now (held .entry)) (now (chunk .entry)) r ⌝ }
 {
-    let framing = reader.framing;
-    let count = reader.count;
-    let held = reader.held;
-    let whole = &held[..];
+    let count = held.len();
     let more = smaller(chunk.len(), limit_of(framing));
     let mut bytes = [0u8; 1034];
-    put(&mut bytes, 0, &whole[..count]);
+    put(&mut bytes, 0, held);
     put(&mut bytes, count, &chunk[..more]);
     let size = count + more;
     Joined { bytes, size }
 }
 
-// The answer to a scan of w.
-fn answer(framing: Framing, w: &[u8], found: ScanResult, before: Before) -> First
-    requires { ⌜ Answerable framing (now w) (scanned framing (now w) found) before ⌝ }
-    ensures { λ r. ⌜ Told before (now (w .entry)) (scanned framing (now (w .entry)) found) r ⌝ }
+// Puts the kept part of w into the front of held.
+fn keep(held: &mut [u8], w: &[u8], kept: Kept) -> Left
+    requires { ⌜ (kept .from ≤ kept .end) × (kept .end ≤ length (now w)) × (kept .end ≤ kept .from + length (now held)) ⌝ }
+    ensures { λ r. ⌜ Stores (part (kept .from) (kept .end) (now (w .entry))) kept (now (held .exit)) r ⌝ }
 {
-    let place = found.place;
-    let far = found.reach;
-    let end = found.end;
-    let noise = before.noise + place;
-    let taken = before.size;
-    match end {
-        ScanEnd::Frame { used, len } => {
-            let taken = far - before.base;
-            First {
-                answer: FeedAnswer::Frame { taken, noise, len },
-                from: place + used,
-                end: far,
-            }
-        }
-        ScanEnd::Undecided => First {
-            answer: FeedAnswer::NeedsMore { taken, noise },
-            from: place,
-            end: w.len(),
-        },
-        ScanEnd::Passed => First {
-            answer: FeedAnswer::NeedsMore { taken, noise },
-            from: w.len(),
-            end: w.len(),
-        },
+    let from = kept.from;
+    let end = kept.end;
+    let answer = kept.answer;
+    put(held, 0, &w[from..end]);
+    Left {
+        answer: answer,
+        count: end - from,
     }
 }
 
-// Finds the next frame in a chunk of which the first `reach` bytes were judged before, where `noise` bytes before the chunk were settled and
-// none is held.
-// It is called with a slice made anew: one that is handed on as it came is copied as a whole, which waits until both its parts are stored.
-fn feed_chunk(framing: Framing, chunk: &[u8], reach: usize, noise: usize, buf: &mut [u8]) -> First
-    requires { ⌜ ChunkFed framing (now chunk) reach noise (now buf) ⌝ }
-    ensures { λ r. ⌜ (Tells (scanChunk framing noise reach (now (chunk .entry))) (now (chunk .entry)) (now (buf .entry)) r (now (buf .exit))) × (r .end ≡ scanChunk framing noise reach (now (chunk .entry)) .taken) ⌝ }
+// Moves the kept part of held to its front.
+fn shift(held: &mut [u8], kept: Kept) -> Left
+    requires { ⌜ (kept .from ≤ kept .end) × (kept .end ≤ length (now held)) ⌝ }
+    ensures { λ r. ⌜ Stores (part (kept .from) (kept .end) (now (held .entry))) kept (now (held .exit)) r ⌝ }
+{
+    let from = kept.from;
+    let count = kept.end - from;
+    let answer = kept.answer;
+    if 0 < from {
+        move_down(held, from, count);
+    }
+    Left { answer, count }
+}
+
+// Moves `count` bytes of s from `from` on to its front.
+fn move_down(s: &mut [u8], from: usize, count: usize)
+    requires { ⌜ from + count ≤ length (now s) ⌝ }
+    ensures { λ _. ⌜ take count (now (s .exit)) ≡ take count (drop from (now (s .entry))) ⌝ }
+{
+    let mut i = 0;
+    while i < count {
+        s[i] = s[from + i];
+        i += 1;
+    }
+}
+
+// Finds the next frame in a chunk, where none is held, `noise` bytes before the chunk were settled and its first `reach` bytes were judged. Held is what
+// held has in its front afterwards.
+fn feed_chunk(
+    framing: Framing,
+    held: &mut [u8],
+    chunk: &[u8],
+    reach: usize,
+    noise: usize,
+    buf: &mut [u8],
+) -> Left
+    requires { ⌜ ChunkFed framing (now held) (now chunk) reach noise (now buf) ⌝ }
+    ensures { λ r. ⌜ Leaves (scanWhole framing 0 noise reach (now (chunk .entry))) (now (buf .entry)) r (now (held .exit)) (now (buf .exit)) ⌝ }
 {
     let size = chunk.len();
-    let found = scan_all(framing, chunk, reach, buf);
+    let found = find(framing, chunk, 0, size, reach, false, buf);
     let before = Before {
         base: 0,
         noise: noise,
         size: size,
     };
-    answer(framing, chunk, found, before)
+    keep(held, chunk, answer(framing, chunk, found, before))
 }
 
-// The state that holds the told part of w, with the answer.
-fn keep(framing: Framing, w: &[u8], told: First) -> Fed
-    requires { ⌜ (told .from ≤ told .end) × (told .end ≤ length (now w)) × (told .end ≤ told .from + 517) ⌝ }
-    ensures { λ r. ⌜ Keeps framing (now (w .entry)) told r ⌝ }
+// Finds the next frame where the first `count` bytes of held are held and the chunk does not fit behind them.
+fn feed_long(framing: Framing, held: &mut [u8], count: usize, chunk: &[u8], buf: &mut [u8]) -> Left
+    requires { ⌜ HeldFed framing (now held) count (now buf) ⌝ }
+    ensures { λ r. ⌜ LeavesLine framing (now (held .entry)) count (now (chunk .entry)) (now (buf .entry)) r (now (held .exit)) (now (buf .exit)) ⌝ }
 {
-    let from = told.from;
-    let end = told.end;
-    let answer = told.answer;
-    let reader = hold(framing, &w[from..end]);
-    Fed { reader, answer }
-}
-
-// Finds the next frame where the first `count` bytes of w were held and the others are the chunk's: at the places of the held bytes first, then
-// in the chunk.
-fn feed_places(framing: Framing, w: &[u8], count: usize, chunk: &[u8], buf: &mut [u8]) -> Fed
-    requires { ⌜ PlacesFed framing (now w) count (now chunk) (now buf) ⌝ }
-    ensures { λ r. ⌜ Answered framing (scanLine framing (take count (now (w .entry))) (now (chunk .entry))) (now (buf .entry)) r (now (buf .exit)) ⌝ }
-{
-    let found = scan(framing, w, count, count, false, buf);
+    let joined = join(framing, &held[..count], chunk);
+    let size = joined.size;
+    let bytes = joined.bytes;
+    let whole = &bytes[..];
+    let w = &whole[..size];
+    let found = find(framing, w, 0, count, count, false, buf);
     let far = found.reach;
     let end = found.end;
     if let ScanEnd::Passed = end {
-        let told = feed_chunk(framing, chunk, far - count, count, buf);
-        return keep(framing, chunk, told);
+        return feed_chunk(framing, held, chunk, far - count, count, buf);
     }
     let before = Before {
         base: count,
         noise: 0,
         size: chunk.len(),
     };
-    let told = answer(framing, w, found, before);
-    keep(framing, w, told)
+    keep(held, w, answer(framing, w, found, before))
 }
 
-// Finds the next frame where bytes are held. A chunk that fits behind them in a copy of the state's array is put there.
-fn feed_held(reader: Reader, chunk: &[u8], buf: &mut [u8]) -> Fed
-    requires { ⌜ HeldFed reader (now chunk) (now buf) ⌝ }
-    ensures { λ r. ⌜ Answered (reader .framing) (scanLine (reader .framing) (heldIn reader) (now (chunk .entry))) (now (buf .entry)) r (now (buf .exit)) ⌝ }
+// Finds the next frame where the first `count` bytes of held are held and the chunk fits behind them: it is put there.
+fn feed_short(framing: Framing, held: &mut [u8], count: usize, chunk: &[u8], buf: &mut [u8]) -> Left
+    requires { ⌜ HeldFed framing (now held) count (now buf) × (count + length (now chunk) ≤ limit framing) ⌝ }
+    ensures { λ r. ⌜ LeavesLine framing (now (held .entry)) count (now (chunk .entry)) (now (buf .entry)) r (now (held .exit)) (now (buf .exit)) ⌝ }
 {
-    let framing = reader.framing;
-    let count = reader.count;
-    if chunk.len() <= limit_of(framing) - count {
-        let size = count + chunk.len();
-        let mut held = reader.held;
-        put(&mut held, count, chunk);
-        let whole = &held[..];
-        return feed_places(framing, &whole[..size], count, chunk, buf);
+    let size = count + chunk.len();
+    put(held, count, chunk);
+    let w = &held[..size];
+    let found = find(framing, w, 0, size, count, false, buf);
+    let before = Before {
+        base: count,
+        noise: 0,
+        size: chunk.len(),
+    };
+    let kept = answer(framing, w, found, before);
+    shift(held, kept)
+}
+
+// Finds the next frame where the first `count` bytes of held are held, and has those that are held afterwards in its front.
+fn feed_on(
+    framing: Framing,
+    held: &mut [u8; 517],
+    count: usize,
+    chunk: &[u8],
+    buf: &mut [u8],
+) -> Left
+    requires { ⌜ HeldFed framing (now held) count (now buf) ⌝ }
+    ensures { λ r. ⌜ LeavesLine framing (now (held .entry)) count (now (chunk .entry)) (now (buf .entry)) r (now (held .exit)) (now (buf .exit)) ⌝ }
+{
+    if count == 0 {
+        return feed_chunk(framing, held, chunk, 0, 0, buf);
     }
-    let joined = join(reader, chunk);
-    let size = joined.size;
-    let bytes = joined.bytes;
-    let whole = &bytes[..];
-    feed_places(framing, &whole[..size], count, chunk, buf)
+    if limit_of(framing) - count < chunk.len() {
+        return feed_long(framing, held, count, chunk, buf);
+    }
+    feed_short(framing, held, count, chunk, buf)
 }
 
 // The next frame in the bytes that end a segment.
 fn quiet_held(framing: Framing, s: &[u8], buf: &mut [u8]) -> Quieted
     requires { ⌜ (length (now s) ≤ limit framing) × (256 ≤ length (now buf)) ⌝ }
-    ensures { λ r. ⌜ QuietAnswered framing (quiet framing (now (s .entry))) (now (buf .entry)) r (now (buf .exit)) ⌝ }
+    ensures { λ r. ⌜ QuietAnswered (holding framing (now (s .entry))) (quiet (holding framing (now (s .entry)))) (now (buf .entry)) r (now (buf .exit)) ⌝ }
 {
-    let found = scan(framing, s, s.len(), 0, true, buf);
+    let found = find(framing, s, 0, s.len(), 0, true, buf);
     let place = found.place;
     let end = found.end;
     match end {
@@ -277,7 +268,7 @@ impl Reader {
     // behind the frame, where an earlier start failed late, are held. Call it again with the chunk's rest, even an empty one, until more bytes are
     // needed. Refused with 16 where the state holds more bytes than a frame can have, 13 where buf has under 256 bytes, 15 where the chunk has over
     // 65,536; a refusal leaves state and buffer.
-    pub fn feed(self, chunk: &[u8], buf: &mut [u8]) -> Fed
+    pub fn feed(mut self, chunk: &[u8], buf: &mut [u8]) -> Fed
         ensures { λ r. ⌜ Feeds self (now (chunk .entry)) (now (buf .entry)) r (now (buf .exit)) ⌝ }
     {
         let framing = self.framing;
@@ -300,43 +291,13 @@ impl Reader {
                 answer: FeedAnswer::Refused(Refusal::Chunk),
             };
         }
-        if count == 0 {
-            let told = feed_chunk(framing, &chunk[..chunk.len()], 0, 0, buf);
-            let from = told.from;
-            let end = told.end;
-            // Nothing is held afterwards either: the state is not copied.
-            if from == end {
-                let answer = told.answer;
-                return Fed {
-                    reader: self,
-                    answer: answer,
-                };
-            }
-            return keep(framing, chunk, told);
+        let left = feed_on(framing, &mut self.held, count, chunk, buf);
+        let answer = left.answer;
+        self.count = left.count;
+        Fed {
+            reader: self,
+            answer: answer,
         }
-        feed_held(self, chunk, buf)
-    }
-
-    // The line call of a new reader without its state: what `Reader::new(framing).feed(chunk, buf)` answers, and the part of the chunk that it would hold.
-    // Whoever has the chunk at hand saves the copies of a state. Refused with 13, 15 as `feed` is.
-    pub fn first(framing: Framing, chunk: &[u8], buf: &mut [u8]) -> First
-        ensures { λ r. ⌜ Firsts framing (now (chunk .entry)) (now (buf .entry)) r (now (buf .exit)) ⌝ }
-    {
-        if buf.len() < Reader::MAX_PAYLOAD {
-            return First {
-                answer: FeedAnswer::Refused(Refusal::Buffer),
-                from: 0,
-                end: 0,
-            };
-        }
-        if 65536 < chunk.len() {
-            return First {
-                answer: FeedAnswer::Refused(Refusal::Chunk),
-                from: 0,
-                end: 0,
-            };
-        }
-        feed_chunk(framing, chunk, 0, 0, buf)
     }
 
     // The line was quiet: the held bytes end their segment. Gives the next frame in them, as `feed` does, or a new reader's state. Call it

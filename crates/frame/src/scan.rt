@@ -2,14 +2,16 @@
 use crate::framing::Framing;
 use crate::framing::Judged;
 use crate::framing::extract;
+use crate::framing::judge;
+use crate::framing::unpack;
 use crate::refusal::Refusal;
 ghost use mathlib.Core.Path.{_≡_};
 ghost use mathlib.Core.Bool.{true, false};
 ghost use Prim.Native.Nat.{_+_, _-_, _≤_, _<_, max, min};
 ghost use lib.ListN.{length, getD, take, drop};
-ghost use Rattle.frame.specs.Framing.{read};
+ghost use Rattle.frame.specs.Framing.{judge};
 ghost use Rattle.frame.specs.Refusal.{numberOf};
-ghost use Rattle.frame.specs.Judged.{every, verdictOf, handedOut};
+ghost use Rattle.frame.specs.Judged.{every, verdictOf};
 ghost use Rattle.frame.specs.Scan.{judging, scanFrom, scanned, startOf, doubledNumber, other, stoppedAt, stopBuffer, passedBy, Skips};
 
 // Where a scan stopped.
@@ -133,17 +135,17 @@ fn doubled_refusal(framing: Framing) -> Refusal
     }
 }
 
-// Judges s from the start at `place` on, and puts the payload of a frame into the front of buf.
-fn judge_place(framing: Framing, s: &[u8], place: usize, buf: &mut [u8]) -> Judged
-    requires { ⌜ (place < length (now s)) × (getD (now s) place 0 ≡ startOf framing) × (256 ≤ length (now buf)) ⌝ }
-    ensures { λ r. ⌜ (read framing (drop place (now (s .entry))) ≡ verdictOf framing (drop place (now (s .entry))) r) × (now (buf .exit) ≡ handedOut (read framing (drop place (now (s .entry)))) (now (buf .entry))) ⌝ }
+// Judges s from the start at `place` on.
+fn judge_place(framing: Framing, s: &[u8], place: usize) -> Judged
+    requires { ⌜ (place < length (now s)) × (getD (now s) place 0 ≡ startOf framing) ⌝ }
+    ensures { λ r. ⌜ judge framing (drop place (now (s .entry))) ≡ verdictOf framing (drop place (now (s .entry))) r ⌝ }
 {
     if is_doubled(s, place) {
         let refusal = doubled_refusal(framing);
         let judged = 2;
         return Judged::Failed { refusal, judged };
     }
-    extract(framing, &s[place..], buf)
+    judge(framing, &s[place..])
 }
 
 // A scan's result.
@@ -153,20 +155,18 @@ fn stopped(place: usize, reach: usize, end: ScanEnd) -> ScanResult
     ScanResult { place, reach, end }
 }
 
-// Judges the places of s from `from` to `stop` in order, up to the first that does not fail; bytes that start no frame are passed at once. The
-// payload of a frame goes to the front of buf. Bytes up to `reach` were judged before. Where `ended`, the bytes end the segment, and an undecided
-// place fails too.
-fn scan_from(
+// Judges the places of s from `from` to `stop` in order, up to the first that does not fail; bytes that start no frame are passed at once. Bytes up to
+// `reach` were judged before. Where `ended`, the bytes end the segment, and an undecided place fails too.
+pub(crate) fn scan(
     framing: Framing,
     s: &[u8],
     from: usize,
     stop: usize,
     reach: usize,
     ended: bool,
-    buf: &mut [u8],
 ) -> ScanResult
-    requires { ⌜ (from ≤ stop) × (stop ≤ length (now s)) × (reach ≤ length (now s)) × (256 ≤ length (now buf)) ⌝ }
-    ensures { λ r. ⌜ (scanned framing (now (s .entry)) r ≡ scanFrom (judging ended framing) (stop - from) from reach (drop from (now (s .entry)))) × (now (buf .exit) ≡ stopBuffer (scanned framing (now (s .entry)) r .stop) (now (buf .entry))) ⌝ }
+    requires { ⌜ (from ≤ stop) × (stop ≤ length (now s)) × (reach ≤ length (now s)) ⌝ }
+    ensures { λ r. ⌜ scanned framing (now (s .entry)) r ≡ scanFrom (judging ended framing) (stop - from) from reach (drop from (now (s .entry))) ⌝ }
 {
     let start = start_of(framing);
     let mut place = from;
@@ -177,7 +177,7 @@ fn scan_from(
             far = larger(far, place);
             continue;
         }
-        match judge_place(framing, s, place, buf) {
+        match judge_place(framing, s, place) {
             Judged::Undecided => {
                 if !ended {
                     return stopped(place, far, ScanEnd::Undecided);
@@ -198,48 +198,53 @@ fn scan_from(
     stopped(place, far, ScanEnd::Passed)
 }
 
-// The same from the first place on.
-pub(crate) fn scan(
+// The same, and puts the payload of a frame into the front of buf.
+pub(crate) fn find(
     framing: Framing,
     s: &[u8],
+    from: usize,
     stop: usize,
     reach: usize,
     ended: bool,
     buf: &mut [u8],
 ) -> ScanResult
-    requires { ⌜ (stop ≤ length (now s)) × (reach ≤ length (now s)) × (256 ≤ length (now buf)) ⌝ }
-    ensures { λ r. ⌜ (scanned framing (now (s .entry)) r ≡ scanFrom (judging ended framing) stop 0 reach (now (s .entry))) × (now (buf .exit) ≡ stopBuffer (scanned framing (now (s .entry)) r .stop) (now (buf .entry))) ⌝ }
+    requires { ⌜ (from ≤ stop) × (stop ≤ length (now s)) × (reach ≤ length (now s)) × (256 ≤ length (now buf)) ⌝ }
+    ensures { λ r. ⌜ scanned framing (now (s .entry)) r ≡ scanFrom (judging ended framing) (stop - from) from reach (drop from (now (s .entry))) ⌝ }
+    ensures { λ r. ⌜ now (buf .exit) ≡ stopBuffer (scanned framing (now (s .entry)) r .stop) (now (buf .entry)) ⌝ }
 {
-    scan_from(framing, s, 0, stop, reach, ended, buf)
+    let found = scan(framing, s, from, stop, reach, ended);
+    let end = found.end;
+    if let ScanEnd::Frame { used: _, len } = end {
+        let place = found.place;
+        unpack(framing, &s[place..], len, buf);
+    }
+    found
 }
 
 // The same over all places of a segment that goes on. On a clean line each frame stands at the front, so that place is judged before the loop, whose
-// set-up then costs nothing.
-pub(crate) fn scan_all(framing: Framing, s: &[u8], reach: usize, buf: &mut [u8]) -> ScanResult
+// set-up then costs nothing, and judged and handed out at once.
+pub(crate) fn find_first(framing: Framing, s: &[u8], reach: usize, buf: &mut [u8]) -> ScanResult
     requires { ⌜ (reach ≤ length (now s)) × (256 ≤ length (now buf)) ⌝ }
-    ensures { λ r. ⌜ (scanned framing (now (s .entry)) r ≡ scanFrom (judging false framing) (length (now (s .entry))) 0 reach (now (s .entry))) × (now (buf .exit) ≡ stopBuffer (scanned framing (now (s .entry)) r .stop) (now (buf .entry))) ⌝ }
+    ensures { λ r. ⌜ scanned framing (now (s .entry)) r ≡ scanFrom (judging false framing) (length (now (s .entry))) 0 reach (now (s .entry)) ⌝ }
+    ensures { λ r. ⌜ now (buf .exit) ≡ stopBuffer (scanned framing (now (s .entry)) r .stop) (now (buf .entry)) ⌝ }
 {
     let size = s.len();
     if size == 0 {
-        return scan(framing, s, size, reach, false, buf);
+        return stopped(0, reach, ScanEnd::Passed);
     }
     if s[0] != start_of(framing) {
-        return scan(framing, s, size, reach, false, buf);
+        return find(framing, s, 0, size, reach, false, buf);
     }
     match extract(framing, s, buf) {
-        Judged::Undecided => ScanResult {
-            place: 0,
-            reach: reach,
-            end: ScanEnd::Undecided,
-        },
+        Judged::Undecided => stopped(0, reach, ScanEnd::Undecided),
         Judged::Failed { refusal: _, judged } => {
             let next = smaller(passed_by(framing, judged), size);
-            scan_from(framing, s, next, size, larger(reach, judged), false, buf)
+            find(framing, s, next, size, larger(reach, judged), false, buf)
         }
-        Judged::Frame { used, len } => ScanResult {
-            place: 0,
-            reach: larger(reach, used),
-            end: ScanEnd::Frame { used, len },
-        },
+        Judged::Frame { used, len } => stopped(
+            0,
+            larger(reach, used),
+            ScanEnd::Frame { used, len },
+        ),
     }
 }

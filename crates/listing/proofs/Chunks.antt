@@ -1,52 +1,49 @@
--- Laws on a listing that goes on call by call: what is put so far, and what is left to be listed.
+-- Laws of the calls over one chunk, and of one quiet: what they list together.
 -- Assumes nothing.
-use Prim.Native.Nat.{ℕ, zero, suc, _+_, _*_, _≤_, _<_, suc-le-suc}
-use native.Mathlib.Nat.{add-zero, zero-add, le-trans}
+use Prim.Native.Nat.{ℕ, _+_, _*_, _≤_, _<_, zero-le}
+use native.Mathlib.Nat.{add-zero, zero-add, le-refl, sub-self}
 use native.Mathlib.Omega.{arith}
-use mathlib.Core.Path.{_≡_, refl, sym, ap, ap₂, _∙_, subst}
+use mathlib.Core.Path.{_≡_, refl, sym, ap, ap₂, _∙_, subst, subst₂}
 use mathlib.Core.List.{List, [], _∷_, _++_, append-nil}
-use mathlib.Core.Logic.{_⊎_, inl, inr, ⊎-elim}
 use mathlib.Core.Bool.{Bool, true, false, cond, true≢false}
 use borrow.Author.Tests.{le-leb, lt-leb, leb-true}
-use lib.Dec.{leb, eqb}
-use lib.ListN.{length, take, drop, length-append, length-drop, length-take}
-use lib.Seq.{paste, drop-drop, take-length, drop-length}
+use lib.Dec.{eqb}
+use lib.ListN.{length, take, drop, length-take}
+use lib.Seq.{take-length, drop-length, drop-drop}
 use Rattle.frame.specs.Framing.{limit, inFront}
-use Rattle.frame.specs.Rule.{Output, nothing, join, ruleFrom, payloads, rule}
-use Rattle.frame.specs.Reader.{Settled, Called, line, quiet, heldIn, newReader, Holds, feedValuesOf, quietValuesOf}
-use Rattle.frame.specs.Reader.{feedRefusal, quietRefusal, Feeds, Quiets, AfterQuiet}
-use Rattle.frame.specs.Calls.{FeedIsRefused, QuietIsRefused, takenIn, feedOut, quietOut}
-use Rattle.frame.specs.Draining.{before, drain, FeedSays, QuietSays, total}
+use Rattle.frame.specs.Rule.{Output, output, join, places, outFrom, rule}
+use Rattle.frame.specs.Reader.{State, holding, Settled, settled, Called, line, quiet, after, stateOf, Holds, newReader, Values, frameValues}
+use Rattle.frame.specs.Reader.{noFrameValues, refusalValues as refusalsValues, feedRefusal, quietRefusal, sound, AfterQuiet}
+use Rattle.frame.specs.Calls.{Answered, outOf}
+use Rattle.frame.specs.View.{inside, viewed, viewCall, Follows, viewRefusal, Stands}
+use Rattle.frame.specs.Draining.{before, drain, afterDrain, ruleAfter, total, Says}
 use Rattle.frame.specs.declared.framing.Framing.{Framing}
 use Rattle.frame.specs.declared.framing.Framing.the-variants.{Binary, Ascii}
 use Rattle.frame.specs.declared.reader.Reader.{Reader}
-use Rattle.frame.specs.declared.reader.Fed.{Fed}
-use Rattle.frame.specs.declared.reader.FeedAnswer.{FeedAnswer}
-use Rattle.frame.specs.declared.reader.FeedAnswer.the-variants.{Frame as FeedFrame, NeedsMore, Refused as FeedRefused}
-use Rattle.frame.specs.declared.reader.Quieted.{Quieted}
-use Rattle.frame.specs.declared.reader.QuietAnswer.{QuietAnswer}
-use Rattle.frame.specs.declared.reader.QuietAnswer.the-variants.{Frame as QuietFrame, Empty, Refused as QuietRefused}
-use Rattle.frame.proofs.Theorems.{feed-tells, quiet-tells, line-drains, needs-more-is-drained, needs-more-is-true, taken-is-inside, feed-stays-in-limit}
-use Rattle.frame.proofs.Theorems.{quiet-follows-rule, empty-is-drained, quiet-stays-in-limit, drain-is-sized, rule-is-sized}
-use Rattle.message.specs.Parts.{Puts}
+use Rattle.frame.specs.declared.view.View.{View}
+use Rattle.frame.specs.Refusal.{numberOf}
 use Rattle.frame.specs.declared.refusal.Refusal.{Refusal}
-use Rattle.frame.specs.declared.refusal.Refusal.the-variants.{Buffer}
+use Rattle.frame.specs.declared.refusal.Refusal.the-variants.{Start, Cut, Length, Checksum, Footer, Character, Buffer, Payload, Chunk}
+use Rattle.frame.specs.declared.refusal.Refusal.the-variants.{State as BadState}
+use Rattle.frame.proofs.Theorems.{line-drains, needs-more-is-drained, needs-more-is-true}
+use Rattle.frame.proofs.Theorems.{quiet-follows-rule, empty-is-drained}
+use Rattle.frame.proofs.Theorems.{drain-is-sized, rule-is-sized}
+use Rattle.message.specs.Parts.{Puts}
 use Rattle.listing.specs.Line.{lineOf, linesOf}
-use Rattle.listing.specs.Listing.{valuesOf, chunkRefusal, ListsChunk, endRefusal, ListsQuiet}
+use Rattle.listing.specs.Listing.{textValues, refusalValues, valuesOf, Lists, chunkRefusal, endRefusal, ListsQuiet}
+use Rattle.listing.specs.Parts.{Going, Progress, Midway, Room, ListsRest}
 use Rattle.listing.specs.declared.list.Listed.{Listed}
-use Rattle.listing.specs.declared.list.Spot.{Spot}
 use Rattle.listing.specs.declared.list.ListAnswer.the-variants.{Lines, Refused}
-use Rattle.listing.specs.Parts.{Going, Progress, spot, behind, CanClean, Cleans}
-use Rattle.listing.proofs.Texts.{going, going-room, going-next, going-part, going-done, going-on}
+use Rattle.listing.proofs.Texts.{going, going-room, going-next, going-part, going-done, going-last}
 use Rattle.listing.proofs.Fits.{lines-short}
 
 -- A frame, after noise.
 abbrev pub one : List ℕ → ℕ → Output (List ℕ)
-one p n = record { frames = p ∷ []; noise = n }
+one p n = output (p ∷ []) n
 
 -- Nothing but noise.
 abbrev pub none : ℕ → Output (List ℕ)
-none n = record { frames = []; noise = n }
+none n = output [] n
 
 -- All is left.
 pub progress : (whole : Output (List ℕ)) (out : List ℕ) (at base : ℕ) → Progress whole whole out at base at base out
@@ -98,630 +95,311 @@ pub limit-most : (f : Framing) → limit f ≤ 517
 limit-most Binary = omega arith
 limit-most Ascii = omega arith
 
--- A line call that is not refused had a state within the limit and a chunk of at most 65,536 bytes.
-pub feed-free : (r : Reader) (size : ℕ) → feedRefusal r 256 size ≡ 0 → (r .count ≤ limit (r .framing)) × (size ≤ 65536)
-feed-free r size = by (leb (r .count) (limit (r .framing))) (leb size 65536) refl refl
-  where
-    by :
-        (a b : Bool) → leb (r .count) (limit (r .framing)) ≡ a → leb size 65536 ≡ b → _≡_ {A = ℕ} (cond a (cond b 0 15) 16) 0 →
-        (r .count ≤ limit (r .framing)) × (size ≤ 65536)
-    by true true p q e = (leb-true (r .count) (limit (r .framing)) p, leb-true size 65536 q)
-    by true false p q e = absurd (omega arith)
-    by false b p q e = absurd (omega arith)
+-- A reader whose state is sound holds no more bytes than a frame can have.
+pub sound-count : (r : Reader) → sound r ≡ true → r .count ≤ limit (r .framing)
+sound-count r e = leb-true (r .count) (limit (r .framing)) e
 
--- And where both hold it is not refused.
-pub feed-frees : (r : Reader) (size : ℕ) → r .count ≤ limit (r .framing) → size ≤ 65536 → feedRefusal r 256 size ≡ 0
-feed-frees r size l m = rw (le-leb (r .count) (limit (r .framing)) l, le-leb size 65536 m)
-
--- A state holds no more bytes than it counts.
-pub held-few : (r : Reader) → length (heldIn r) ≤ r .count
+-- A state holds no more bytes than its reader counts.
+pub held-few : (r : Reader) → length (stateOf r .held) ≤ r .count
 held-few r = omega (arith, length-take (r .count) (r .held))
 
--- A line call that is not refused gives the first part of what is left.
-pub step-drain :
-    (r : Reader) (rest old buf : List ℕ) (fed : Fed) → Feeds r rest old fed buf → (FeedIsRefused (fed .answer) → ⊥) →
-    (drain (r .framing) (heldIn r ++ rest)
-    ≡ before (feedOut (fed .answer) buf) (drain (r .framing) (heldIn (fed .reader) ++ drop (takenIn (fed .answer)) rest)))
-    × (fed .reader .framing ≡ r .framing)
-step-drain r rest old buf fed feeds n =
-    let h = feed-tells r rest old fed buf feeds .answered n in
-    (line-drains (r .framing) (heldIn r) rest ∙ sym (rw (h .1, h .2, h .3 .bytes) refl), h .3 .framing)
-
--- A line call that needs more has drained all that was left.
-needs-drain :
-    (r : Reader) (rest old buf : List ℕ) (fed : Fed) (taken more : ℕ) → Feeds r rest old fed buf → fed .answer ≡ NeedsMore taken more →
-    (drain (r .framing) (heldIn r ++ rest) ≡ record { out = none more; rest = heldIn (fed .reader) })
-    × Holds (r .framing) (heldIn (fed .reader)) (fed .reader)
-unfolding join
-needs-drain r rest old buf fed taken more feeds e =
-    let f : Framing = r .framing in
-    let c : Called = line f (heldIn r) rest in
-    let n : FeedIsRefused (fed .answer) → ⊥ = subst (λ (a : FeedAnswer). FeedIsRefused a → ⊥) (sym e) (λ h. h) in
-    let h = feed-tells r rest old fed buf feeds .answered n in
-    let out : c .out ≡ none more = sym (h .1) ∙ ap (λ (a : FeedAnswer). feedOut a buf) e in
-    let quietly : c .out .frames ≡ [] = ap (λ (o : Output (List ℕ)). o .frames) out in
-    let all : c .held ++ drop (c .taken) rest ≡ c .held =
-    ap (λ (k : ℕ). c .held ++ drop k rest) (needs-more-is-true f (heldIn r) rest quietly .0)
-    ∙ ap (λ (l : List ℕ). c .held ++ l) (drop-length rest) ∙ append-nil (c .held) in
-    let held : heldIn (fed .reader) ≡ c .held = h .3 .bytes in
-    let back : c .held ≡ heldIn (fed .reader) = sym held in (
-      line-drains f (heldIn r) rest
-          ∙ ap₂ before out (ap (drain f) all ∙ needs-more-is-drained f (heldIn r) rest quietly)
-          ∙ (λ i. record { out = record { frames = []; noise = add-zero more i }; rest = back i }),
-      subst (λ (l : List ℕ). Holds f l (fed .reader)) (sym held) (h .3),
-    )
-
--- Calls over a chunk: this is the answer of the one that was made with r, where `done` bytes were taken before it. It is the first one, or none was refused.
-pub record Feeding (reader : Reader) (chunk out₀ : List ℕ) (fed : Fed) (done end noise : ℕ) (buf out : List ℕ) : Type 0 where
-  pub r : Reader
-  pub old : List ℕ
-  pub feeds : Feeds r (drop done chunk) old fed buf
-  pub full : length old ≡ 256
-  pub framing : r .framing ≡ reader .framing
-  pub inside : done ≤ length chunk
-  pub rest : drain (reader .framing) (heldIn r ++ drop done chunk) .rest ≡ drain (reader .framing) (heldIn reader ++ chunk) .rest
-  pub progress :
-      Progress (drain (reader .framing) (heldIn reader ++ chunk) .out) (drain (reader .framing) (heldIn r ++ drop done chunk) .out) out₀ 0 0 end noise out
-  pub stays :
-      ((feedRefusal reader 256 (length chunk) ≡ 0) × (feedRefusal r 256 (length (drop done chunk)) ≡ 0))
-      ⊎ ((r ≡ reader) × (done ≡ 0) × (out ≡ out₀))
-
--- The first call.
-pub feeding : (reader : Reader) (chunk buf₀ buf out : List ℕ) (fed : Fed) → Feeds reader chunk buf₀ fed buf → length buf₀ ≡ 256 →
-    Feeding reader chunk out fed 0 0 0 buf out
-feeding reader chunk buf₀ buf out fed feeds full =
+-- What a chunk gives has room, and little noise.
+pub chunk-room : (r : Reader) (chunk out : List ℕ) → r .count ≤ limit (r .framing) → length chunk ≤ 65536 → 132106 ≤ length out →
+    Room (drain (stateOf r) chunk) 0 0 out
+chunk-room r chunk out l m h =
+    let size = drain-is-sized (stateOf r) chunk in
+    let few : length (stateOf r .held) + length chunk ≤ 66053 = omega (arith, held-few r, limit-most (r .framing)) in
     record {
-      r = reader;
-      old = buf₀;
-      feeds = feeds;
-      full = full;
-      framing = refl;
-      inside = omega arith;
-      rest = refl;
-      progress = progress (drain (reader .framing) (heldIn reader ++ chunk) .out) out 0 0;
-      stays = inr (refl, refl, refl);
+      room = room-for (drain (stateOf r) chunk .out) (length (stateOf r .held) + length chunk) 66053 (length out) (omega arith) few (omega arith);
+      few = omega arith;
     }
 
--- The calls so far gave the state r, none was refused, and all that is listed has room.
-pub record Midway (reader : Reader) (chunk out₀ : List ℕ) (r : Reader) (done end noise : ℕ) (out : List ℕ) : Type 0 where
-  pub framing : r .framing ≡ reader .framing
-  pub within : r .count ≤ limit (r .framing)
-  pub free : feedRefusal reader 256 (length chunk) ≡ 0
-  pub inside : done ≤ length chunk
-  pub rest : drain (reader .framing) (heldIn r ++ drop done chunk) .rest ≡ drain (reader .framing) (heldIn reader ++ chunk) .rest
-  pub progress :
-      Progress (drain (reader .framing) (heldIn reader ++ chunk) .out) (drain (reader .framing) (heldIn r ++ drop done chunk) .out) out₀ 0 0 end noise out
-  pub room : 0 + length (linesOf (drain (reader .framing) (heldIn reader ++ chunk) .out .frames)) ≤ length out₀
+-- So has what the rule gives at a quiet.
+pub quiet-room : (r : Reader) (out : List ℕ) → r .count ≤ limit (r .framing) → 1034 ≤ length out →
+    (0 + length (linesOf (ruleAfter (stateOf r) [] .frames)) ≤ length out) × (ruleAfter (stateOf r) [] .noise ≤ 517)
+quiet-room r out l h =
+    let size = rule-is-sized (r .framing) (stateOf r .held ++ []) in
+    let few : length (stateOf r .held ++ []) ≤ 517 = rw append-nil (omega (arith, held-few r, limit-most (r .framing))) in
+    (room-for (ruleAfter (stateOf r) []) (length (stateOf r .held ++ [])) 517 (length out) size few h, omega arith)
 
--- The noise of a chunk that is not refused is small.
-noise-small : (reader : Reader) (chunk : List ℕ) → feedRefusal reader 256 (length chunk) ≡ 0 →
-    drain (reader .framing) (heldIn reader ++ chunk) .out .noise ≤ 66053
-noise-small reader chunk e =
-    let l = feed-free reader (length chunk) e in
-    let size = simp length-append at (drain-is-sized (reader .framing) (heldIn reader ++ chunk)) in
-    omega (arith, held-few reader, limit-most (reader .framing))
+-- The first call is still to come.
+pub midway : (s : State) (chunk out : List ℕ) (at base : ℕ) → Midway (drain s chunk) s chunk out at base at base out
+midway s chunk out at base = record { same = refl; progress = progress (drain s chunk .out) out at base }
 
--- The next call from there.
-pub fed-again :
-    {reader : Reader} {chunk out₀ : List ℕ} {r : Reader} {done end noise : ℕ} {out buf buf′ : List ℕ} {fed : Fed} →
-    Midway reader chunk out₀ r done end noise out → Feeds r (drop done chunk) buf fed buf′ → length buf ≡ 256 →
-    Feeding reader chunk out₀ fed done end noise buf′ out
-fed-again {reader} {chunk} {out₀} {r} {done} {end} {noise} {out} {buf} m feeds full =
-    record {
-      r = r;
-      old = buf;
-      feeds = feeds;
-      full = full;
-      framing = m .framing;
-      inside = m .inside;
-      rest = m .rest;
-      progress = m .progress;
-      stays =
-          inl (m .free, feed-frees r (length (drop done chunk)) (m .within) (omega (arith, length-drop done chunk, feed-free reader (length chunk) (m .free) .1)));
-    }
+module _ {whole : Settled} {s : State} {rest out₀ : List ℕ} {at base end noise : ℕ} {out : List ℕ} (g : Midway whole s rest out₀ at base end noise out)
+    (fits : Room whole at base out₀) where
+  -- What is left begins with what the call gives.
+  left-is : (o : Output (List ℕ)) → line s rest .out ≡ o →
+      drain s rest .out ≡ join o (drain (after s (line s rest)) (drop (line s rest .taken) rest) .out)
+  left-is o e =
+      ap (λ (st : Settled). st .out) (line-drains s rest)
+      ∙ ap (λ (x : Output (List ℕ)). join x (drain (after s (line s rest)) (drop (line s rest .taken) rest) .out)) e
 
--- A state that counts no bytes holds none.
-none-held : (r : Reader) (s : List ℕ) → r .count ≡ 0 → heldIn r ++ s ≡ s
-none-held r s e = ap (λ (n : ℕ). take n (r .held) ++ s) e
+  -- A frame came out: there is room for its line, the noise so far is small, and behind it the calls go on.
+  module _ (p : List ℕ) (more : ℕ) (e : line s rest .out ≡ one p more) where
+    pub frame-room : end + length (lineOf p) ≤ length out
+    frame-room = progress-room (g .progress) (fits .room) p more _ (left-is (one p more) e)
 
--- Where nothing is held there, all that follows has room.
-pub clean-room :
-    {reader : Reader} {chunk out₀ : List ℕ} {r : Reader} {done end noise : ℕ} {out : List ℕ} →
-    Midway reader chunk out₀ r done end noise out → CanClean (r .framing) (r .count) chunk (spot done end noise) out
-clean-room {reader} {chunk} {out₀} {r} {done} {end} {noise} {out} m e =
-    let same : drain (reader .framing) (heldIn r ++ drop done chunk) ≡ behind (r .framing) chunk (spot done end noise) =
-    ap₂ (λ (f : Framing) (s : List ℕ). drain f s) (sym (m .framing)) (none-held r (drop done chunk) e) in
-    let room = going-room (m .room) (m .progress .text) in
-    let all = m .progress .noises in
-    record {
-      inside = m .inside;
-      small = feed-free reader (length chunk) (m .free) .1;
-      room = rw (← same) room;
-      few = rw (← same) (omega (arith, noise-small reader chunk (m .free)));
-    }
+    pub frame-noise : noise + more ≤ 66053
+    unfolding join
+    frame-noise =
+        let l : more ≤ drain s rest .out .noise = omega (arith, ap (λ (o : Output (List ℕ)). o .noise) (left-is (one p more) e)) in
+        omega (arith, progress-noise (g .progress) more l, fits .few)
 
--- And behind what is listed of it the calls go on.
-pub clean-step :
-    {reader : Reader} {chunk out₀ : List ℕ} {r : Reader} {done end noise : ℕ} {out out′ : List ℕ} {s : Spot} →
-    Midway reader chunk out₀ r done end noise out → Cleans (r .framing) (r .count) chunk (spot done end noise) out s out′ →
-    Midway reader chunk out₀ r (s .done) (s .end) (s .noise) out′
-    × (length (drain (r .framing) (heldIn r ++ drop (s .done) chunk) .out .frames) ≤ length (drain (r .framing) (heldIn r ++ drop done chunk) .out .frames))
-clean-step {reader} {chunk} {out₀} {r} {done} {end} {noise} {out} {out′} {s} m k = by (r .count) refl
-  where
-    by : (n : ℕ) → r .count ≡ n →
-        Midway reader chunk out₀ r (s .done) (s .end) (s .noise) out′
-        × (length (drain (r .framing) (heldIn r ++ drop (s .done) chunk) .out .frames) ≤ length (drain (r .framing) (heldIn r ++ drop done chunk) .out .frames))
-    by zero e =
-        let c = k .clean e in
-        let before-is : drain (reader .framing) (heldIn r ++ drop done chunk) ≡ behind (r .framing) chunk (spot done end noise) =
-        ap₂ (λ (f : Framing) (l : List ℕ). drain f l) (sym (m .framing)) (none-held r (drop done chunk) e) in
-        let after-is : drain (reader .framing) (heldIn r ++ drop (s .done) chunk) ≡ behind (r .framing) chunk s =
-        ap₂ (λ (f : Framing) (l : List ℕ). drain f l) (sym (m .framing)) (none-held r (drop (s .done) chunk) e) in (
-          record {
-            framing = m .framing;
-            within = m .within;
-            free = m .free;
-            inside = c .inside;
-            rest = ap (λ (st : Settled). st .rest) after-is ∙ c .rest ∙ sym (ap (λ (st : Settled). st .rest) before-is) ∙ m .rest;
-            progress =
-                record {
-                  text =
-                      subst (λ (st : Settled). Going out₀ 0 (linesOf (drain (reader .framing) (heldIn reader ++ chunk) .out .frames)) (linesOf (st .out .frames)) (s .end) out′)
-                      (sym after-is)
-                      (going-on (m .room)
-                      (subst (λ (st : Settled). Going out₀ 0 (linesOf (drain (reader .framing) (heldIn reader ++ chunk) .out .frames)) (linesOf (st .out .frames)) end out) before-is (m .progress .text))
-                      (c .progress .text));
-                  noises =
-                      omega (
-                        arith,
-                        ap (λ (st : Settled). st .out .noise) after-is,
-                        ap (λ (st : Settled). st .out .noise) before-is,
-                        c .progress .noises,
-                        m .progress .noises,
-                      );
-                };
-            room = m .room;
-          },
-          rw (none-held r (drop (s .done) chunk) e, none-held r (drop done chunk) e) (c .fewer),
-        )
-    by (suc n) e =
-        let same = k .stays (λ (z : r .count ≡ 0). absurd (omega arith)) in (
-          subst (λ (x : Spot). Midway reader chunk out₀ r (x .done) (x .end) (x .noise) out′) (sym (same .0))
-              (subst (λ (o : List ℕ). Midway reader chunk out₀ r done end noise o) (sym (same .1)) m),
-          rw (same .0) (omega arith),
-        )
-
-module _ {reader : Reader} {chunk out₀ : List ℕ} {fed : Fed} {done end noise : ℕ} {buf out : List ℕ} (g : Feeding reader chunk out₀ fed done end noise buf out) where
-  abbrev whole : Output (List ℕ)
-  whole = drain (reader .framing) (heldIn reader ++ chunk) .out
-
-  abbrev left : List ℕ → Output (List ℕ)
-  left s = drain (reader .framing) (heldIn (fed .reader) ++ s) .out
-
-  module _ (n : FeedIsRefused (fed .answer) → ⊥) where
-    -- The call was not refused, so none was.
-    free : (feedRefusal reader 256 (length chunk) ≡ 0) × (feedRefusal (g .r) 256 (length (drop done chunk)) ≡ 0)
-    free =
-        let here = rw (g .full) at (feed-tells (g .r) (drop done chunk) (g .old) fed buf (g .feeds) .answered n .0) in
-        ⊎-elim
-        (λ h. h)
-        (λ (h : (g .r ≡ reader) × (done ≡ 0) × (out ≡ out₀)). (rw (h .0, h .1) at here, here))
-        (g .stays)
-
-    -- All that is listed fits.
-    fits-room : 132106 ≤ length out₀ → 0 + length (linesOf (whole .frames)) ≤ length out₀
-    fits-room h =
-        let limits = feed-free reader (length chunk) (free .0) in
-        let size = drain-is-sized (reader .framing) (heldIn reader ++ chunk) in
-        room-for whole (length (heldIn reader ++ chunk)) 66053 (length out₀)
-        (omega arith)
-        (simp length-append (omega (arith, held-few reader, limit-most (reader .framing))))
-        (omega arith)
-
-    -- What was left is what the call hands out, and then what is left behind it.
-    left-is :
-        drain (reader .framing) (heldIn (g .r) ++ drop done chunk)
-        ≡ before (feedOut (fed .answer) buf) (drain (reader .framing) (heldIn (fed .reader) ++ drop (done + takenIn (fed .answer)) chunk))
-    left-is =
-        let s = step-drain (g .r) (drop done chunk) (g .old) buf fed (g .feeds) n in
-        rw drop-drop at (rw (g .framing) at (s .0))
-
-    -- No more is taken than the chunk has.
-    taken-inside : done + takenIn (fed .answer) ≤ length chunk
-    taken-inside =
-        let t = feed-tells (g .r) (drop done chunk) (g .old) fed buf (g .feeds) .answered n .2 in
-        let most = taken-is-inside (g .r .framing) (heldIn (g .r)) (drop done chunk) in
-        omega (arith, g .inside, length-drop done chunk)
-
-  -- The answer is a frame.
-  module _ {taken more len : ℕ} (e : fed .answer ≡ FeedFrame taken more len) where
-    not-refused : FeedIsRefused (fed .answer) → ⊥
-    not-refused = subst (λ (a : FeedAnswer). FeedIsRefused a → ⊥) (sym e) (λ h. h)
-
-    -- What was left begins with it.
-    frame-left :
-        drain (reader .framing) (heldIn (g .r) ++ drop done chunk)
-        ≡ before (one (take len buf) more) (drain (reader .framing) (heldIn (fed .reader) ++ drop (done + taken) chunk))
-    frame-left =
-        subst
-        (λ (a : FeedAnswer).
-        drain (reader .framing) (heldIn (g .r) ++ drop done chunk)
-        ≡ before (feedOut a buf) (drain (reader .framing) (heldIn (fed .reader) ++ drop (done + takenIn a) chunk)))
-        e (left-is not-refused)
-
-    out-left : drain (reader .framing) (heldIn (g .r) ++ drop done chunk) .out ≡ join (one (take len buf) more) (left (drop (done + taken) chunk))
-    out-left = ap (λ (st : Settled). st .out) frame-left
-
-    -- Its payload is within the buffer.
-    pub frame-inside : len ≤ length buf
-    frame-inside =
-        subst (λ (a : FeedAnswer). feedValuesOf a .len ≤ length buf) e (feed-tells (g .r) (drop done chunk) (g .old) fed buf (g .feeds) .inside)
-
-    -- The bytes taken are within the chunk.
-    pub frame-taken : done + taken ≤ length chunk
-    frame-taken = subst (λ (a : FeedAnswer). done + takenIn a ≤ length chunk) e (taken-inside not-refused)
-
-    module _ (h : 132106 ≤ length out₀) where
-      -- There is room for its line.
-      pub frame-room : end + length (lineOf (take len buf)) ≤ length out
-      frame-room = progress-room (g .progress) (fits-room not-refused h) (take len buf) more (left (drop (done + taken) chunk)) out-left
-
-      -- The noise so far is no more than the bytes.
-      pub frame-noise : noise + more ≤ 66053
-      unfolding join
-      frame-noise =
-          let limits = feed-free reader (length chunk) (free not-refused .0) in
-          let size = drain-is-sized (reader .framing) (heldIn reader ++ chunk) in
-          let few : length (heldIn reader ++ chunk) ≤ 66053 =
-          simp length-append (omega (arith, held-few reader, limit-most (reader .framing))) in
-          let l : more ≤ drain (reader .framing) (heldIn (g .r) ++ drop done chunk) .out .noise =
-          omega (arith, ap (λ (o : Output (List ℕ)). o .noise) out-left) in
-          omega (arith, progress-noise (g .progress) more l)
-
-      -- Behind it the calls go on.
-      pub frame-step :
-          {next : ℕ} {after : List ℕ} → Puts out end (lineOf (take len buf)) next after →
-          Midway reader chunk out₀ (fed .reader) (done + taken) next (noise + more) after
-      frame-step p =
-          let old = feed-free (g .r) (length (drop done chunk)) (free not-refused .1) in
-          let kept = feed-stays-in-limit (g .r) (drop done chunk) (g .old) fed buf (g .feeds) (old .0) in
-          record {
-            framing = kept .0 ∙ g .framing;
-            within = rw (kept .0) (kept .1);
-            free = free not-refused .0;
-            inside = frame-taken;
-            rest = sym (ap (λ (st : Settled). st .rest) frame-left) ∙ g .rest;
-            progress =
-                progress-frame (g .progress) (fits-room not-refused h) (take len buf) more (left (drop (done + taken) chunk)) out-left p;
-            room = fits-room not-refused h;
-          }
-
-  -- More bytes are needed.
-  module _ {taken more : ℕ} (e : fed .answer ≡ NeedsMore taken more) where
-    more-refused : FeedIsRefused (fed .answer) → ⊥
-    more-refused = subst (λ (a : FeedAnswer). FeedIsRefused a → ⊥) (sym e) (λ h. h)
-
-    -- All is drained.
-    more-left :
-        (drain (reader .framing) (heldIn (g .r) ++ drop done chunk) ≡ record { out = none more; rest = heldIn (fed .reader) })
-        × Holds (reader .framing) (heldIn (fed .reader)) (fed .reader)
-    more-left = rw (g .framing) at (needs-drain (g .r) (drop done chunk) (g .old) buf fed taken more (g .feeds) e)
-
-    more-out : drain (reader .framing) (heldIn (g .r) ++ drop done chunk) .out ≡ none more
-    more-out = ap (λ (st : Settled). st .out) (more-left .0)
-
-    -- The noise is no more than the bytes.
-    pub more-noise : noise + more ≤ 66053
-    more-noise =
-        let limits = feed-free reader (length chunk) (free more-refused .0) in
-        let size = drain-is-sized (reader .framing) (heldIn reader ++ chunk) in
-        let few : length (heldIn reader ++ chunk) ≤ 66053 =
-        simp length-append (omega (arith, held-few reader, limit-most (reader .framing))) in
-        let l : more ≤ drain (reader .framing) (heldIn (g .r) ++ drop done chunk) .out .noise =
-        omega (arith, ap (λ (o : Output (List ℕ)). o .noise) more-out) in
-        omega (arith, progress-noise (g .progress) more l)
-
-    -- All is listed.
-    pub feeding-done :
-        132106 ≤ length out₀ → (a : Listed) → a .reader ≡ fed .reader → a .answer ≡ Lines end (noise + more) → ListsChunk reader chunk out₀ a out
-    feeding-done h a er ea =
-        let done-all = progress-end (g .progress) (fits-room more-refused h) more more-out in
-        let front = puts-front out₀ (linesOf (whole .frames)) out end (done-all .0) in
-        let number : chunkRefusal reader (length out₀) (length chunk) ≡ 0 = rw (le-leb 132106 (length out₀) h) (free more-refused .0) in
+    pub frame-step :
+        {next : ℕ} {out′ : List ℕ} → Puts out end (lineOf p) next out′ →
+        Midway whole (after s (line s rest)) (drop (line s rest .taken) rest) out₀ at base next (noise + more) out′
+    frame-step q =
         record {
-          refuses = λ z. absurd (true≢false (sym (ap (λ (k : ℕ). eqb k 0) number) ∙ z));
-          answers = λ z. (
-            ap valuesOf ea ∙ (λ i. record { number = 0; len = front .0 i; noise = (done-all .1 ∙ zero-add (whole .noise)) i }),
-            subst (Holds (reader .framing) (drain (reader .framing) (heldIn reader ++ chunk) .rest)) (sym er)
-                (subst (λ (l : List ℕ). Holds (reader .framing) l (fed .reader)) (sym (ap (λ (st : Settled). st .rest) (more-left .0)) ∙ g .rest) (more-left .1)),
-            front .1,
-          );
+          same = sym (ap (λ (st : Settled). st .rest) (line-drains s rest)) ∙ g .same;
+          progress = progress-frame (g .progress) (fits .room) p more _ (left-is (one p more) e) q;
         }
 
-  -- The first call was refused.
-  module _ {refusal : Refusal} (e : fed .answer ≡ FeedRefused refusal) where
-    refused-here : FeedIsRefused (fed .answer)
-    refused-here = subst FeedIsRefused (sym e) tt
+    -- Fewer frames are left.
+    pub frame-less :
+        length (drain (after s (line s rest)) (drop (line s rest .taken) rest) .out .frames) < length (drain s rest .out .frames)
+    unfolding join
+    frame-less = omega (arith, ap (λ (o : Output (List ℕ)). length (o .frames)) (left-is (one p more) e))
 
-    pub feeding-refused :
-        132106 ≤ length out₀ → (a : Listed) → a .reader ≡ fed .reader → a .answer ≡ Refused refusal → ListsChunk reader chunk out₀ a out
-    feeding-refused h a er ea =
-        let s = feed-tells (g .r) (drop done chunk) (g .old) fed buf (g .feeds) .refused refused-here in
-        let s0 = rw (g .full) at (s .0) in
-        let s1 = rw (g .full) at (s .1) in
-        ⊎-elim
-        (λ (k : (feedRefusal reader 256 (length chunk) ≡ 0) × (feedRefusal (g .r) 256 (length (drop done chunk)) ≡ 0)).
-        absurd (true≢false (sym (ap (λ (n : ℕ). eqb n 0) (k .1)) ∙ s0)))
-        (λ (k : (g .r ≡ reader) × (done ≡ 0) × (out ≡ out₀)).
-        let number : chunkRefusal reader (length out₀) (length chunk) ≡ feedRefusal (g .r) 256 (length (drop done chunk)) =
-        rw (le-leb 132106 (length out₀) h, k .0, k .1) refl in
-        record {
-          refuses = λ z. (
-            ap valuesOf ea
-                ∙ (λ i. record { number = (ap (λ (x : FeedAnswer). feedValuesOf x .number) (sym e) ∙ s1 ∙ sym number) i; len = 0; noise = 0 }),
-            er ∙ s .2 ∙ k .0,
-            k .2,
-          );
-          answers = λ z. absurd (true≢false (sym z ∙ ap (λ (n : ℕ). eqb n 0) number ∙ s0));
-        })
-        (g .stays)
+  -- None did: all is drained.
+  module _ (more : ℕ) (e : line s rest .out ≡ none more) where
+    none-frames : line s rest .out .frames ≡ []
+    none-frames = ap (λ (o : Output (List ℕ)). o .frames) e
 
--- How many frames a call's answer and what is left behind it have.
-abbrev pub leftAt : FeedAnswer → Reader → List ℕ → ℕ → ℕ
-leftAt (FeedFrame taken more len) r chunk done = suc (length (drain (r .framing) (heldIn r ++ drop (done + taken) chunk) .out .frames))
-leftAt (NeedsMore taken more) r chunk done = 0
-leftAt (FeedRefused refusal) r chunk done = 0
+    drained : drain s rest ≡ settled (none more) (line s rest .held)
+    unfolding join
+    drained =
+        let c : Called = line s rest in
+        let over : drop (c .taken) rest ≡ [] = ap (λ (n : ℕ). drop n rest) (needs-more-is-true s rest none-frames .0) ∙ drop-length rest in
+        line-drains s rest
+        ∙ ap₂ before e (ap (drain (after s c)) over ∙ needs-more-is-drained s rest none-frames)
+        ∙ (λ i. settled (output [] (add-zero more i)) (c .held))
 
--- They are no more than the call's bytes give.
-left-most :
-    (r : Reader) (chunk old buf : List ℕ) (fed : Fed) (done : ℕ) (a : FeedAnswer) → Feeds r (drop done chunk) old fed buf → fed .answer ≡ a →
-    leftAt a (fed .reader) chunk done ≤ length (drain (r .framing) (heldIn r ++ drop done chunk) .out .frames)
-unfolding join
-left-most r chunk old buf fed done (FeedFrame taken more len) feeds e =
-    let n : FeedIsRefused (fed .answer) → ⊥ = subst (λ (x : FeedAnswer). FeedIsRefused x → ⊥) (sym e) (λ h. h) in
-    let s = step-drain r (drop done chunk) old buf fed feeds n in
-    let t = rw e at (s .0) in
-    rw (t, drop-drop, s .1) (omega arith)
-left-most r chunk old buf fed done (NeedsMore taken more) feeds e = omega arith
-left-most r chunk old buf fed done (FeedRefused refusal) feeds e = omega arith
-
--- Behind a frame's answer they are fewer, the more so behind others that were listed.
-pub left-less :
-    (chunk buf buf′ : List ℕ) (fed fed′ : Fed) (done later : ℕ) {taken more len : ℕ} → fed .answer ≡ FeedFrame taken more len →
-    Feeds (fed .reader) (drop later chunk) buf fed′ buf′ →
-    length (drain (fed .reader .framing) (heldIn (fed .reader) ++ drop later chunk) .out .frames)
-    ≤ length (drain (fed .reader .framing) (heldIn (fed .reader) ++ drop (done + taken) chunk) .out .frames) →
-    leftAt (fed′ .answer) (fed′ .reader) chunk later < leftAt (fed .answer) (fed .reader) chunk done
-left-less chunk buf buf′ fed fed′ done later e feeds l =
-    rw e (suc-le-suc (le-trans (left-most (fed .reader) chunk buf buf′ fed′ later (fed′ .answer) feeds refl) l))
-
--- A buffer that is too short.
-pub chunk-refused :
-    (reader : Reader) (chunk out : List ℕ) (a : Listed) → length out < 132106 → a .reader ≡ reader → a .answer ≡ Refused Buffer → ListsChunk reader chunk out a out
-chunk-refused reader chunk out a h er ea =
-    let number : chunkRefusal reader (length out) (length chunk) ≡ 13 = rw (lt-leb 132106 (length out) h) refl in
-    record {
-      refuses = λ z. (ap valuesOf ea ∙ (λ i. record { number = sym number i; len = 0; noise = 0 }), er, refl);
-      answers = λ z. absurd (true≢false (sym z ∙ ap (λ (n : ℕ). eqb n 0) number));
-    }
-
--- A quiet call that is not refused had a state within the limit.
-pub quiet-free : (r : Reader) → quietRefusal r 256 ≡ 0 → r .count ≤ limit (r .framing)
-quiet-free r = by (leb (r .count) (limit (r .framing))) refl
-  where
-    by : (a : Bool) → leb (r .count) (limit (r .framing)) ≡ a → _≡_ {A = ℕ} (cond a 0 16) 0 → r .count ≤ limit (r .framing)
-    by true p e = leb-true (r .count) (limit (r .framing)) p
-    by false p e = absurd (omega arith)
-
-quiet-frees : (r : Reader) → r .count ≤ limit (r .framing) → quietRefusal r 256 ≡ 0
-quiet-frees r l = rw (le-leb (r .count) (limit (r .framing)) l)
-
--- What the rule gives over the bytes that a state holds.
-abbrev pub ruled : Framing → Reader → Output (List ℕ)
-ruled f r = payloads (rule f (heldIn r))
-
--- A quiet call that hands out a frame gives the first part of that.
-quiet-step :
-    (r : Reader) (old buf : List ℕ) (q : Quieted) (more len : ℕ) → Quiets r old q buf → q .answer ≡ QuietFrame more len →
-    ruled (r .framing) r ≡ join (one (take len buf) more) (ruled (r .framing) (q .reader))
-quiet-step r old buf q more len quiets e =
-    let f : Framing = r .framing in
-    let c : Called = quiet f (heldIn r) in
-    let n : QuietIsRefused (q .answer) → ⊥ = subst (λ (a : QuietAnswer). QuietIsRefused a → ⊥) (sym e) (λ h. h) in
-    let h = quiet-tells r old q buf quiets .answered n in
-    let out : c .out ≡ one (take len buf) more = sym (h .1) ∙ ap (λ (a : QuietAnswer). quietOut a buf) e in
-    let frames : c .out .frames ≡ take len buf ∷ [] = ap (λ (o : Output (List ℕ)). o .frames) out in
-    let held : Holds f (c .held) (q .reader) = subst (λ (fs : List (List ℕ)). AfterQuiet f c fs (q .reader)) frames (h .2) in
-    quiet-follows-rule f (heldIn r) ∙ ap₂ join out (ap (λ (l : List ℕ). payloads (rule f l)) (sym (held .bytes)))
-
--- One that is empty has given all.
-quiet-end :
-    (r : Reader) (old buf : List ℕ) (q : Quieted) (more : ℕ) → Quiets r old q buf → q .answer ≡ Empty more →
-    (ruled (r .framing) r ≡ none more) × (q .reader ≡ newReader (r .framing))
-unfolding join ruleFrom
-quiet-end r old buf q more quiets e =
-    let f : Framing = r .framing in
-    let c : Called = quiet f (heldIn r) in
-    let n : QuietIsRefused (q .answer) → ⊥ = subst (λ (a : QuietAnswer). QuietIsRefused a → ⊥) (sym e) (λ h. h) in
-    let h = quiet-tells r old q buf quiets .answered n in
-    let out : c .out ≡ none more = sym (h .1) ∙ ap (λ (a : QuietAnswer). quietOut a buf) e in
-    let frames : c .out .frames ≡ [] = ap (λ (o : Output (List ℕ)). o .frames) out in (
-      quiet-follows-rule f (heldIn r)
-          ∙ ap₂ join out (ap (λ (l : List ℕ). payloads (rule f l)) (empty-is-drained f (heldIn r) frames))
-          ∙ (λ i. record { frames = []; noise = add-zero more i }),
-      subst (λ (fs : List (List ℕ)). AfterQuiet f c fs (q .reader)) frames (h .2),
-    )
-
--- Calls of one quiet: this is the answer of the one that was made with r. It is the first one, or none was refused.
-pub record Quieting (reader : Reader) (out₀ : List ℕ) (q : Quieted) (end noise : ℕ) (buf out : List ℕ) : Type 0 where
-  pub r : Reader
-  pub old : List ℕ
-  pub quiets : Quiets r old q buf
-  pub full : length old ≡ 256
-  pub framing : r .framing ≡ reader .framing
-  pub progress : Progress (ruled (reader .framing) reader) (ruled (reader .framing) r) out₀ 0 0 end noise out
-  pub stays : ((quietRefusal reader 256 ≡ 0) × (quietRefusal r 256 ≡ 0)) ⊎ ((r ≡ reader) × (out ≡ out₀))
-
--- The first call.
-pub quieting : (reader : Reader) (buf₀ buf out : List ℕ) (q : Quieted) → Quiets reader buf₀ q buf → length buf₀ ≡ 256 → Quieting reader out q 0 0 buf out
-quieting reader buf₀ buf out q quiets full =
-    record {
-      r = reader;
-      old = buf₀;
-      quiets = quiets;
-      full = full;
-      framing = refl;
-      progress = progress (ruled (reader .framing) reader) out 0 0;
-      stays = inr (refl, refl);
-    }
-
-module _ {reader : Reader} {out₀ : List ℕ} {q : Quieted} {end noise : ℕ} {buf out : List ℕ} (g : Quieting reader out₀ q end noise buf out) where
-  module _ (n : QuietIsRefused (q .answer) → ⊥) where
-    -- The call was not refused, so none was.
-    free-quiet : (quietRefusal reader 256 ≡ 0) × (quietRefusal (g .r) 256 ≡ 0)
-    free-quiet =
-        let here = rw (g .full) at (quiet-tells (g .r) (g .old) q buf (g .quiets) .answered n .0) in
-        ⊎-elim (λ h. h) (λ (h : (g .r ≡ reader) × (out ≡ out₀)). (rw (h .0) at here, here)) (g .stays)
-
-    -- The bytes held are few.
-    few-held : length (heldIn reader) ≤ 517
-    few-held = omega (arith, held-few reader, quiet-free reader (free-quiet .0), limit-most (reader .framing))
-
-    -- All that is listed fits.
-    quiet-room : 1034 ≤ length out₀ → 0 + length (linesOf (ruled (reader .framing) reader .frames)) ≤ length out₀
-    quiet-room h =
-        room-for (ruled (reader .framing) reader) (length (heldIn reader)) 517 (length out₀) (rule-is-sized (reader .framing) (heldIn reader)) few-held h
-
-    -- The noise is no more than the bytes.
-    some-noise : (more : ℕ) → more ≤ ruled (reader .framing) (g .r) .noise → noise + more ≤ 517
-    some-noise more l =
-        omega (arith, progress-noise (g .progress) more l, rule-is-sized (reader .framing) (heldIn reader), few-held)
-
-  -- The answer is a frame.
-  module _ {more len : ℕ} (e : q .answer ≡ QuietFrame more len) where
-    frame-answered : QuietIsRefused (q .answer) → ⊥
-    frame-answered = subst (λ (a : QuietAnswer). QuietIsRefused a → ⊥) (sym e) (λ h. h)
-
-    -- What was left begins with it.
-    ruled-left : ruled (reader .framing) (g .r) ≡ join (one (take len buf) more) (ruled (reader .framing) (q .reader))
-    ruled-left = rw (g .framing) at (quiet-step (g .r) (g .old) buf q more len (g .quiets) e)
-
-    -- Its payload is within the buffer.
-    pub quiet-inside : len ≤ length buf
-    quiet-inside = subst (λ (a : QuietAnswer). quietValuesOf a .len ≤ length buf) e (quiet-tells (g .r) (g .old) q buf (g .quiets) .inside)
-
-    module _ (h : 1034 ≤ length out₀) where
-      -- There is room for its line.
-      pub quiet-line-room : end + length (lineOf (take len buf)) ≤ length out
-      quiet-line-room =
-          progress-room (g .progress) (quiet-room frame-answered h) (take len buf) more (ruled (reader .framing) (q .reader)) ruled-left
-
-      pub quiet-frame-noise : noise + more ≤ 517
-      unfolding join
-      quiet-frame-noise = some-noise frame-answered more (omega (arith, ap (λ (o : Output (List ℕ)). o .noise) ruled-left))
-
-      -- The state that follows is within the limit.
-      pub quiet-within : q .reader .count ≤ limit (q .reader .framing)
-      quiet-within =
-          let kept = quiet-stays-in-limit (g .r) (g .old) q buf (g .quiets) (quiet-free (g .r) (free-quiet frame-answered .1)) in
-          rw (kept .0) (kept .1)
-
-      -- The next call.
-      pub quieting-next :
-          {next : ℕ} {after buf′ : List ℕ} {q′ : Quieted} → Puts out end (lineOf (take len buf)) next after → Quiets (q .reader) buf q′ buf′ →
-          length buf ≡ 256 → Quieting reader out₀ q′ next (noise + more) buf′ after
-      quieting-next p quiets full =
-          let kept = quiet-stays-in-limit (g .r) (g .old) q buf (g .quiets) (quiet-free (g .r) (free-quiet frame-answered .1)) in
-          record {
-            r = q .reader;
-            old = buf;
-            quiets = quiets;
-            full = full;
-            framing = kept .0 ∙ g .framing;
-            progress =
-                progress-frame (g .progress) (quiet-room frame-answered h) (take len buf) more (ruled (reader .framing) (q .reader)) ruled-left p;
-            stays = inl (free-quiet frame-answered .0, quiet-frees (q .reader) quiet-within);
-          }
-
-  -- The reader is empty.
-  module _ {more : ℕ} (e : q .answer ≡ Empty more) where
-    empty-answered : QuietIsRefused (q .answer) → ⊥
-    empty-answered = subst (λ (a : QuietAnswer). QuietIsRefused a → ⊥) (sym e) (λ h. h)
-
-    empty-left : (ruled (reader .framing) (g .r) ≡ none more) × (q .reader ≡ newReader (reader .framing))
-    empty-left = rw (g .framing) at (quiet-end (g .r) (g .old) buf q more (g .quiets) e)
-
-    pub empty-noise : noise + more ≤ 517
-    empty-noise = some-noise empty-answered more (omega (arith, ap (λ (o : Output (List ℕ)). o .noise) (empty-left .0)))
+    pub none-noise : noise + more ≤ 66053
+    none-noise =
+        let l : more ≤ drain s rest .out .noise = omega (arith, ap (λ (st : Settled). st .out .noise) drained) in
+        omega (arith, progress-noise (g .progress) more l, fits .few)
 
     -- All is listed.
-    pub quieting-done :
-        1034 ≤ length out₀ → (a : Listed) → a .reader ≡ q .reader → a .answer ≡ Lines end (noise + more) → ListsQuiet reader out₀ a out
-    quieting-done h a er ea =
-        let all = progress-end (g .progress) (quiet-room empty-answered h) more (empty-left .0) in
-        let front = puts-front out₀ (linesOf (ruled (reader .framing) reader .frames)) out end (all .0) in
-        let number : endRefusal reader (length out₀) ≡ 0 = rw (le-leb 1034 (length out₀) h) (free-quiet empty-answered .0) in
+    pub none-lists : (s₀ : State) (r : Reader) (a : Listed) → s .framing ≡ s₀ .framing → Holds (after s (line s rest)) r →
+        a .reader ≡ r → a .answer ≡ Lines end (noise + more) → ListsRest s₀ whole out₀ at base a out
+    none-lists s₀ r a ef h er ea =
+        let all = progress-end (g .progress) (fits .room) more (ap (λ (st : Settled). st .out) drained) in
+        let left : line s rest .held ≡ whole .rest = sym (ap (λ (st : Settled). st .rest) drained) ∙ g .same in
         record {
-          refuses = λ z. absurd (true≢false (sym (ap (λ (k : ℕ). eqb k 0) number) ∙ z));
-          answers = λ z. (
-            ap valuesOf ea ∙ (λ i. record { number = 0; len = front .0 i; noise = (all .1 ∙ zero-add (ruled (reader .framing) reader .noise)) i }),
-            er ∙ empty-left .1,
-            front .1,
-          );
+          values = ap valuesOf ea ∙ ap₂ textValues (all .0 .ends) (all .1);
+          state = subst (Holds (afterDrain s₀ whole)) (sym er) (subst (λ (x : State). Holds x r) (ap₂ holding ef left) h);
+          puts = subst (λ (n : ℕ). Puts out₀ at (linesOf (whole .out .frames)) n out) (all .0 .ends) (all .0);
         }
 
-  -- The first call was refused.
-  module _ {refusal : Refusal} (e : q .answer ≡ QuietRefused refusal) where
-    pub quieting-refused :
-        1034 ≤ length out₀ → (a : Listed) → a .reader ≡ q .reader → a .answer ≡ Refused refusal → ListsQuiet reader out₀ a out
-    quieting-refused h a er ea =
-        let s = quiet-tells (g .r) (g .old) q buf (g .quiets) .refused (subst QuietIsRefused (sym e) tt) in
-        let s0 = rw (g .full) at (s .0) in
-        let s1 = rw (g .full) at (s .1) in
-        ⊎-elim
-        (λ (k : (quietRefusal reader 256 ≡ 0) × (quietRefusal (g .r) 256 ≡ 0)). absurd (true≢false (sym (ap (λ (n : ℕ). eqb n 0) (k .1)) ∙ s0)))
-        (λ (k : (g .r ≡ reader) × (out ≡ out₀)).
-        let number : endRefusal reader (length out₀) ≡ quietRefusal (g .r) 256 = rw (le-leb 1034 (length out₀) h, k .0) refl in
-        record {
-          refuses = λ z. (
-            ap valuesOf ea
-                ∙ (λ i. record { number = (ap (λ (x : QuietAnswer). quietValuesOf x .number) (sym e) ∙ s1 ∙ sym number) i; len = 0; noise = 0 }),
-            er ∙ s .2 ∙ k .0,
-            k .1,
-          );
-          answers = λ z. absurd (true≢false (sym z ∙ ap (λ (n : ℕ). eqb n 0) number ∙ s0));
-        })
-        (g .stays)
+-- No refusal has the number 0.
+number-some : (r : Refusal) → eqb (numberOf r) 0 ≡ true → ⊥
+number-some Start e = true≢false (sym e)
+number-some Cut e = true≢false (sym e)
+number-some Length e = true≢false (sym e)
+number-some Checksum e = true≢false (sym e)
+number-some Footer e = true≢false (sym e)
+number-some Character e = true≢false (sym e)
+number-some Buffer e = true≢false (sym e)
+number-some Payload e = true≢false (sym e)
+number-some Chunk e = true≢false (sym e)
+number-some BadState e = true≢false (sym e)
 
--- How many frames an answer at a quiet and what is left behind it have.
-abbrev pub leftIn : QuietAnswer → Reader → ℕ
-leftIn (QuietFrame more len) r = suc (length (ruled (r .framing) r .frames))
-leftIn (Empty more) r = 0
-leftIn (QuietRefused refusal) r = 0
+-- What the values of a call's answer say where its number is 0.
+module _ {S : Type 0} {number : ℕ} (c : Called) {Next : S → Type 0} {s : S} {buf : List ℕ} {v : Values} {s′ : S} {buf′ : List ℕ}
+    (h : Says number c Next s buf v s′ buf′) (z : number ≡ 0) where
+  said : Answered v
+  said = by (eqb (v .number) 0) refl
+    where
+      by : (q : Bool) → eqb (v .number) 0 ≡ q → eqb (v .number) 0 ≡ true
+      by true e = e
+      by false e = absurd (true≢false (ap (λ (n : ℕ). eqb n 0) (sym z) ∙ h .refused e .0))
 
-quiet-most :
-    (r : Reader) (old buf : List ℕ) (q : Quieted) (a : QuietAnswer) → Quiets r old q buf → q .answer ≡ a → r .count ≤ limit (r .framing) →
-    leftIn a (q .reader) ≤ length (ruled (r .framing) r .frames)
-unfolding join
-quiet-most r old buf q (QuietFrame more len) quiets e l =
-    let kept = quiet-stays-in-limit r old q buf quiets l in
-    let all = ap (λ (o : Output (List ℕ)). length (o .frames)) (quiet-step r old buf q more len quiets e) in
-    let same = ap (λ (f : Framing). length (ruled f (q .reader) .frames)) (kept .0) in
-    omega (arith, all, same)
-quiet-most r old buf q (Empty more) quiets e l = omega arith
-quiet-most r old buf q (QuietRefused refusal) quiets e l = omega arith
+  pub says-frame : {taken more len : ℕ} → v ≡ frameValues taken more len → c .out ≡ one (take len buf′) more
+  says-frame e = sym (h .answered said .1) ∙ ap (λ (x : Values). outOf x buf′) e
 
--- Behind a frame's answer they are fewer.
-pub quiet-less :
-    (buf buf′ : List ℕ) (q q′ : Quieted) {more len : ℕ} → q .answer ≡ QuietFrame more len → Quiets (q .reader) buf q′ buf′ →
-    q .reader .count ≤ limit (q .reader .framing) → leftIn (q′ .answer) (q′ .reader) < leftIn (q .answer) (q .reader)
-quiet-less buf buf′ q q′ e quiets l = rw e (suc-le-suc (quiet-most (q .reader) buf buf′ q′ (q′ .answer) quiets refl l))
+  pub says-none : {taken more : ℕ} → v ≡ noFrameValues taken more → c .out ≡ none more
+  says-none e = sym (h .answered said .1) ∙ ap (λ (x : Values). outOf x buf′) e
 
--- A buffer that is too short.
-pub end-refused : (reader : Reader) (out : List ℕ) (a : Listed) → length out < 1034 → a .reader ≡ reader → a .answer ≡ Refused Buffer → ListsQuiet reader out a out
-end-refused reader out a h er ea =
-    let number : endRefusal reader (length out) ≡ 13 = rw (lt-leb 1034 (length out) h) refl in
+  pub says-inside : {taken more len : ℕ} → v ≡ frameValues taken more len → len ≤ length buf′
+  says-inside e = subst (λ (x : Values). x .len ≤ length buf′) e (h .inside)
+
+  pub says-taken : {taken more len : ℕ} → v ≡ frameValues taken more len → taken ≡ c .taken
+  says-taken e = sym (ap (λ (x : Values). x .taken) e) ∙ h .answered said .2
+
+  pub says-next : Next s′
+  says-next = h .answered said .3
+
+  pub says-refused : (r : Refusal) → v ≡ refusalsValues (numberOf r) → ⊥
+  says-refused r e = number-some r (ap (λ (x : Values). eqb (x .number) 0) (sym e) ∙ said)
+
+-- A view's call over a chunk that is not too long is not refused.
+pub view-free : (v : View) (chunk buf : List ℕ) → inside v (length chunk) ≡ true → length buf ≡ 256 → length chunk ≤ 65536 →
+    viewRefusal v (length buf) (length chunk) ≡ 0
+view-free v chunk buf e full small = rw (e, full, le-leb (length chunk) 65536 small)
+
+-- Calls that go on from an equal state with an equal rest.
+moved : {whole : Settled} {s s′ : State} {t t′ out₀ : List ℕ} {at base end noise : ℕ} {out : List ℕ} → s′ ≡ s → t′ ≡ t →
+    Midway whole s t out₀ at base end noise out → Midway whole s′ t′ out₀ at base end noise out
+moved {whole} {out₀ = out₀} {at} {base} {end} {noise} {out} e f m =
+    subst₂ (λ (s : State) (t : List ℕ). Midway whole s t out₀ at base end noise out) (sym e) (sym f) m
+
+-- What stands behind the bytes that a view's call took.
+view-rest : (v : View) (chunk : List ℕ) (v′ : View) → Follows v chunk (viewCall v chunk) v′ →
+    drop (v′ .end) chunk ≡ drop (viewCall v chunk .taken) (drop (v .end) chunk)
+view-rest v chunk v′ f = ap (λ (n : ℕ). drop n chunk) (f .end) ∙ sym (drop-drop (viewCall v chunk .taken) (v .end) chunk)
+
+-- The view that follows goes on with the chunk's rest.
+pub view-next :
+    {whole : Settled} {out₀ : List ℕ} {at base end noise : ℕ} {out : List ℕ} (v : View) (chunk : List ℕ) (v′ : View) →
+    Follows v chunk (viewCall v chunk) v′ →
+    Midway whole (after (viewed v chunk) (viewCall v chunk)) (drop (viewCall v chunk .taken) (drop (v .end) chunk)) out₀ at base end noise out →
+    Midway whole (viewed v′ chunk) (drop (v′ .end) chunk) out₀ at base end noise out
+view-next v chunk v′ f m = moved (f .state) (view-rest v chunk v′ f) m
+
+-- What is left behind it is the same.
+pub view-left : (v : View) (chunk : List ℕ) (v′ : View) → Follows v chunk (viewCall v chunk) v′ →
+    drain (viewed v′ chunk) (drop (v′ .end) chunk) ≡ drain (after (viewed v chunk) (viewCall v chunk)) (drop (viewCall v chunk .taken) (drop (v .end) chunk))
+view-left v chunk v′ f = ap₂ drain (f .state) (view-rest v chunk v′ f)
+
+-- The reader that stands for it has the state that follows.
+pub view-holds : (v : View) (chunk : List ℕ) (v′ : View) (r : Reader) → Follows v chunk (viewCall v chunk) v′ → inside v′ (length chunk) ≡ true →
+    Stands v′ chunk r → Holds (after (viewed v chunk) (viewCall v chunk)) r
+view-holds v chunk v′ r f e h =
+    subst (λ (s : State). Holds s r) (f .state) (subst (λ (q : Bool). Holds (cond q (viewed v′ chunk) (holding (v′ .framing) [])) r) e h)
+
+-- Neither is a line call, or a quiet call.
+pub feed-free : (r : Reader) (rest buf : List ℕ) → r .count ≤ limit (r .framing) → length buf ≡ 256 → length rest ≤ 65536 →
+    feedRefusal r (length buf) (length rest) ≡ 0
+feed-free r rest buf l full small = rw (le-leb (r .count) (limit (r .framing)) l, full, le-leb (length rest) 65536 small)
+
+pub quiet-free : (r : Reader) (buf : List ℕ) → r .count ≤ limit (r .framing) → length buf ≡ 256 → quietRefusal r (length buf) ≡ 0
+quiet-free r buf l full = rw (le-leb (r .count) (limit (r .framing)) l, full)
+
+-- The reader that follows a line call goes on with the chunk's rest.
+module _ (r : Reader) (chunk : List ℕ) (done taken : ℕ) (r′ : Reader) (h : Holds (after (stateOf r) (line (stateOf r) (drop done chunk))) r′)
+    (e : taken ≡ line (stateOf r) (drop done chunk) .taken) where
+  feed-rest : drop (done + taken) chunk ≡ drop (line (stateOf r) (drop done chunk) .taken) (drop done chunk)
+  feed-rest = ap (λ (n : ℕ). drop (done + n) chunk) e ∙ sym (drop-drop (line (stateOf r) (drop done chunk) .taken) done chunk)
+
+  pub feed-next :
+      {whole : Settled} {out₀ : List ℕ} {at base end noise : ℕ} {out : List ℕ} →
+      Midway whole (after (stateOf r) (line (stateOf r) (drop done chunk))) (drop (line (stateOf r) (drop done chunk) .taken) (drop done chunk)) out₀ at base end noise out →
+      Midway whole (stateOf r′) (drop (done + taken) chunk) out₀ at base end noise out
+  feed-next m = moved (h .state) feed-rest m
+
+  pub feed-left :
+      drain (stateOf r′) (drop (done + taken) chunk)
+      ≡ drain (after (stateOf r) (line (stateOf r) (drop done chunk))) (drop (line (stateOf r) (drop done chunk) .taken) (drop done chunk))
+  feed-left = ap₂ drain (h .state) feed-rest
+
+-- A quiet call with a frame gives the first part of what the rule gives, and the reader that follows the rest; an empty one gives all.
+module _ (r : Reader) (r′ : Reader) (h : AfterQuiet (stateOf r) (quiet (stateOf r)) (quiet (stateOf r) .out .frames) r′) where
+  pub quiet-next : (p : List ℕ) (more : ℕ) → quiet (stateOf r) .out ≡ one p more → ruleAfter (stateOf r) [] ≡ join (one p more) (ruleAfter (stateOf r′) [])
+  quiet-next p more e =
+      let c : Called = quiet (stateOf r) in
+      let held : Holds (after (stateOf r) c) r′ =
+      subst (λ (fs : List (List ℕ)). AfterQuiet (stateOf r) c fs r′) (ap (λ (o : Output (List ℕ)). o .frames) e) h in
+      quiet-follows-rule (stateOf r) ∙ ap₂ join e (ap (λ (s : State). ruleAfter s []) (sym (held .state)))
+
+  pub quiet-end : (more : ℕ) → quiet (stateOf r) .out ≡ none more → (ruleAfter (stateOf r) [] ≡ none more) × (r′ ≡ newReader (r .framing))
+  unfolding join rule places outFrom
+  quiet-end more e =
+      let c : Called = quiet (stateOf r) in
+      let frames : c .out .frames ≡ [] = ap (λ (o : Output (List ℕ)). o .frames) e in (
+        quiet-follows-rule (stateOf r)
+            ∙ ap₂ join e (ap (λ (l : List ℕ). ruleAfter (holding (r .framing) l) []) (empty-is-drained (stateOf r) frames))
+            ∙ (λ i. output [] (add-zero more i)),
+        subst (λ (fs : List (List ℕ)). AfterQuiet (stateOf r) c fs r′) frames h,
+      )
+
+-- A refused call.
+pub refused-lists :
+    {number : ℕ} (o : Output (List ℕ)) {Next : Reader → Type 0} (r : Reader) (out : List ℕ) (a : Listed) (refusal : Refusal) → number ≡ numberOf refusal →
+    a .reader ≡ r → a .answer ≡ Refused refusal → Lists number o Next r out a out
+refused-lists o r out a refusal n er ea =
     record {
-      refuses = λ z. (ap valuesOf ea ∙ (λ i. record { number = sym number i; len = 0; noise = 0 }), er, refl);
-      answers = λ z. absurd (true≢false (sym z ∙ ap (λ (n : ℕ). eqb n 0) number));
+      refuses = λ z. (ap valuesOf ea ∙ ap refusalValues (sym n), er, refl);
+      answers = λ z. absurd (number-some refusal (ap (λ (k : ℕ). eqb k 0) (sym n) ∙ z));
     }
+
+-- What is listed from the front of a buffer on is what the call promises.
+pub rest-lists :
+    {number : ℕ} {s : State} (whole : Settled) (r : Reader) (out : List ℕ) (a : Listed) (out′ : List ℕ) → number ≡ 0 →
+    ListsRest s whole out 0 0 a out′ → Lists number (whole .out) (Holds (afterDrain s whole)) r out a out′
+rest-lists whole r out a out′ z h =
+    let front = puts-front out (linesOf (whole .out .frames)) out′ (0 + length (linesOf (whole .out .frames))) (h .puts) in
+    record {
+      refuses = λ t. absurd (true≢false (ap (λ (n : ℕ). eqb n 0) (sym z) ∙ t));
+      answers = λ t. (
+        h .values ∙ ap₂ textValues (zero-add (length (linesOf (whole .out .frames)))) (zero-add (whole .out .noise)),
+        h .state,
+        front .1,
+      );
+    }
+
+-- Where calls are on their way, all that is left has room.
+pub midway-room : {whole : Settled} {s : State} {rest out₀ : List ℕ} {at base end noise : ℕ} {out : List ℕ} →
+    Midway whole s rest out₀ at base end noise out → Room whole at base out₀ → Room (drain s rest) end noise out
+midway-room g fits =
+    record { room = going-room (fits .room) (g .progress .text); few = omega (arith, g .progress .noises, fits .few) }
+
+-- What is left is listed, and so all is.
+pub midway-lists :
+    {whole : Settled} {s : State} {rest out₀ : List ℕ} {at base end noise : ℕ} {out : List ℕ} (s₀ : State) (a : Listed) (out′ : List ℕ) →
+    Midway whole s rest out₀ at base end noise out → Room whole at base out₀ → s .framing ≡ s₀ .framing → ListsRest s (drain s rest) out end noise a out′ →
+    ListsRest s₀ whole out₀ at base a out′
+midway-lists {whole} {s} {rest} {out₀} {at} {base} {end} {noise} {out} s₀ a out′ g fits ef h =
+    let text : List ℕ = linesOf (drain s rest .out .frames) in
+    let all : Puts out₀ at (linesOf (whole .out .frames)) (end + length text) out′ = going-last (fits .room) (g .progress .text) (h .puts) in
+    record {
+      values = h .values ∙ ap₂ textValues (all .ends) (g .progress .noises);
+      state = subst (λ (x : State). Holds x (a .reader)) (ap₂ holding ef (g .same)) (h .state);
+      puts = subst (λ (n : ℕ). Puts out₀ at (linesOf (whole .out .frames)) n out′) (all .ends) all;
+    }
+
+-- A quiet is listed.
+pub quiet-lists :
+    (r : Reader) (out₀ : List ℕ) {left : Output (List ℕ)} {end noise : ℕ} {out : List ℕ} (a : Listed) (more : ℕ) →
+    Progress (ruleAfter (stateOf r) []) left out₀ 0 0 end noise out → r .count ≤ limit (r .framing) → 1034 ≤ length out₀ → left ≡ none more →
+    a .reader ≡ newReader (r .framing) → a .answer ≡ Lines end (noise + more) → ListsQuiet r out₀ a out
+quiet-lists r out₀ {left} {end} {noise} {out} a more g l h e er ea =
+    let all = progress-end g (quiet-room r out₀ l h .0) more e in
+    let front = puts-front out₀ (linesOf (ruleAfter (stateOf r) [] .frames)) out end (all .0) in
+    let number : endRefusal r (length out₀) ≡ 0 = rw (le-leb (r .count) (limit (r .framing)) l, le-leb 1034 (length out₀) h) in
+    record {
+      refuses = λ t. absurd (true≢false (ap (λ (n : ℕ). eqb n 0) (sym number) ∙ t));
+      answers = λ t. (ap valuesOf ea ∙ ap₂ textValues (front .0) (all .1 ∙ zero-add (ruleAfter (stateOf r) [] .noise)), er, front .1);
+    }
+
+-- A reader that holds nothing is a view of no bytes.
+pub none-viewed : (r : Reader) (chunk : List ℕ) (done : ℕ) → r .count ≡ 0 →
+    viewed (record { framing = r .framing; from = done; end = done }) chunk ≡ stateOf r
+none-viewed r chunk done e =
+    ap (holding (r .framing)) (ap (λ (n : ℕ). take n (drop done chunk)) (sub-self done) ∙ sym (ap (λ (n : ℕ). take n (r .held)) e))
+
+pub none-inside : (r : Reader) (chunk : List ℕ) (done : ℕ) → done ≤ length chunk →
+    inside (record { framing = r .framing; from = done; end = done }) (length chunk) ≡ true
+none-inside r chunk done l =
+    simp (le-leb done done (le-refl done), le-leb done (length chunk) l, sub-self done, le-leb 0 (limit (r .framing)) zero-le)
+
+module _ (r : Reader) (room size : ℕ) where
+  -- The refusals of a chunk, in their order.
+  pub chunk-state : sound r ≡ false → chunkRefusal r room size ≡ 16
+  chunk-state e = rw e
+
+  pub chunk-buffer : sound r ≡ true → room < 132106 → chunkRefusal r room size ≡ 13
+  chunk-buffer e h = rw (e, lt-leb 132106 room h)
+
+  pub chunk-long : sound r ≡ true → 132106 ≤ room → 65536 < size → chunkRefusal r room size ≡ 15
+  chunk-long e h k = rw (e, le-leb 132106 room h, lt-leb size 65536 k)
+
+  pub chunk-free : sound r ≡ true → 132106 ≤ room → size ≤ 65536 → chunkRefusal r room size ≡ 0
+  chunk-free e h k = rw (e, le-leb 132106 room h, le-leb size 65536 k)
+
+  -- Those of a quiet.
+  pub end-state : sound r ≡ false → endRefusal r room ≡ 16
+  end-state e = rw e
+
+  pub end-buffer : sound r ≡ true → room < 1034 → endRefusal r room ≡ 13
+  end-buffer e h = rw (e, lt-leb 1034 room h)

@@ -2,14 +2,15 @@
 -- Assumes nothing.
 use Prim.Native.Nat.{ℕ, _+_, _-_, _*_, _≤_}
 use native.Mathlib.Omega.{arith}
-use mathlib.Core.Path.{_≡_, refl, ap, _∙_, sym, subst}
+use mathlib.Core.Path.{_≡_, refl, sym, subst}
 use mathlib.Core.List.{List, [], _∷_, _++_}
 use mathlib.Core.Bool.{Bool, true, false, cond, _&&_}
 use borrow.Author.Tests.{eqb-true, leb-true}
 use lib.Dec.{leb, ltb, eqb}
 use lib.ListN.{length, take, drop, length-append, length-drop}
 use lib.Seq.{take-length}
-use Rattle.frame.specs.Ascii.{hex, lineFeed}
+use Rattle.frame.specs.Hex.{hex}
+use Rattle.frame.specs.Ascii.{lineFeed}
 use Rattle.message.specs.Field.{isPlain}
 use Rattle.message.specs.Number.{byteAt, wordAt}
 use Rattle.message.specs.FromModule.{readFromModule, responseMeaning, receptionMeaning, standardMeaning, remoteMeaning, statusMeaning, senderMeaning}

@@ -3,5 +3,4 @@ pub mod Texts
 pub mod Lines
 pub mod Fits
 pub mod Chunks
-pub mod Cleaning
 pub mod Theorems

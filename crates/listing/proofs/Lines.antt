@@ -1,15 +1,16 @@
 -- Laws on the lines of frames: the parts in which they are put, and numbers in decimal.
 -- Assumes nothing.
-use Prim.Native.Nat.{ℕ, zero, suc, _+_, _-_, _*_, _/_, _%_, _^_, _≤_, _<_, zero-le}
+use Prim.Native.Nat.{ℕ, zero, suc, _+_, _-_, _/_, _%_, _^_, _≤_, _<_, zero-le}
 use native.Mathlib.Nat.{not-suc-le-zero, pow-suc}
 use native.Mathlib.Omega.{arith}
-use mathlib.Core.Path.{_≡_, refl, sym, ap, _∙_}
+use mathlib.Core.Path.{_≡_, refl}
 use mathlib.Core.List.{List, [], _∷_, _++_}
 use mathlib.Core.Bool.{Bool, true, false, cond}
 use borrow.Author.Tests.{lt-ltb, le-ltb}
 use lib.Dec.{ltb}
 use lib.ListN.{length, length-append}
-use Rattle.frame.specs.Ascii.{hex, lineFeed}
+use Rattle.frame.specs.Hex.{hex}
+use Rattle.frame.specs.Ascii.{lineFeed}
 use Rattle.io.specs.Digits.{digits, glyph, Fewest}
 use Rattle.message.specs.Examples.{text}
 use Rattle.message.specs.Number.{bytes2, bytes4}

@@ -1,20 +1,17 @@
 -- Laws on text that is put into a buffer part by part, and on the digits of bytes.
 -- Assumes nothing.
-use Prim.Native.Nat.{ℕ, suc, _+_, _*_, _/_, _%_, _≤_, _<_}
-use native.Mathlib.Nat.{eq-or-lt-of-le}
+use Prim.Native.Nat.{ℕ, _+_, _/_, _%_, _≤_, _<_}
 use native.Mathlib.Numerals.{add-one}
 use native.Mathlib.Omega.{arith}
 use mathlib.Core.Path.{_≡_, refl, sym, ap, _∙_, subst}
 use mathlib.Core.List.{List, [], _∷_, _++_, append-assoc, append-nil}
-use mathlib.Core.Logic.{_⊎_, ⊎-elim}
-use mathlib.Core.Bool.{Bool, true, false}
 use lib.Dec.{eqb}
-use lib.ListN.{length, getD, drop, set, length-append, length-set, length-drop}
-use lib.Seq.{getD-set-same, getD-set-other, drop-cons}
-use Rattle.frame.specs.Ascii.{digitOf, hex}
+use lib.ListN.{length, getD, drop, length-append, length-drop}
+use lib.Seq.{drop-cons}
+use Rattle.frame.specs.Hex.{hex}
 use Rattle.message.specs.Parts.{Puts}
-use Rattle.message.proofs.Putting.{puts-none, puts-append, puts-length, puts-two}
-use Rattle.listing.specs.Parts.{Pairs, spaceIf, fields, Going}
+use Rattle.message.proofs.Putting.{puts-none, puts-append, puts-length}
+use Rattle.listing.specs.Parts.{spaceIf, fields, Going}
 
 -- Nothing is put yet.
 pub going : (out : List ℕ) (at : ℕ) {whole rest : List ℕ} → rest ≡ whole → Going out at whole rest at out
@@ -49,50 +46,6 @@ pub going-last :
 going-last {out₀} {whole} {out} {part} {after} {at} {end} {next} room g p =
     let h : Going out₀ at whole (part ++ []) end out = subst (λ (s : List ℕ). Going out₀ at whole s end out) (sym (append-nil part)) g in
     going-done room (going-next room h p)
-
--- The table's first n entries are the digits of the bytes below n.
-pub record Filled (n : ℕ) (table : List ℕ) : Type 0 where
-  pub long : length table ≡ 512
-  pub high : (b : ℕ) → b < n → getD table (2 * b) 0 ≡ digitOf (b / 16)
-  pub low : (b : ℕ) → b < n → getD table (2 * b + 1) 0 ≡ digitOf (b % 16)
-
--- One entry more.
-module _ {n : ℕ} {table : List ℕ} (f : Filled n table) (small : n < 256) where
-  abbrev next : List ℕ
-  next = set (set table (2 * n) (digitOf (n / 16))) (2 * n + 1) (digitOf (n % 16))
-
-  high-new : getD next (2 * n) 0 ≡ digitOf (n / 16)
-  high-new =
-      getD-set-other (set table (2 * n) (digitOf (n / 16))) (2 * n + 1) (2 * n) (digitOf (n % 16)) 0 (λ e. omega arith)
-      ∙ getD-set-same table (2 * n) (digitOf (n / 16)) 0 (omega (arith, f .long))
-
-  low-new : getD next (2 * n + 1) 0 ≡ digitOf (n % 16)
-  low-new = getD-set-same (set table (2 * n) (digitOf (n / 16))) (2 * n + 1) (digitOf (n % 16)) 0 (simp length-set (omega (arith, f .long)))
-
-  same-old : (k : ℕ) → k < 2 * n → getD next k 0 ≡ getD table k 0
-  same-old k h =
-      getD-set-other (set table (2 * n) (digitOf (n / 16))) (2 * n + 1) k (digitOf (n % 16)) 0 (λ e. omega arith)
-      ∙ getD-set-other table (2 * n) k (digitOf (n / 16)) 0 (λ e. omega arith)
-
-  pub filled-next : Filled (n + 1) next
-  filled-next =
-      record {
-        long = simp length-set (f .long);
-        high = λ b h. ⊎-elim
-            (λ (e : b ≡ n). subst (λ (k : ℕ). getD next (2 * k) 0 ≡ digitOf (k / 16)) (sym e) high-new)
-            (λ (l : b < n). same-old (2 * b) (omega arith) ∙ f .high b l)
-            (eq-or-lt-of-le (omega arith));
-        low = λ b h. ⊎-elim
-            (λ (e : b ≡ n). subst (λ (k : ℕ). getD next (2 * k + 1) 0 ≡ digitOf (k % 16)) (sym e) low-new)
-            (λ (l : b < n). same-old (2 * b + 1) (omega arith) ∙ f .low b l)
-            (eq-or-lt-of-le (omega arith));
-      }
-
--- A byte's two entries are its digits.
-pub puts-pair :
-    (table out : List ℕ) (at b : ℕ) → Pairs table → b < 256 → at + 1 < length out →
-    Puts out at (hex (b ∷ [])) (at + 2) (set (set out at (getD table (2 * b) 0)) (at + 1) (getD table (2 * b + 1) 0))
-puts-pair table out at b p small h = rw (p .high b small, p .low b small) (puts-two out at (digitOf (b / 16)) (digitOf (b % 16)) h)
 
 -- The digits from place i on begin with those of the byte there.
 pub hex-next : (s : List ℕ) (i : ℕ) → i < length s → hex (drop i s) ≡ hex (getD s i 0 ∷ []) ++ hex (drop (i + 1) s)

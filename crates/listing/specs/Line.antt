@@ -5,7 +5,8 @@ use mathlib.Core.List.{List, [], _∷_, _++_}
 use mathlib.Core.Bool.{cond}
 use lib.Dec.{ltb}
 use lib.ListN.{drop}
-use Rattle.frame.specs.Ascii.{hex, lineFeed}
+use Rattle.frame.specs.Hex.{hex}
+use Rattle.frame.specs.Ascii.{lineFeed}
 use Rattle.frame.specs.Rule.{Output, rule, payloads}
 use Rattle.frame.specs.declared.framing.Framing.{Framing}
 use Rattle.message.specs.Examples.{text}

@@ -3,17 +3,17 @@
 use Prim.Native.Nat.{ℕ, _+_, _≤_}
 use mathlib.Core.Path.{_≡_}
 use mathlib.Core.List.{List, [], _∷_, _++_}
-use mathlib.Core.Bool.{true, false, cond}
+use mathlib.Core.Bool.{true, cond}
 use lib.Dec.{leb, eqb}
 use lib.ListN.{length, take}
 use Rattle.frame.specs.Ascii.{carriageReturn, lineFeed}
 use Rattle.frame.specs.Framing.{limit, inFront}
 use Rattle.frame.specs.Refusal.{numberOf}
-use Rattle.frame.specs.Rule.{Output, join, rule, payloads}
-use Rattle.frame.specs.Reader.{Settled, heldIn, newReader, Holds, feedRefusal, quietRefusal}
-use Rattle.frame.specs.Draining.{drain}
+use Rattle.frame.specs.Rule.{Output, join}
+use Rattle.frame.specs.Reader.{State, holding, Settled, stateOf, newReader, Holds, sound, Promise}
+use Rattle.frame.specs.Draining.{drain, afterDrain, ruleAfter}
 use Rattle.frame.specs.Recovery.{concat}
-use Rattle.frame.specs.Single.{Writing, noWriting, writingOf}
+use Rattle.frame.specs.Single.{noWriting, writingOf}
 use Rattle.frame.specs.declared.framing.Framing.{Framing}
 use Rattle.frame.specs.declared.framing.Framing.the-variants.{Ascii}
 use Rattle.frame.specs.declared.reader.Reader.{Reader}
@@ -30,38 +30,39 @@ pub record Values : Type 0 where
   pub len : ℕ
   pub noise : ℕ
 
+abbrev pub textValues : ℕ → ℕ → Values
+textValues len noise = record { number = 0; len = len; noise = noise }
+
+abbrev pub refusalValues : ℕ → Values
+refusalValues n = record { number = n; len = 0; noise = 0 }
+
 abbrev pub valuesOf : ListAnswer → Values
-valuesOf (Lines len noise) = record { number = 0; len = len; noise = noise }
-valuesOf (Refused r) = record { number = numberOf r; len = 0; noise = 0 }
+valuesOf (Lines len noise) = textValues len noise
+valuesOf (Refused r) = refusalValues (numberOf r)
 
--- What a call promises, where its refusal is `number`, 0 for none, and otherwise it lists o and the state that follows has the property Next:
--- numbers, state and buffer.
-pub record Promise (number : ℕ) (o : Output (List ℕ)) (Next : Reader → Type 0) (r : Reader) (out : List ℕ) (a : Listed) (out′ : List ℕ) : Type 0 where
-  pub refuses :
-      (eqb number 0 ≡ false) → (valuesOf (a .answer) ≡ record { number = number; len = 0; noise = 0 }) × (a .reader ≡ r) × (out′ ≡ out)
-  pub answers :
-      (eqb number 0 ≡ true) →
-      (valuesOf (a .answer) ≡ record { number = 0; len = length (linesOf (o .frames)); noise = o .noise })
-      × Next (a .reader) × (out′ ≡ inFront (linesOf (o .frames)) out)
+-- The promise of a call that lists o, where its refusal is `number`, 0 for none, and the reader that follows has the property Next.
+abbrev pub Lists : ℕ → Output (List ℕ) → (Reader → Type 0) → Reader → List ℕ → Listed → List ℕ → Type 0
+Lists number o Next r out a out′ =
+    Promise number (refusalValues number) (textValues (length (linesOf (o .frames))) (o .noise)) Next (inFront (linesOf (o .frames)) out)
+    r out (valuesOf (a .answer)) (a .reader) out′
 
--- The refusals of a chunk: 13 for a buffer under 132,106 bytes, twice a chunk's most and the bytes held, then the line call's own: 16, 15.
+-- The refusals of a chunk, in the line call's order: 16; 13 for a buffer under 132,106 bytes, twice the sum of 65,536 and 517; 15.
 abbrev pub chunkRefusal : Reader → ℕ → ℕ → ℕ
-chunkRefusal r room size = cond (leb 132106 room) (feedRefusal r 256 size) 13
+chunkRefusal r room size = cond (sound r) (cond (leb 132106 room) (cond (leb size 65536) 0 15) 13) 16
 
 -- What a chunk settles of the bytes held and its own is listed; what is undecided stays held.
 abbrev pub ListsChunk : Reader → List ℕ → List ℕ → Listed → List ℕ → Type 0
 ListsChunk r chunk out a out′ =
-    let d : Settled = drain (r .framing) (heldIn r ++ chunk) in
-    Promise (chunkRefusal r (length out) (length chunk)) (d .out) (Holds (r .framing) (d .rest)) r out a out′
+    let d : Settled = drain (stateOf r) chunk in
+    Lists (chunkRefusal r (length out) (length chunk)) (d .out) (Holds (afterDrain (stateOf r) d)) r out a out′
 
--- The refusals of a quiet: 13 for a buffer under 1,034 bytes, twice the bytes held, then the quiet call's own: 16.
+-- The refusals of a quiet: 16; 13 for a buffer under 1,034 bytes, twice 517.
 abbrev pub endRefusal : Reader → ℕ → ℕ
-endRefusal r room = cond (leb 1034 room) (quietRefusal r 256) 13
+endRefusal r room = cond (sound r) (cond (leb 1034 room) 0 13) 16
 
 -- At a quiet what the rule gives over the bytes held is listed, and the reader is a new one.
 abbrev pub ListsQuiet : Reader → List ℕ → Listed → List ℕ → Type 0
-ListsQuiet r out a out′ =
-    Promise (endRefusal r (length out)) (payloads (rule (r .framing) (heldIn r))) (λ r′. r′ ≡ newReader (r .framing)) r out a out′
+ListsQuiet r out a out′ = Lists (endRefusal r (length out)) (ruleAfter (stateOf r) []) (λ r′. r′ ≡ newReader (r .framing)) r out a out′
 
 -- The total of noise: 13 for a buffer under 27 bytes, which any 64-bit number's line fits in.
 pub record ListsTotal (noise : ℕ) (out : List ℕ) (a : WriteAnswer) (out′ : List ℕ) : Type 0 where
@@ -84,27 +85,26 @@ TotalIsSmall =
     (noise : ℕ) (out : List ℕ) (a : WriteAnswer) (out′ : List ℕ) → ListsTotal noise out a out′ →
     (writingOf a .len ≤ length out) × (length out′ ≡ length out)
 
--- What the chunks of a segment give where `held` is held before them, and then its quiet.
-abbrev pub given : Framing → List ℕ → List (List ℕ) → Output (List ℕ)
-given f held [] = payloads (rule f held)
-given f held (chunk ∷ chunks) = let d : Settled = drain f (held ++ chunk) in join (d .out) (given f (d .rest) chunks)
+-- What the chunks of a segment give from a state on, and then its quiet.
+abbrev pub given : State → List (List ℕ) → Output (List ℕ)
+given s [] = ruleAfter s []
+given s (chunk ∷ chunks) = let d : Settled = drain s chunk in join (d .out) (given (afterDrain s d) chunks)
 
 -- However a segment is cut into chunks, the lines of all of them and of the quiet, and then the total of their noise, are the segment's listing.
 abbrev pub AnyCutIsListed : Type 0
-AnyCutIsListed = (f : Framing) (chunks : List (List ℕ)) → printed (given f [] chunks) ≡ listing f (concat chunks)
+AnyCutIsListed = (f : Framing) (chunks : List (List ℕ)) → printed (given (holding f []) chunks) ≡ listing f (concat chunks)
 
 -- A call was not refused.
-abbrev pub Listing : ListAnswer → Type 0
-Listing (Lines len noise) = Unit {0}
-Listing (Refused r) = ⊥
+abbrev pub Answered : Values → Type 0
+Answered v = eqb (v .number) 0 ≡ true
 
 -- A run over a segment's chunks from a reader's state: a call for each chunk that keeps the promise of `list_chunk` and gets the state that the last one gave
 -- back, then one that keeps that of `list_quiet`. What it prints is the text of each answer, in order, and its noise is their sum.
 pub data Run : Reader → List (List ℕ) → List ℕ → ℕ → Type 0 where
   chunked : {r : Reader} {chunks : List (List ℕ)} {printed′ : List ℕ} {noise : ℕ} (chunk out out′ : List ℕ) (a : Listed) →
-      ListsChunk r chunk out a out′ → Listing (a .answer) → Run (a .reader) chunks printed′ noise →
+      ListsChunk r chunk out a out′ → Answered (valuesOf (a .answer)) → Run (a .reader) chunks printed′ noise →
       Run r (chunk ∷ chunks) (take (valuesOf (a .answer) .len) out′ ++ printed′) (valuesOf (a .answer) .noise + noise)
-  quieted : {r : Reader} (out out′ : List ℕ) (a : Listed) → ListsQuiet r out a out′ → Listing (a .answer) →
+  quieted : {r : Reader} (out out′ : List ℕ) (a : Listed) → ListsQuiet r out a out′ → Answered (valuesOf (a .answer)) →
       Run r [] (take (valuesOf (a .answer) .len) out′) (valuesOf (a .answer) .noise)
 
 -- Whatever its chunks, a run from a new reader prints the segment's listing, with the line of its noise last.

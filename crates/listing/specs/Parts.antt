@@ -1,24 +1,24 @@
 -- What the functions behind the public calls answer.
-use Prim.Native.Nat.{ℕ, _+_, _*_, _/_, _%_, _<_, _≤_}
+use Prim.Native.Nat.{ℕ, _+_, _/_, _%_, _≤_}
 use mathlib.Core.Path.{_≡_}
 use mathlib.Core.List.{List, [], _∷_, _++_}
-use mathlib.Core.Bool.{Bool, cond}
+use mathlib.Core.Bool.{Bool, true, false, cond}
 use lib.Dec.{eqb}
-use lib.ListN.{length, getD, drop}
-use Rattle.frame.specs.Ascii.{digitOf, hex}
-use Rattle.frame.specs.Draining.{drain}
-use Rattle.frame.specs.Reader.{Settled}
+use lib.ListN.{length, drop}
+use Rattle.frame.specs.Hex.{hex}
+use Rattle.frame.specs.Draining.{drain, afterDrain}
+use Rattle.frame.specs.Framing.{limit}
+use Rattle.frame.specs.Reader.{State, Settled, stateOf, Holds}
 use Rattle.frame.specs.Rule.{Output}
-use Rattle.frame.specs.declared.framing.Framing.{Framing}
+use Rattle.frame.specs.View.{inside, viewed}
+use Rattle.frame.specs.declared.reader.Reader.{Reader}
+use Rattle.frame.specs.declared.view.View.{View}
 use Rattle.message.specs.Parts.{Puts}
 use Rattle.listing.specs.Line.{linesOf}
-use Rattle.listing.specs.declared.list.Spot.{Spot}
-
--- A table of the two digits of every byte.
-pub record Pairs (table : List ℕ) : Type 0 where
-  pub long : length table ≡ 512
-  pub high : (b : ℕ) → b < 256 → getD table (2 * b) 0 ≡ digitOf (b / 16)
-  pub low : (b : ℕ) → b < 256 → getD table (2 * b + 1) 0 ≡ digitOf (b % 16)
+use Rattle.listing.specs.Listing.{textValues, valuesOf}
+use Rattle.listing.specs.declared.list.Listed.{Listed}
+use Rattle.listing.specs.declared.list.ListAnswer.the-variants.{Lines}
+use Rattle.listing.specs.declared.list.Part.{Part}
 
 -- A space, where one is wanted.
 abbrev pub spaceIf : Bool → List ℕ
@@ -42,31 +42,50 @@ pub record Progress (whole left : Output (List ℕ)) (out₀ : List ℕ) (at bas
   pub text : Going out₀ at (linesOf (whole .frames)) (linesOf (left .frames)) end out
   pub noises : noise + left .noise ≡ base + whole .noise
 
-abbrev pub spot : ℕ → ℕ → ℕ → Spot
-spot done end noise = record { done = done; end = end; noise = noise }
+-- Calls over a chunk are on their way: from the state s on, `rest` is still offered, and what they give together is what `whole` still lacks.
+pub record Midway (whole : Settled) (s : State) (rest out₀ : List ℕ) (at base end noise : ℕ) (out : List ℕ) : Type 0 where
+  pub same : drain s rest .rest ≡ whole .rest
+  pub progress : Progress (whole .out) (drain s rest .out) out₀ at base end noise out
 
--- What a chunk gives from a spot on, where nothing is held.
-abbrev pub behind : Framing → List ℕ → Spot → Settled
-behind f chunk s = drain f (drop (s .done) chunk)
+-- All of `whole` can be listed: there is room for its lines, and its noise is small.
+pub record Room (whole : Settled) (at base : ℕ) (out : List ℕ) : Type 0 where
+  pub room : at + length (linesOf (whole .out .frames)) ≤ length out
+  pub few : base + whole .out .noise ≤ 66053
 
--- There is room for all that `list_clean` could list.
-pub record Roomy (f : Framing) (chunk : List ℕ) (start : Spot) (out : List ℕ) : Type 0 where
-  pub inside : start .done ≤ length chunk
+-- It is listed: the lines are put from `at` on, behind `base` bytes of noise, and the reader has the state that follows s.
+pub record ListsRest (s : State) (whole : Settled) (out : List ℕ) (at base : ℕ) (a : Listed) (out′ : List ℕ) : Type 0 where
+  pub values : valuesOf (a .answer) ≡ textValues (at + length (linesOf (whole .out .frames))) (base + whole .out .noise)
+  pub state : Holds (afterDrain s whole) (a .reader)
+  pub puts : Puts out at (linesOf (whole .out .frames)) (at + length (linesOf (whole .out .frames))) out′
+
+-- What `list_view` is called with, and what it lists: the calls of a view over the rest of its chunk.
+abbrev pub viewDrain : View → List ℕ → Settled
+viewDrain v chunk = drain (viewed v chunk) (drop (v .end) chunk)
+
+abbrev pub ListsView : View → List ℕ → List ℕ → ℕ → ℕ → Listed → List ℕ → Type 0
+ListsView v chunk out at base a out′ = ListsRest (viewed v chunk) (viewDrain v chunk) out at base a out′
+
+pub record CanView (v : View) (chunk : List ℕ) (at base : ℕ) (out : List ℕ) : Type 0 where
+  pub lies : inside v (length chunk) ≡ true
   pub small : length chunk ≤ 65536
-  pub room : start .end + length (linesOf (behind f chunk start .out .frames)) ≤ length out
-  pub few : start .noise + behind f chunk start .out .noise ≤ 66053
+  pub fits : Room (viewDrain v chunk) at base out
 
-abbrev pub CanClean : Framing → ℕ → List ℕ → Spot → List ℕ → Type 0
-CanClean f held chunk start out = held ≡ 0 → Roomy f chunk start out
+abbrev pub partOf : Reader → ℕ → ℕ → ℕ → Bool → Part
+partOf reader done end noise over = record { reader = reader; done = done; end = end; noise = noise; over = over }
 
--- Some of it is listed, up to the spot r.
-pub record Cleaned (f : Framing) (chunk : List ℕ) (start : Spot) (out : List ℕ) (r : Spot) (out′ : List ℕ) : Type 0 where
-  pub inside : r .done ≤ length chunk
-  pub fewer : length (behind f chunk r .out .frames) ≤ length (behind f chunk start .out .frames)
-  pub rest : behind f chunk r .rest ≡ behind f chunk start .rest
-  pub progress : Progress (behind f chunk start .out) (behind f chunk r .out) out (start .end) (start .noise) (r .end) (r .noise) out′
+-- What `list_held` is called with.
+pub record CanFeed (r : Reader) (chunk out : List ℕ) : Type 0 where
+  pub within : r .count ≤ limit (r .framing)
+  pub small : length chunk ≤ 65536
+  pub fits : Room (drain (stateOf r) chunk) 0 0 out
 
--- Where bytes are held, nothing is.
-pub record Cleans (f : Framing) (held : ℕ) (chunk : List ℕ) (start : Spot) (out : List ℕ) (r : Spot) (out′ : List ℕ) : Type 0 where
-  pub stays : (held ≡ 0 → ⊥) → (r ≡ start) × (out′ ≡ out)
-  pub clean : held ≡ 0 → Cleaned f chunk start out r out′
+-- Where it stands afterwards: all is listed, or nothing is held and the rest of the chunk is still to be listed.
+pub record HeldListed (r : Reader) (chunk out : List ℕ) (p : Part) (out′ : List ℕ) : Type 0 where
+  pub inside : p .done ≤ length chunk
+  pub framing : p .reader .framing ≡ r .framing
+  pub all :
+      (p .over ≡ true) →
+      ListsRest (stateOf r) (drain (stateOf r) chunk) out 0 0 (record { reader = p .reader; answer = Lines (p .end) (p .noise) }) out′
+  pub some :
+      (p .over ≡ false) →
+      (p .reader .count ≡ 0) × Midway (drain (stateOf r) chunk) (stateOf (p .reader)) (drop (p .done) chunk) out 0 0 (p .end) (p .noise) out′

@@ -20,25 +20,18 @@ ghost use Rattle.frame.specs.Ascii.{lineFeed};
 ghost use Rattle.message.specs.Parts.{Puts};
 ghost use Rattle.message.specs.Refusal.{numberOf};
 ghost use Rattle.listing.specs.Line.{simpleLine, receptionLine, responseLine, standardLine, remoteLine, refusalLine, lineOf};
-ghost use Rattle.listing.specs.Parts.{Pairs};
 
-fn put_simple(table: &[u8; 512], message: Simple, data: &[u8], out: &mut [u8], at: usize) -> usize
-    requires { ⌜ (Pairs (now table)) × (at + length (simpleLine message (now «data») ++ (lineFeed ∷ [])) ≤ length (now out)) ⌝ }
+fn put_simple(message: Simple, data: &[u8], out: &mut [u8], at: usize) -> usize
+    requires { ⌜ at + length (simpleLine message (now «data») ++ (lineFeed ∷ [])) ≤ length (now out) ⌝ }
     ensures { λ r. ⌜ Puts (now (out .entry)) at (simpleLine message (now («data» .entry)) ++ (lineFeed ∷ [])) r (now (out .exit)) ⌝ }
 {
     let bytes = [message.address, message.command];
-    let end = put_row(table, out, at, b"simple", &bytes, 0b11);
-    put_data(table, out, end, data)
+    let end = put_row(out, at, b"simple", &bytes, 0b11);
+    put_data(out, end, data)
 }
 
-fn put_reception(
-    table: &[u8; 512],
-    message: Reception,
-    data: &[u8],
-    out: &mut [u8],
-    at: usize,
-) -> usize
-    requires { ⌜ (Pairs (now table)) × (at + length (receptionLine message (now «data») ++ (lineFeed ∷ [])) ≤ length (now out)) ⌝ }
+fn put_reception(message: Reception, data: &[u8], out: &mut [u8], at: usize) -> usize
+    requires { ⌜ at + length (receptionLine message (now «data») ++ (lineFeed ∷ [])) ≤ length (now out) ⌝ }
     ensures { λ r. ⌜ Puts (now (out .entry)) at (receptionLine message (now («data» .entry)) ++ (lineFeed ∷ [])) r (now (out .exit)) ⌝ }
 {
     let source = message.source;
@@ -56,25 +49,25 @@ fn put_reception(
         (destination % 256) as u8,
         message.lqi,
     ];
-    let end = put_row(table, out, at, b"extended", &bytes, 0b10001000111);
-    put_data(table, out, end, data)
+    let end = put_row(out, at, b"extended", &bytes, 0b10001000111);
+    put_data(out, end, data)
 }
 
-fn put_response(table: &[u8; 512], response: Response, out: &mut [u8], at: usize) -> usize
-    requires { ⌜ (Pairs (now table)) × (at + length (responseLine response ++ (lineFeed ∷ [])) ≤ length (now out)) ⌝ }
+fn put_response(response: Response, out: &mut [u8], at: usize) -> usize
+    requires { ⌜ at + length (responseLine response ++ (lineFeed ∷ [])) ≤ length (now out) ⌝ }
     ensures { λ r. ⌜ Puts (now (out .entry)) at (responseLine response ++ (lineFeed ∷ [])) r (now (out .exit)) ⌝ }
 {
     let bytes = [response.id];
     let outcome = response.outcome;
-    let end = put_row(table, out, at, b"response", &bytes, 0b1);
+    let end = put_row(out, at, b"response", &bytes, 0b1);
     match outcome {
         Outcome::Failure => put_text(out, end, b" fail\n"),
         Outcome::Success => put_text(out, end, b" ok\n"),
     }
 }
 
-fn put_standard(table: &[u8; 512], status: StandardStatus, out: &mut [u8], at: usize) -> usize
-    requires { ⌜ (Pairs (now table)) × (at + length (standardLine status ++ (lineFeed ∷ [])) ≤ length (now out)) ⌝ }
+fn put_standard(status: StandardStatus, out: &mut [u8], at: usize) -> usize
+    requires { ⌜ at + length (standardLine status ++ (lineFeed ∷ [])) ≤ length (now out) ⌝ }
     ensures { λ r. ⌜ Puts (now (out .entry)) at (standardLine status ++ (lineFeed ∷ [])) r (now (out .exit)) ⌝ }
 {
     let serial = status.serial;
@@ -90,12 +83,12 @@ fn put_standard(table: &[u8; 512], status: StandardStatus, out: &mut [u8], at: u
         (supply % 256) as u8,
         status.di,
     ];
-    let end = put_row(table, out, at, b"standard", &bytes, 0b101100011);
+    let end = put_row(out, at, b"standard", &bytes, 0b101100011);
     put_text(out, end, b"\n")
 }
 
-fn put_remote(table: &[u8; 512], status: RemoteStatus, out: &mut [u8], at: usize) -> usize
-    requires { ⌜ (Pairs (now table)) × (at + length (remoteLine status ++ (lineFeed ∷ [])) ≤ length (now out)) ⌝ }
+fn put_remote(status: RemoteStatus, out: &mut [u8], at: usize) -> usize
+    requires { ⌜ at + length (remoteLine status ++ (lineFeed ∷ [])) ≤ length (now out) ⌝ }
     ensures { λ r. ⌜ Puts (now (out .entry)) at (remoteLine status ++ (lineFeed ∷ [])) r (now (out .exit)) ⌝ }
 {
     let serial = status.serial;
@@ -110,7 +103,7 @@ fn put_remote(table: &[u8; 512], status: RemoteStatus, out: &mut [u8], at: usize
         (signals / 256 % 256) as u8,
         (signals % 256) as u8,
     ];
-    let end = put_row(table, out, at, b"remote", &bytes, 0b1100011);
+    let end = put_row(out, at, b"remote", &bytes, 0b1100011);
     put_text(out, end, b"\n")
 }
 
@@ -124,22 +117,22 @@ fn put_refusal(refusal: Refusal, out: &mut [u8], at: usize) -> usize
 }
 
 // Puts the line of a frame with this payload into out.
-pub(crate) fn put_line(table: &[u8; 512], payload: &[u8], out: &mut [u8], at: usize) -> usize
-    requires { ⌜ (Pairs (now table)) × (at + length (lineOf (now payload)) ≤ length (now out)) ⌝ }
+pub(crate) fn put_line(payload: &[u8], out: &mut [u8], at: usize) -> usize
+    requires { ⌜ at + length (lineOf (now payload)) ≤ length (now out) ⌝ }
     ensures { λ r. ⌜ Puts (now (out .entry)) at (lineOf (now (payload .entry))) r (now (out .exit)) ⌝ }
 {
     match message::read_from_module(payload) {
         FromModule::Delivery { delivery, start } => {
             let data = &payload[start..];
             match delivery {
-                Delivery::Simple(m) => put_simple(table, m, data, out, at),
-                Delivery::Extended(m) => put_reception(table, m, data, out, at),
+                Delivery::Simple(m) => put_simple(m, data, out, at),
+                Delivery::Extended(m) => put_reception(m, data, out, at),
             }
         }
         FromModule::Notice(notice) => match notice {
-            Notice::Response(m) => put_response(table, m, out, at),
-            Notice::Standard(m) => put_standard(table, m, out, at),
-            Notice::Remote(m) => put_remote(table, m, out, at),
+            Notice::Response(m) => put_response(m, out, at),
+            Notice::Standard(m) => put_standard(m, out, at),
+            Notice::Remote(m) => put_remote(m, out, at),
         },
         FromModule::Refused(refusal) => put_refusal(refusal, out, at),
     }

@@ -1,6 +1,5 @@
 // What is listed of a line: chunk by chunk, at a quiet, and at the end.
 use crate::line::put_line;
-use crate::put::pairs;
 use crate::put::put_decimal;
 use crate::put::put_text;
 use frame::FeedAnswer;
@@ -8,9 +7,11 @@ use frame::Framing;
 use frame::QuietAnswer;
 use frame::Reader;
 use frame::Refusal;
+use frame::View;
 use frame::WriteAnswer;
 ghost use mathlib.Core.Path.{_≡_};
-ghost use Rattle.listing.specs.Parts.{Pairs, spot, CanClean, Cleans};
+ghost use Rattle.frame.specs.Reader.{sound};
+ghost use Rattle.listing.specs.Parts.{partOf, CanView, ListsView, CanFeed, HeldListed};
 ghost use Rattle.listing.specs.Listing.{ListsChunk, ListsQuiet, ListsTotal};
 
 // The room that the text of any chunk, of any quiet, and of any total fits in.
@@ -32,17 +33,13 @@ pub struct Listed {
     pub answer: ListAnswer,
 }
 
-// Where the listing of a chunk stands: the bytes of the chunk that are taken, the end of the text, and the bytes of noise.
-struct Spot {
+// Where the listing of a chunk stands: the reader, the bytes of the chunk that are taken, the end of the text, the bytes of noise, and whether all is listed.
+struct Part {
+    reader: Reader,
     done: usize,
     end: usize,
     noise: usize,
-}
-
-fn spot_at(done: usize, end: usize, noise: usize) -> Spot
-    ensures { λ r. ⌜ r ≡ spot done end noise ⌝ }
-{
-    Spot { done, end, noise }
+    over: bool,
 }
 
 fn lines(reader: Reader, len: usize, noise: usize) -> Listed
@@ -63,108 +60,153 @@ fn refused(reader: Reader, refusal: Refusal) -> Listed
     }
 }
 
-// Lists the frames from the spot on, where `held` bytes are held, as long as none is held before or behind them, and gives the spot behind them. These are
-// nearly all frames of a line, and for them no state is made or copied.
-fn list_clean(
-    table: &[u8; 512],
-    framing: Framing,
-    held: usize,
-    chunk: &[u8],
-    start: Spot,
-    out: &mut [u8],
-) -> Spot
-    requires { ⌜ (Pairs (now table)) × (CanClean framing held (now chunk) start (now out)) ⌝ }
-    ensures { λ r. ⌜ Cleans framing held (now (chunk .entry)) start (now (out .entry)) r (now (out .exit)) ⌝ }
+fn part_at(reader: Reader, done: usize, end: usize, noise: usize, over: bool) -> Part
+    ensures { λ r. ⌜ r ≡ partOf reader done end noise over ⌝ }
 {
-    if held != 0 {
-        return start;
-    }
-    let mut buf = [0u8; 256];
-    let mut done = start.done;
-    let mut end = start.end;
-    let mut total = start.noise;
-    loop {
-        let first = Reader::first(framing, &chunk[done..], &mut buf);
-        let answer = first.answer;
-        let FeedAnswer::Frame { taken, noise, len } = answer else {
-            return spot_at(done, end, total);
-        };
-        if first.from != first.end {
-            return spot_at(done, end, total);
-        }
-        let whole = &buf[..];
-        end = put_line(table, &whole[..len], out, end);
-        done += taken;
-        total += noise;
+    Part {
+        reader,
+        done,
+        end,
+        noise,
+        over,
     }
 }
 
-// Feeds a chunk to the reader to its end, and puts a line for each frame into the front of out, whose other bytes stay. Refused with 13 where out has
-// under CHUNK_ROOM bytes, then with 16 and 15 as `feed` is; a refusal leaves state and buffer.
-pub fn list_chunk(reader: Reader, chunk: &[u8], out: &mut [u8]) -> Listed
-    ensures { λ r. ⌜ ListsChunk reader (now (chunk .entry)) (now (out .entry)) r (now (out .exit)) ⌝ }
+// Whether a reader can hold as many bytes as this one does.
+fn is_sound(reader: Reader) -> bool
+    ensures { λ r. ⌜ r ≡ sound reader ⌝ }
 {
-    if out.len() < CHUNK_ROOM {
-        return refused(reader, Refusal::Buffer);
+    let framing = reader.framing;
+    match framing {
+        Framing::Binary => reader.count <= Reader::MAX_BINARY,
+        Framing::Ascii => reader.count <= Reader::MAX_ASCII,
     }
-    let table = pairs();
+}
+
+// Lists the frames of a chunk from the view on, where the text ends at `start` and `before` bytes of noise were settled. No state is copied between frames.
+fn list_view(first: View, chunk: &[u8], start: usize, before: usize, out: &mut [u8]) -> Listed
+    requires { ⌜ CanView first (now chunk) start before (now out) ⌝ }
+    ensures { λ r. ⌜ ListsView first (now (chunk .entry)) (now (out .entry)) start before r (now (out .exit)) ⌝ }
+{
     let mut buf = [0u8; 256];
-    let mut fed = reader.feed(chunk, &mut buf);
-    let mut spot = spot_at(0, 0, 0);
+    let mut view = first;
+    let mut end = start;
+    let mut total = before;
     loop {
+        let fed = view.feed(chunk, &mut buf);
         let answer = fed.answer;
+        view = fed.view;
+        match answer {
+            FeedAnswer::Frame {
+                taken: _,
+                noise,
+                len,
+            } => {
+                let whole = &buf[..];
+                end = put_line(&whole[..len], out, end);
+                total += noise;
+            }
+            FeedAnswer::NeedsMore { taken: _, noise } => {
+                return lines(view.reader(chunk), end, total + noise);
+            }
+            FeedAnswer::Refused(refusal) => {
+                return refused(view.reader(chunk), refusal);
+            }
+        }
+    }
+}
+
+// Feeds the chunk to the reader and lists frames as long as it holds bytes.
+fn list_held(reader: Reader, chunk: &[u8], out: &mut [u8]) -> Part
+    requires { ⌜ CanFeed reader (now chunk) (now out) ⌝ }
+    ensures { λ r. ⌜ HeldListed reader (now (chunk .entry)) (now (out .entry)) r (now (out .exit)) ⌝ }
+{
+    let mut buf = [0u8; 256];
+    let mut state = reader;
+    let mut done: usize = 0;
+    let mut end: usize = 0;
+    let mut total: usize = 0;
+    while 0 < state.count {
+        let fed = state.feed(&chunk[done..], &mut buf);
+        let answer = fed.answer;
+        state = fed.reader;
         match answer {
             FeedAnswer::Frame { taken, noise, len } => {
                 let whole = &buf[..];
-                let end = put_line(&table, &whole[..len], out, spot.end);
-                let next = spot_at(spot.done + taken, end, spot.noise + noise);
-                let state = fed.reader;
-                let framing = state.framing;
-                spot = list_clean(&table, framing, state.count, chunk, next, out);
-                let done = spot.done;
-                fed = fed.reader.feed(&chunk[done..], &mut buf);
+                end = put_line(&whole[..len], out, end);
+                done += taken;
+                total += noise;
             }
             FeedAnswer::NeedsMore { taken: _, noise } => {
-                let reader = fed.reader;
-                return lines(reader, spot.end, spot.noise + noise);
+                return part_at(state, done, end, total + noise, true);
             }
-            FeedAnswer::Refused(refusal) => {
-                let reader = fed.reader;
-                return refused(reader, refusal);
+            FeedAnswer::Refused(_) => {
+                return part_at(state, done, end, total, true);
             }
         }
     }
+    part_at(state, done, end, total, false)
 }
 
-// The line was quiet: puts a line for each frame that the reader still holds into the front of out, whose other bytes stay. Refused with 13 where out
-// has under QUIET_ROOM bytes, then with 16 as `quiet` is; a refusal leaves state and buffer.
+// Feeds a chunk to the reader to its end, and puts a line for each frame into the front of out, whose other bytes stay. Refused with 16 as `feed` is, 13
+// where out has under CHUNK_ROOM bytes, 15 as `feed` is; a refusal leaves state and buffer.
+pub fn list_chunk(reader: Reader, chunk: &[u8], out: &mut [u8]) -> Listed
+    ensures { λ r. ⌜ ListsChunk reader (now (chunk .entry)) (now (out .entry)) r (now (out .exit)) ⌝ }
+{
+    if !is_sound(reader) {
+        return refused(reader, Refusal::State);
+    }
+    if out.len() < CHUNK_ROOM {
+        return refused(reader, Refusal::Buffer);
+    }
+    if 65536 < chunk.len() {
+        return refused(reader, Refusal::Chunk);
+    }
+    let part = list_held(reader, chunk, out);
+    let state = part.reader;
+    if part.over {
+        return lines(state, part.end, part.noise);
+    }
+    let framing = state.framing;
+    let done = part.done;
+    let view = View {
+        framing: framing,
+        from: done,
+        end: done,
+    };
+    list_view(view, chunk, part.end, part.noise, out)
+}
+
+// The line was quiet: puts a line for each frame that the reader still holds into the front of out, whose other bytes stay. Refused with 16 as `quiet` is,
+// 13 where out has under QUIET_ROOM bytes; a refusal leaves state and buffer.
 pub fn list_quiet(reader: Reader, out: &mut [u8]) -> Listed
     ensures { λ r. ⌜ ListsQuiet reader (now (out .entry)) r (now (out .exit)) ⌝ }
 {
+    if !is_sound(reader) {
+        return refused(reader, Refusal::State);
+    }
     if out.len() < QUIET_ROOM {
         return refused(reader, Refusal::Buffer);
     }
-    let table = pairs();
     let mut buf = [0u8; 256];
-    let mut quieted = reader.quiet(&mut buf);
+    let mut state = reader;
     let mut end: usize = 0;
     let mut total: usize = 0;
     loop {
+        let quieted = state.quiet(&mut buf);
         let answer = quieted.answer;
+        state = quieted.reader;
         match answer {
             QuietAnswer::Frame { noise, len } => {
                 let whole = &buf[..];
-                end = put_line(&table, &whole[..len], out, end);
+                end = put_line(&whole[..len], out, end);
                 total += noise;
-                quieted = quieted.reader.quiet(&mut buf);
             }
             QuietAnswer::Empty { noise } => {
-                let reader = quieted.reader;
-                return lines(reader, end, total + noise);
+                return lines(state, end, total + noise);
             }
             QuietAnswer::Refused(refusal) => {
-                let reader = quieted.reader;
-                return refused(reader, refusal);
+                return refused(state, refusal);
             }
         }
     }

@@ -8,8 +8,6 @@ use listing::ListAnswer;
 use listing::list_chunk;
 use listing::list_quiet;
 use listing::list_total;
-ghost use mathlib.Core.Path.{_≡_};
-ghost use lib.ListN.{length};
 ghost use Prim.Native.Nat.{_≤_};
 
 // A listing so far: the reader's state, the noise, and how many bytes of text there are.

@@ -3,7 +3,8 @@
 use mathlib.Core.Path.{refl}
 use Rattle.frame.specs.Checks.{byte, test, word, bytes}
 use Rattle.frame.specs.Binary.{footer, body, binary}
-use Rattle.frame.specs.Ascii.{isDigit, digitValue, digits, lineEnd, afterDigits, ascii}
+use Rattle.frame.specs.Digit.{isDigit, digitValue}
+use Rattle.frame.specs.Ascii.{digits, lineEnd, crLf, afterDigits, ascii}
 use Rattle.frame.specs.Rule.{join}
 use Rattle.frame.specs.Reader.{settle, lineFrom, line, quiet}
 use Rattle.message.specs.Field.{isPlain, isExtended}
@@ -13,5 +14,5 @@ use Rattle.message.specs.FromModule.{readFromModule, senderMeaning, resp
 use Rattle.message.specs.Examples.{Examples}
 
 pub examples : Examples
-unfolding byte test word bytes footer body binary isDigit digitValue digits lineEnd afterDigits ascii join settle lineFrom line quiet isPlain isExtended hasOption giveFlag wordOr isRetry isOption expectedAfter givenAfter optionsFrom readToModule nearRequest farRequest requestAt outputChangeAt readFromModule senderMeaning responseMeaning receptionMeaning statusMeaning standardMeaning remoteMeaning
+unfolding byte test word bytes footer body binary isDigit digitValue digits lineEnd crLf afterDigits ascii join settle lineFrom line quiet isPlain isExtended hasOption giveFlag wordOr isRetry isOption expectedAfter givenAfter optionsFrom readToModule nearRequest farRequest requestAt outputChangeAt readFromModule senderMeaning responseMeaning receptionMeaning statusMeaning standardMeaning remoteMeaning
 examples = refl

@@ -1,6 +1,6 @@
 -- What is claimed of messages: that they read back as they were written. Document 00, demand 2, and document 01, "Payloads" and "Refusal numbers".
 -- proofs/Theorems.antt proves each claim.
-use Prim.Native.Nat.{ℕ, _+_, _≤_, _<_}
+use Prim.Native.Nat.{ℕ, _≤_, _<_}
 use mathlib.Core.Path.{_≡_}
 use mathlib.Core.List.{List, [], _∷_, _++_}
 use lib.ListN.{length, take, drop}

@@ -10,7 +10,7 @@ use lib.ListN.{length, take, drop, replicate}
 use Rattle.frame.specs.Checks.{Verdict}
 use Rattle.frame.specs.Framing.{read}
 use Rattle.frame.specs.Single.{Reading, reading, readInto}
-use Rattle.frame.specs.Reader.{Called, Values, valuesAt, bufferAt, line, quiet, newReader, heldIn, feedRefusal, quietRefusal}
+use Rattle.frame.specs.Reader.{State, Called, line, quiet, after, stateOf, newReader, Values, valuesAt, bufferAt, feedRefusal, quietRefusal}
 use Rattle.frame.specs.declared.framing.Framing.{Framing}
 use Rattle.frame.specs.declared.framing.Framing.the-variants.{Binary, Ascii}
 use Rattle.frame.specs.declared.reader.Reader.{Reader}
@@ -56,9 +56,9 @@ told v =
     let r : Reading = reading v 256 in
     call (r .number) (r .used) 0 (handedOut (leb 1 (r .len)) (r .len) (readInto v room))
 
--- A state that holds these bytes.
-abbrev holding : Framing → List ℕ → Reader
-holding f h = record { framing = f; held = h; count = length h }
+-- A reader with this state.
+abbrev having : State → Reader
+having s = record { framing = s .framing; held = s .held; count = length (s .held) }
 
 -- A line or a quiet call with this refusal number, by the definitions that their contracts cite.
 abbrev pub heard : ℕ → Called → Said
@@ -83,11 +83,14 @@ pub data Ask : Type 0 where
 abbrev pub answers : Ask → List Said
 answers (single f s) = told (read f s) ∷ []
 answers (segment f s) =
-    let first : Called = line f (heldIn (newReader f)) s in
-    let second : Called = quiet f (first .held) in
+    let start : State = stateOf (newReader f) in
+    let first : Called = line start s in
+    let held : State = after start first in
+    let second : Called = quiet held in
+    let left : State = after held second in
     heard (feedRefusal (newReader f) (length room) (length s)) first
-    ∷ heard (quietRefusal (holding f (first .held)) (length room)) second
-    ∷ heard (quietRefusal (holding f (second .held)) (length room)) (quiet f (second .held))
+    ∷ heard (quietRefusal (having held) (length room)) second
+    ∷ heard (quietRefusal (having left) (length room)) (quiet left)
     ∷ []
 answers (toModule p) = to (readToModule p) (dataIn (readToModule p) p) ∷ []
 answers (fromModule p) = from (readFromModule p) (dataIn (readFromModule p) p) ∷ []

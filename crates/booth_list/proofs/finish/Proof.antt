@@ -12,7 +12,7 @@ list-quiet-requires c κs = search needs
 
 write-text-requires : tie.Need-write-text-requires
 write-text-requires c κs =
-    let q = quiet-is-small _ _ _ _ (c .before .before .before .list-quiet .ensures) in
+    let q = quiet-is-small (c .before .before .before .before .before .before .args .reader) (c .before .before .before .before .before .before .args .out .now) (c .before .before .before .list-quiet .result) _ (c .before .before .before .list-quiet .ensures) in
     omega (arith, q .0, q .1)
 
 same-length : tie.Need-same-length
@@ -25,7 +25,7 @@ noise-of-requires : tie.Need-noise-of-requires
 noise-of-requires c κs = search needs
 
 add-list-total : tie.Need-add-list-total
-add-list-total c = omega (arith, c .before .before .before .before .before .before .before .before .before .pre, c .noise-of .ensures, quiet-is-small _ _ _ _ (c .before .before .before .before .before .before .list-quiet .ensures) .2)
+add-list-total c = omega (arith, c .before .before .before .before .before .before .before .before .before .pre, c .noise-of .ensures, quiet-is-small (c .before .before .before .before .before .before .before .before .before .args .reader) (c .before .before .before .before .before .before .before .before .before .args .out .now) (c .before .before .before .before .before .before .list-quiet .result) _ (c .before .before .before .before .before .before .list-quiet .ensures) .2)
 
 list-total-requires : tie.Need-list-total-requires
 list-total-requires c κs = search needs

@@ -6,6 +6,7 @@ use native.Mathlib.Omega.{arith}
 use mathlib.Core.Path.{_≡_, refl, sym, _∙_}
 use borrow.Author.Needs.{needs}
 use lib.ListN.{length}
+use Rattle.listing.specs.Listing.{valuesOf}
 use Rattle.listing.proofs.Theorems.{chunk-is-small}
 use Rattle.booth_list.proofs.main.Statement.{statement}
 use Rattle.booth_list.proofs.main.Tie as tie
@@ -15,6 +16,13 @@ Inv-loop chunk₀ out₀ reader₀ noise₀ reads₀ chunk out reader noise read
 
 abbrev μ-loop : tie.MeasureT-loop
 μ-loop chunk₀ out₀ reader₀ noise₀ reads₀ chunk out reader noise reads = reads
+
+-- The text is within the buffer, which keeps its length, and the noise is small.
+small : (x : tie.After-list-chunk Inv-loop μ-loop) →
+    (valuesOf (x .list-chunk .result .answer) .len ≤ length (x .before .before .before .before .before .before .before .before .before .before .loop .out))
+    × (length (x .list-chunk .last .1 .1 .0) ≡ length (x .before .before .before .before .before .before .before .before .before .before .loop .out))
+    × (valuesOf (x .list-chunk .result .answer) .noise ≤ 66053)
+small x = chunk-is-small (x .before .before .before .before .before .before .before .before .before .before .loop .reader) _ (x .before .before .before .before .before .before .before .before .before .before .loop .out) (x .list-chunk .result) _ (x .list-chunk .ensures)
 
 large-buffer-requires : tie.Need-large-buffer-requires Inv-loop μ-loop
 large-buffer-requires c κs = search needs
@@ -63,7 +71,7 @@ slice-aggregate-write-text c = sym (c .before .before .list-chunk .kept .1 .1 .0
 
 write-text-requires : tie.Need-write-text-requires Inv-loop μ-loop
 write-text-requires c κs =
-    let q = chunk-is-small _ _ _ _ _ (c .before .before .list-chunk .ensures) in
+    let q = small (c .before .before) in
     omega (arith, q .0, q .1)
 
 returns-2 : tie.Need-returns-2 Inv-loop μ-loop
@@ -73,7 +81,7 @@ noise-of-requires : tie.Need-noise-of-requires Inv-loop μ-loop
 noise-of-requires c κs = search needs
 
 add-noise : tie.Need-add-noise Inv-loop μ-loop
-add-noise c = omega (arith, c .noise-of .ensures, chunk-is-small _ _ _ _ _ (c .before .before .before .before .before .list-chunk .ensures) .2, c .before .before .before .before .before .before .before .before .before .before .before .before .before .before .before .loop .inv .2, c .before .before .before .before .before .before .before .before .before .before .before .before .before .before .loop-test .taken)
+add-noise c = omega (arith, c .noise-of .ensures, small (c .before .before .before .before .before) .2, c .before .before .before .before .before .before .before .before .before .before .before .before .before .before .before .loop .inv .2, c .before .before .before .before .before .before .before .before .before .before .before .before .before .before .loop-test .taken)
 
 sub-reads : tie.Need-sub-reads Inv-loop μ-loop
 sub-reads c = search needs
@@ -85,7 +93,7 @@ loop-again : tie.Need-loop-again Inv-loop μ-loop
 loop-again c = (
   c .before .before .before .before .before .before .before .before .before .before .before .before .before .read .kept .1 .0 ∙ c .before .before .before .before .before .before .before .before .before .before .before .before .before .before .before .before .loop .inv .0,
   c .before .before .before .before .before .before .list-chunk .kept .1 .1 .0 ∙ c .before .before .before .before .before .before .before .before .before .before .before .before .before .before .before .before .loop .inv .1,
-  omega (arith, c .before .noise-of .ensures, chunk-is-small _ _ _ _ _ (c .before .before .before .before .before .before .list-chunk .ensures) .2, c .before .before .before .before .before .before .before .before .before .before .before .before .before .before .before .before .loop .inv .2, c .before .before .before .before .before .before .before .before .before .before .before .before .before .before .before .loop-test .taken),
+  omega (arith, c .before .noise-of .ensures, small (c .before .before .before .before .before .before) .2, c .before .before .before .before .before .before .before .before .before .before .before .before .before .before .before .before .loop .inv .2, c .before .before .before .before .before .before .before .before .before .before .before .before .before .before .before .loop-test .taken),
 )
 
 slice-aggregate-finish-2 : tie.Need-slice-aggregate-finish-2 Inv-loop μ-loop

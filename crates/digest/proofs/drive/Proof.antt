@@ -3,7 +3,8 @@
 -- Assumes nothing.
 use Prim.Native.Nat.{_≤_}
 use native.Mathlib.Omega.{arith}
-use mathlib.Core.Path.{_≡_, sym, _∙_}
+use mathlib.Core.Path.{_≡_, sym, ap, _∙_}
+use mathlib.Core.Logic.{⊎-elim}
 use borrow.Author.Needs.{needs}
 use lib.ListN.{length}
 use Rattle.io.proofs.Counting.{front}
@@ -11,16 +12,16 @@ use Rattle.digest.proofs.drive.Statement.{statement}
 use Rattle.digest.proofs.drive.Tie as tie
 
 abbrev Inv-loop : tie.InvT-loop
-Inv-loop s size buf₀ tally₀ span₀ end fed₀ turns₀ buf tally span fed turns = (length buf ≡ 256) × (span .at ≤ span .end) × (span .end ≤ length s)
+Inv-loop s size buf₀ tally₀ span₀ end framing fed₀ turns₀ buf tally span fed turns = (length buf ≡ 256) × (span .at ≤ span .end) × (span .end ≤ length s)
 
 abbrev μ-loop : tie.MeasureT-loop
-μ-loop s size buf₀ tally₀ span₀ end fed₀ turns₀ buf tally span fed turns = turns
+μ-loop s size buf₀ tally₀ span₀ end framing fed₀ turns₀ buf tally span fed turns = turns
 
 smaller-requires : tie.Need-smaller-requires Inv-loop μ-loop
 smaller-requires c κs = search needs
 
 slice-aggregate-feed : tie.Need-slice-aggregate-feed Inv-loop μ-loop
-slice-aggregate-feed c = front _ (c .before .before .before .before .args .s .now) (c .before .smaller .ensures .1)
+slice-aggregate-feed c = front _ (c .before .before .before .before .before .args .s .now) (c .before .before .smaller .ensures .1)
 
 slice-aggregate-feed-2 : tie.Need-slice-aggregate-feed-2 Inv-loop μ-loop
 slice-aggregate-feed-2 c = search needs
@@ -29,7 +30,7 @@ feed-requires : tie.Need-feed-requires Inv-loop μ-loop
 feed-requires c κs = search needs
 
 loop-holds : tie.Need-loop-holds Inv-loop μ-loop
-loop-holds c = (c .before .feed .kept .1 .1 .0, omega arith, omega (arith, c .before .before .before .before .smaller .ensures .1))
+loop-holds c = (c .before .feed .kept .1 .1 .0, omega arith, omega (arith, c .before .before .before .before .before .smaller .ensures .1))
 
 slice-aggregate-fed-tally : tie.Need-slice-aggregate-fed-tally Inv-loop μ-loop
 slice-aggregate-fed-tally c = sym (c .before .before .loop .inv .0)
@@ -46,6 +47,27 @@ returns c = search needs
 next-span-requires : tie.Need-next-span-requires Inv-loop μ-loop
 next-span-requires c κs = search needs
 
+is-viewed-requires : tie.Need-is-viewed-requires Inv-loop μ-loop
+is-viewed-requires c κs = search needs
+
+sub-drive-view : tie.Need-sub-drive-view Inv-loop μ-loop
+sub-drive-view c = search needs
+
+part-drive-view-start : tie.Need-part-drive-view-start Inv-loop μ-loop
+part-drive-view-start c = search needs
+
+part-drive-view-end : tie.Need-part-drive-view-end Inv-loop μ-loop
+part-drive-view-end c = search needs
+
+slice-aggregate-drive-view : tie.Need-slice-aggregate-drive-view Inv-loop μ-loop
+slice-aggregate-drive-view c = sym (c .before .before .before .before .before .before .before .before .before .before .loop .inv .0)
+
+drive-view-requires : tie.Need-drive-view-requires Inv-loop μ-loop
+drive-view-requires c κs = search needs
+
+all-taken-requires : tie.Need-all-taken-requires Inv-loop μ-loop
+all-taken-requires c κs = search needs
+
 sub-feed : tie.Need-sub-feed Inv-loop μ-loop
 sub-feed c = search needs
 
@@ -56,7 +78,7 @@ part-feed-end : tie.Need-part-feed-end Inv-loop μ-loop
 part-feed-end c = search needs
 
 slice-aggregate-feed-3 : tie.Need-slice-aggregate-feed-3 Inv-loop μ-loop
-slice-aggregate-feed-3 c = sym (c .before .before .before .before .before .before .before .before .loop .inv .0)
+slice-aggregate-feed-3 c = sym (c .before .before .before .before .before .before .before .before .before .before .loop .inv .0)
 
 feed-requires-2 : tie.Need-feed-requires-2 Inv-loop μ-loop
 feed-requires-2 c κs = search needs
@@ -68,7 +90,14 @@ loop-less : tie.Need-loop-less Inv-loop μ-loop
 loop-less c = search needs
 
 loop-again : tie.Need-loop-again Inv-loop μ-loop
-loop-again c = (c .before .feed2 .kept .1 .1 .0 ∙ c .before .before .before .before .before .before .before .before .before .before .loop .inv .0, c .before .before .before .before .next-span .ensures .0, c .before .before .before .before .next-span .ensures .1)
+loop-again c = (
+  ⊎-elim
+      (λ w. ap length (w .7) ∙ (w .3 .kept .1 .1 .1 .0 ∙ c .before .before .before .before .before .before .before .before .loop .inv .0))
+      (λ w. ap length (w .5) ∙ (w .3 .kept .1 .1 .0 ∙ c .before .before .before .before .before .before .before .before .loop .inv .0))
+      (c .if2 .came),
+  c .before .before .next-span .ensures .0,
+  c .before .before .next-span .ensures .1,
+)
 
 returns-2 : tie.Need-returns-2 Inv-loop μ-loop
 returns-2 c = search needs
@@ -89,6 +118,13 @@ drive-spec =
     is-last-requires
     returns
     next-span-requires
+    is-viewed-requires
+    sub-drive-view
+    part-drive-view-start
+    part-drive-view-end
+    slice-aggregate-drive-view
+    drive-view-requires
+    all-taken-requires
     sub-feed
     part-feed-start
     part-feed-end

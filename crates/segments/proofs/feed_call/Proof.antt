@@ -5,9 +5,8 @@ use native.Mathlib.Omega.{arith}
 use borrow.Author.Needs.{needs}
 use lib.ListN.{length}
 use Rattle.io.proofs.Counting.{front}
-use Rattle.frame.specs.Reader.{feedValuesOf}
-use Rattle.frame.proofs.Theorems.{taken-is-inside}
-use Rattle.segments.proofs.Answers.{len-within, taken-within}
+use Rattle.frame.specs.Reader.{stateOf, feedValuesOf}
+use Rattle.frame.proofs.Theorems.{feed-tells, taken-is-inside}
 use Rattle.segments.proofs.feed_call.Statement.{statement}
 use Rattle.segments.proofs.feed_call.Tie as tie
 
@@ -31,7 +30,7 @@ show-number-requires-2 c κs = search needs
 
 -- the payload is within what the buffer then holds
 len-in : (f : tie.After-feed) → feedValuesOf (f .feed .result .answer) .len ≤ length (f .feed .last .1 .1 .0)
-len-in f = len-within (f .feed .ensures)
+len-in f = let a = f .before .before .before .before .before .args in feed-tells (a .run .reader) (a .chunk .now) (a .buf .now) (f .feed .result) _ (f .feed .ensures) .inside
 
 show-frame-requires : tie.Need-show-frame-requires
 show-frame-requires c κs =
@@ -91,7 +90,10 @@ same-length c = search needs
 
 -- no more bytes are taken than the chunk has
 taken-in : (f : tie.After-feed) → feedValuesOf (f .feed .result .answer) .taken ≤ length (f .before .before .before .before .before .args .chunk .now)
-taken-in f = taken-within (f .feed .ensures) (taken-is-inside _ _ _)
+taken-in f =
+    let a = f .before .before .before .before .before .args in
+    let h = feed-tells (a .run .reader) (a .chunk .now) (a .buf .now) (f .feed .result) _ (f .feed .ensures) in
+    omega (arith, h .most, taken-is-inside (stateOf (a .run .reader)) (a .chunk .now))
 
 returns : tie.Need-returns
 returns c =

@@ -4,7 +4,7 @@ use native.Mathlib.Omega.{arith}
 use borrow.Author.Needs.{needs}
 use lib.ListN.{length}
 use Rattle.frame.specs.Reader.{quietValuesOf}
-use Rattle.segments.proofs.Answers.{len-within}
+use Rattle.frame.proofs.Theorems.{quiet-tells}
 use Rattle.segments.proofs.quiet_call.Statement.{statement}
 use Rattle.segments.proofs.quiet_call.Tie as tie
 
@@ -25,7 +25,7 @@ show-number-requires c κs = search needs
 
 -- the payload is within what the buffer then holds
 len-in : (q : tie.After-quiet) → quietValuesOf (q .quiet .result .answer) .len ≤ length (q .quiet .last .1 .0)
-len-in q = len-within (q .quiet .ensures)
+len-in q = let a = q .before .before .before .before .args in quiet-tells (a .run .reader) (a .buf .now) (q .quiet .result) _ (q .quiet .ensures) .inside
 
 show-frame-requires : tie.Need-show-frame-requires
 show-frame-requires c κs =

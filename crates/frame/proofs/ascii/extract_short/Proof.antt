@@ -9,12 +9,14 @@ use mathlib.Core.Path.{_≡_, sym, ap, ap₂, _∙_}
 use borrow.Author.Needs.{needs}
 use lib.ListN.{length, take, drop, length-drop}
 use lib.Seq.{paste, length-take-le}
-use Rattle.frame.specs.Checks.{Verdict, frame}
-use Rattle.frame.specs.Ascii.{sum}
-use Rattle.frame.specs.Framing.{read}
-use Rattle.frame.specs.Judged.{decoded, verdictOf, handedOut}
+use Rattle.frame.specs.Checks.{Verdict}
+use Rattle.frame.specs.Hex.{sum, decoded}
+use Rattle.frame.specs.Ascii.{lineEnd, crLf}
+use Rattle.frame.specs.Framing.{judge}
+use Rattle.frame.specs.Judged.{verdictOf, handedOut}
 use Rattle.frame.specs.declared.framing.Framing.the-variants.{Ascii}
-use Rattle.frame.proofs.AsciiJudge.{line-all-digits, line-payload, judge-line}
+use Rattle.frame.proofs.AsciiJudge.{line-all-digits, line-payload, line-return, judge-line}
+use Rattle.frame.proofs.AsciiLaws.{line-end-keeps}
 use Rattle.frame.proofs.AsciiShort.{short-long, short-sum, short-put, short-summed}
 use Rattle.frame.proofs.Framings.{stays}
 use Rattle.frame.proofs.ascii.extract_short.Statement.{statement}
@@ -29,7 +31,7 @@ is c = rw (add-sub-cancel-left 1 (c .before .before .before .before .args .count
 long : (c : tie.After-decode-two) → length (c .decode-two .result) ≡ 32
 long c =
     let a = c .before .before .before .before .args in
-    short-long (a .s .now) (a .count) (c .before .before .before .before .pre .1) (c .decode-two .result) (is c)
+    short-long (a .s .now) (a .count) (c .before .before .before .before .pre .1 .0) (c .decode-two .result) (is c)
 
 -- The sum of all bytes is made.
 total : (c : tie.After-sum-of-two) → let a = c .before .before .before .before .before .before .args in
@@ -37,15 +39,15 @@ total : (c : tie.After-sum-of-two) → let a = c .before .before .before .before
 total c =
     let a = c .before .before .before .before .before .before .args in
     c .sum-of-two .ensures
-    ∙ short-sum (a .s .now) (a .count) (c .before .before .before .before .before .before .pre .1) (c .before .before .decode-two .result) (is (c .before .before))
+    ∙ short-sum (a .s .now) (a .count) (c .before .before .before .before .before .before .pre .1 .0) (c .before .before .decode-two .result) (is (c .before .before))
 
 -- The verdict on the whole.
 verdict : (c : tie.After-judge-end) → let a = c .before .before .before .before .before .before .before .args in
-    read Ascii (a .s .now) ≡ verdictOf Ascii (a .s .now) (c .judge-end .result)
+    judge Ascii (a .s .now) ≡ verdictOf Ascii (a .s .now) (c .judge-end .result)
 verdict c =
     let a = c .before .before .before .before .before .before .before .args in
-    let h = c .before .before .before .before .before .before .before .pre .1 in
-    judge-line (a .s .now) (omega (arith, h .inside)) (h .start) ∙ c .judge-end .ensures
+    let h = c .before .before .before .before .before .before .before .pre .1 .0 in
+    judge-line crLf (a .s .now) (omega (arith, h .inside)) (h .start) ∙ c .judge-end .ensures
 
 add-end : tie.Need-add-end
 add-end c = search needs
@@ -64,26 +66,28 @@ sub-decode-two-2 c = search needs
 
 decode-two-requires : tie.Need-decode-two-requires
 decode-two-requires c κs = let a = c .before .before .before .args in
-    let h = c .before .before .before .pre .1 in
+    let h = c .before .before .before .pre .1 .0 in
     let long : length (take (1 + a .count - 1) (drop 1 (a .s .now))) ≡ 1 + a .count - 1 =
     length-take-le (1 + a .count - 1) (drop 1 (a .s .now)) (omega (arith, length-drop 1 (a .s .now), h .inside))
     in
-    (omega (arith, long, h .least), omega (arith, long, h .least), line-all-digits (a .s .now) (a .count) (c .before .before .before .pre .0))
+    (omega (arith, long, h .least), (omega (arith, long, h .least), line-all-digits (a .s .now) (a .count) (c .before .before .before .pre .0)))
 
 slice-aggregate-whole : tie.Need-slice-aggregate-whole
 slice-aggregate-whole c = sym (long (c .before))
 
 sub-sum-of-two : tie.Need-sub-sum-of-two
-sub-sum-of-two c = omega (arith, c .before .before .before .before .before .pre .1 .most)
+sub-sum-of-two c = omega (arith, c .before .before .before .before .before .pre .1 .0 .most)
 
 sum-of-two-requires : tie.Need-sum-of-two-requires
-sum-of-two-requires c κs = (long (c .before), omega (arith, c .before .before .before .before .before .pre .1 .most), omega (arith, c .before .before .before .before .before .pre .1 .least))
+sum-of-two-requires c κs =
+    let h = c .before .before .before .before .before .pre .1 .0 in
+    (long (c .before), (omega (arith, h .most), omega (arith, h .least)))
 
 judge-end-requires : tie.Need-judge-end-requires
-judge-end-requires c κs = let h = c .before .before .before .before .before .before .pre .1 in (
-  (c .before .before .before .before .before .before .pre .0, (omega (arith, h .least), omega (arith, h .most)), h .even),
-  ((h .inside, h .ends), total c),
-)
+judge-end-requires c κs =
+    let s = c .before .before .before .before .before .before in
+    let h = s .pre .1 .0 in
+    (s .pre .0, (omega (arith, h .least), (omega (arith, h .most), (h .even, (h .inside, (h .ends, total c))))))
 
 enum-told : tie.Need-enum-told
 enum-told c = search needs
@@ -95,7 +99,7 @@ put-requires : tie.Need-put-requires
 put-requires c κs = omega (arith, length-take-le 16 (c .before .before .before .before .before .before .before .decode-two .result) (omega (arith, long (c .before .before .before .before .before .before .before))))
 
 sub-put : tie.Need-sub-put
-sub-put c = omega (arith, c .before .before .before .before .before .before .before .before .before .before .before .before .before .before .before .pre .1 .least)
+sub-put c = omega (arith, c .before .before .before .before .before .before .before .before .before .before .before .before .before .before .before .pre .1 .0 .least)
 
 sub-put-2 : tie.Need-sub-put-2
 sub-put-2 c = search needs
@@ -119,7 +123,7 @@ returns c = let a = c .before .before .before .before .before .before .before .b
     let used = c .before .before .before .before .before .before .before .before .before .before .enum-told .given .0 .0 in
     let len = c .before .before .before .before .before .before .before .before .before .before .enum-told .given .0 .1 .0 in
     let p : List ℕ = decoded (take (2 * len) (drop 1 s)) in
-    let h = c .before .before .before .before .before .before .before .before .before .before .before .before .before .before .before .before .before .before .before .pre .1 in
+    let h = c .before .before .before .before .before .before .before .before .before .before .before .before .before .before .before .before .before .before .before .pre .1 .0 in
     let e = c .before .before .before .before .before .before .before .before .before .before .before .before .judge-end .ensures ∙ ap (verdictOf Ascii s) (c .before .before .before .before .before .before .before .before .before .before .enum-told .given .1) in
     let front : length (take 16 two) ≡ 16 = length-take-le 16 two (omega (arith, long (c .before .before .before .before .before .before .before .before .before .before .before .before .before .before .before))) in
     let last : length (take 15 (drop 16 two)) ≡ 15 = length-take-le 15 (drop 16 two) (omega (arith, length-drop 16 two, long (c .before .before .before .before .before .before .before .before .before .before .before .before .before .before .before))) in (
@@ -128,8 +132,8 @@ returns c = let a = c .before .before .before .before .before .before .before .b
           ∙ ap₂ (λ (d : List ℕ) (k : ℕ). paste d (a .count / 2 - 16) (take 15 (drop 16 two)) k)
           (c .before .before .before .before .before .before .before .put .ensures ∙ ap (paste (a .buf .now) 0 (take 16 two)) front) last
           ∙ short-put s (a .count) h two (is (c .before .before .before .before .before .before .before .before .before .before .before .before .before .before .before)) (a .buf .now) p
-          (line-payload (short-summed s (a .count) (c .before .before .before .before .before .before .before .before .before .before .before .before .before .sum-of-two .result) (c .before .before .before .before .before .before .before .before .before .before .before .before .before .before .before .before .before .before .before .pre .0) h (total (c .before .before .before .before .before .before .before .before .before .before .before .before .before))) used p e)
-          ∙ sym (ap (λ (v : Verdict). handedOut v (a .buf .now)) (judge-line s (omega (arith, h .inside)) (h .start) ∙ e)),
+          (line-payload (short-summed s (a .count) (c .before .before .before .before .before .before .before .before .before .before .before .before .before .sum-of-two .result) (c .before .before .before .before .before .before .before .before .before .before .before .before .before .before .before .before .before .before .before .pre .0) h (total (c .before .before .before .before .before .before .before .before .before .before .before .before .before))) crLf lineEnd (line-return s (a .count) (h .ends)) line-end-keeps used p e)
+          ∙ sym (ap (λ (v : Verdict). handedOut v (a .buf .now)) (judge-line crLf s (omega (arith, h .inside)) (h .start) ∙ e)),
     )
 
 returns-2 : tie.Need-returns-2

@@ -6,10 +6,10 @@ use mathlib.Core.Logic.{inl, inr}
 use mathlib.Core.Path.{_∙_, ap}
 use borrow.Author.Needs.{needs}
 use lib.ListN.{take, drop}
-use Rattle.frame.specs.Ascii.{sum}
-use Rattle.frame.specs.Judged.{decoded}
-use Rattle.frame.proofs.AsciiLeaves.{counted}
-use Rattle.frame.proofs.AsciiJudge.{line-all-digits, line-many, line-short, Stopped, line-character, line-count}
+use Rattle.frame.specs.Hex.{sum, decoded}
+use Rattle.frame.specs.Ascii.{lineEnd, crLf}
+use Rattle.frame.proofs.DigitLaws.{counted}
+use Rattle.frame.proofs.AsciiJudge.{line-all-digits, line-many, line-short, Stopped, JudgesAt, line-character, line-return, line-count}
 use Rattle.frame.proofs.ascii.judge_digits.Statement.{statement}
 use Rattle.frame.proofs.ascii.judge_digits.Tie as tie
 
@@ -17,14 +17,18 @@ use Rattle.frame.proofs.ascii.judge_digits.Tie as tie
 stopped : (c : tie.Else2) → let a = c .before .before .before .args in Stopped (a .s .now) (a .count)
 stopped c = search needs
 
+-- It is CR.
+return : (c : tie.Else3) → let a = c .before .before .before .before .before .args in JudgesAt crLf lineEnd (a .s .now) (a .count)
+return c = let a = c .before .before .before .before .before .args in line-return (a .s .now) (a .count) (c .if3 .left)
+
 add-end : tie.Need-add-end
 add-end c = omega (arith, counted 515 (drop 1 (c .before .args .s .now)) .room)
 
 returns : tie.Need-returns
-returns c = let a = c .before .before .args in line-many (a .s .now) (a .count) (c .before .before .pre .1) (c .if1 .taken)
+returns c = let a = c .before .before .args in line-many (a .s .now) (a .count) (c .before .before .pre .1) crLf (c .if1 .taken)
 
 returns-2 : tie.Need-returns-2
-returns-2 c = let a = c .before .before .before .args in line-short (a .s .now) (a .count) (c .before .before .before .pre .1) (omega arith) (c .if2 .taken)
+returns-2 c = let a = c .before .before .before .args in line-short (a .s .now) (a .count) (c .before .before .before .pre .1) crLf (omega arith) (c .if2 .taken)
 
 shared-slice-read-if3 : tie.Need-shared-slice-read-if3
 shared-slice-read-if3 c = search needs
@@ -39,13 +43,13 @@ add-t12 : tie.Need-add-t12
 add-t12 c = search needs
 
 returns-4 : tie.Need-returns-4
-returns-4 c = line-count (stopped (c .before .before .before)) (c .before .if3 .left) (inl (c .if4 .taken))
+returns-4 c = line-count crLf lineEnd (stopped (c .before .before .before)) (return (c .before)) (inl (c .if4 .taken))
 
 add-t15 : tie.Need-add-t15
 add-t15 c = search needs
 
 returns-5 : tie.Need-returns-5
-returns-5 c = line-count (stopped (c .before .before .before .before)) (c .before .before .if3 .left) (inr (c .if5 .taken))
+returns-5 c = line-count crLf lineEnd (stopped (c .before .before .before .before)) (return (c .before .before)) (inr (c .if5 .taken))
 
 sub-pair-sum : tie.Need-sub-pair-sum
 sub-pair-sum c = search needs
@@ -60,10 +64,10 @@ pair-sum-requires : tie.Need-pair-sum-requires
 pair-sum-requires c κs = let a = c .before .before .before .before .before .before .before .before .args in (search needs, line-all-digits (a .s .now) (a .count) (c .before .before .before .before .before .before .before .before .pre .1))
 
 judge-end-requires : tie.Need-judge-end-requires
-judge-end-requires c κs = let a = c .before .before .before .before .before .before .before .before .before .args in (
-  search needs,
-  (search needs, c .pair-sum .ensures ∙ ap (λ (k : _). sum (decoded (take k (drop 1 (a .s .now))))) (add-sub-cancel-left 1 (a .count))),
-)
+judge-end-requires c κs =
+    let a = c .before .before .before .before .before .before .before .before .before .args in
+    let sum-is = c .pair-sum .ensures ∙ ap (λ (k : _). sum (decoded (take k (drop 1 (a .s .now))))) (add-sub-cancel-left 1 (a .count)) in
+    (search needs, (search needs, (search needs, (search needs, (search needs, (search needs, sum-is))))))
 
 returns-6 : tie.Need-returns-6
 returns-6 c = search needs

@@ -8,10 +8,13 @@ use borrow.Author.Needs.{needs}
 use native.Mathlib.Omega.{arith}
 use lib.ListN.{length, drop, set, length-set, length-append}
 use lib.Seq.{paste}
-use Rattle.frame.specs.Ascii.{colon, carriageReturn, lineFeed, hex, digitOf, checksumOf, asciiLayout}
+use Rattle.frame.specs.Digit.{digitOf}
+use Rattle.frame.specs.Hex.{hex}
+use Rattle.frame.specs.Ascii.{colon, carriageReturn, lineFeed, checksumOf, asciiFront, asciiEnding, asciiLayout}
 use Rattle.frame.specs.Framing.{inFront}
 use Rattle.frame.proofs.Lists.{wrote-one, wrote-two, wrote-many}
-use Rattle.frame.proofs.AsciiLeaves.{length-hex, ascii-layout-is, length-ascii-layout}
+use Rattle.frame.proofs.HexLaws.{length-hex}
+use Rattle.frame.proofs.AsciiLaws.{ascii-front-is, length-ascii-front}
 use Rattle.frame.proofs.ascii.pack.Statement.{statement}
 use Rattle.frame.proofs.ascii.pack.Tie as tie
 
@@ -32,9 +35,9 @@ stores p d end e h =
     let long : length w ≡ end = omega (arith, length-hex p) in
     let b : ℕ = checksumOf p in
     let three : end + 3 ≡ end + 2 + 1 = omega arith in
-    let four : length (asciiLayout p) ≡ end + 2 + 2 = omega (arith, length-ascii-layout p) in
+    let four : length (asciiLayout p) ≡ end + 2 + 2 = omega (arith, length-append (asciiFront p) asciiEnding, length-ascii-front p) in
     rw (front p d end e (omega arith), wrote-two w d (digitOf (b / 16)) (digitOf (b % 16)) end long (omega arith), three)
-    (rw (wrote-two (w ++ hex (b ∷ [])) d carriageReturn lineFeed (end + 2) (simp length-append (omega arith)) (omega arith), four, ascii-layout-is))
+    (rw (wrote-two (w ++ hex (b ∷ [])) d carriageReturn lineFeed (end + 2) (simp length-append (omega arith)) (omega arith), four, ascii-front-is))
 
 -- The calls leave the buffer's length.
 kept : (c : tie.After-slice-known3)

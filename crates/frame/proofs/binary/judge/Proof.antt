@@ -6,6 +6,7 @@ use mathlib.Core.Logic.{inl, inr}
 use mathlib.Core.Path.{_≡_, ap₂, _∙_}
 use borrow.Author.Needs.{needs}
 use lib.ListN.{getD}
+use Rattle.frame.specs.Binary.{footer}
 use Rattle.frame.proofs.BinaryJudge.{judge-empty, judge-first, judge-one, judge-second, judge-short, judge-length, judge-rest}
 use Rattle.frame.proofs.binary.judge.Statement.{statement}
 use Rattle.frame.proofs.binary.judge.Tie as tie
@@ -16,89 +17,71 @@ word-is : (c : tie.After-wide2) →
     c .before .before .wide .result * 256 + c .wide2 .result ≡ getD (s .now) 2 0 * 256 + getD (s .now) 3 0
 word-is c = ap₂ (λ (a b : ℕ). a * 256 + b) (c .before .before .wide .ensures .0) (c .wide2 .ensures .0)
 
--- src/binary.rt:64:9
 returns : tie.Need-returns
 returns c =
-    judge-empty (c .before .before .args .s .now) (c .if1 .taken)
+    judge-empty footer (c .before .before .args .s .now) (c .if1 .taken)
 
--- src/binary.rt:66:8
 shared-slice-read-if2 : tie.Need-shared-slice-read-if2
 shared-slice-read-if2 c = search needs
 
--- src/binary.rt:67:9
 returns-2 : tie.Need-returns-2
 returns-2 c =
-    judge-first (c .before .before .before .before .args .s .now) (omega arith) (c .if2 .taken)
+    judge-first footer (c .before .before .before .before .args .s .now) (omega arith) (c .if2 .taken)
 
--- src/binary.rt:70:9
 returns-3 : tie.Need-returns-3
 returns-3 c =
-    judge-one (c .before .before .before .before .before .args .s .now) (c .before .if2 .left) (c .if3 .taken)
+    judge-one footer (c .before .before .before .before .before .args .s .now) (c .before .if2 .left) (c .if3 .taken)
 
--- src/binary.rt:72:8
 shared-slice-read-if4 : tie.Need-shared-slice-read-if4
 shared-slice-read-if4 c = search needs
 
--- src/binary.rt:73:9
 returns-4 : tie.Need-returns-4
 returns-4 c =
-    judge-second (c .before .before .before .before .before .before .before .args .s .now) (c .before .before .before .if2 .left) (omega arith) (c .if4 .taken)
+    judge-second footer (c .before .before .before .before .before .before .before .args .s .now) (c .before .before .before .if2 .left) (omega arith) (c .if4 .taken)
 
--- src/binary.rt:76:9
 returns-5 : tie.Need-returns-5
 returns-5 c =
-    judge-short (c .before .before .before .before .before .before .before .before .args .s .now) (c .before .before .before .before .if2 .left) (c .before .if4 .left) (omega arith) (c .if5 .taken)
+    judge-short footer (c .before .before .before .before .before .before .before .before .args .s .now) (c .before .before .before .before .if2 .left) (c .before .if4 .left) (omega arith) (c .if5 .taken)
 
--- src/binary.rt:78:21
 shared-slice-read-wide : tie.Need-shared-slice-read-wide
 shared-slice-read-wide c = search needs
 
--- src/binary.rt:78:16
 wide-requires : tie.Need-wide-requires
 wide-requires c κs = search needs
 
--- src/binary.rt:78:16
 mul-word : tie.Need-mul-word
 mul-word c =
     omega (arith, c .wide .ensures .1)
 
--- src/binary.rt:78:40
 shared-slice-read-wide-2 : tie.Need-shared-slice-read-wide-2
 shared-slice-read-wide-2 c = search needs
 
--- src/binary.rt:78:35
 wide-requires-2 : tie.Need-wide-requires-2
 wide-requires-2 c κs = search needs
 
--- src/binary.rt:78:16
 add-word : tie.Need-add-word
 add-word c =
     omega (arith, c .before .before .wide .ensures .1, c .wide2 .ensures .1)
 
--- src/binary.rt:80:9
 returns-6 : tie.Need-returns-6
 returns-6 c =
-    judge-length (c .before .before .before .before .before .before .before .before .before .before .before .before .before .args .s .now) (c .before .before .before .before .before .before .before .before .before .if2 .left) (c .before .before .before .before .before .before .if4 .left)
+    judge-length footer (c .before .before .before .before .before .before .before .before .before .before .before .before .before .args .s .now) (c .before .before .before .before .before .before .before .before .before .if2 .left) (c .before .before .before .before .before .before .if4 .left)
     (c .before .before .before .wide .result * 256 + c .before .wide2 .result) (word-is (c .before)) (c .before .before .before .before .before .if5 .left) (inl (c .if6 .taken))
 
--- src/binary.rt:83:9
 returns-7 : tie.Need-returns-7
 returns-7 c =
-    judge-length (c .before .before .before .before .before .before .before .before .before .before .before .before .before .before .args .s .now) (c .before .before .before .before .before .before .before .before .before .before .if2 .left) (c .before .before .before .before .before .before .before .if4 .left)
+    judge-length footer (c .before .before .before .before .before .before .before .before .before .before .before .before .before .before .args .s .now) (c .before .before .before .before .before .before .before .before .before .before .if2 .left) (c .before .before .before .before .before .before .before .if4 .left)
     (c .before .before .before .before .wide .result * 256 + c .before .before .wide2 .result) (word-is (c .before .before)) (c .before .before .before .before .before .before .if5 .left) (inr (c .if7 .taken))
 
--- src/binary.rt:85:19
 sub-judge-body : tie.Need-sub-judge-body
 sub-judge-body c = search needs
 
--- src/binary.rt:85:5
 judge-body-requires : tie.Need-judge-body-requires
 judge-body-requires c κs = search needs
 
--- src/binary.rt:59:1
 returns-8 : tie.Need-returns-8
 returns-8 c =
-    judge-rest (c .before .before .before .before .before .before .before .before .before .before .before .before .before .before .before .args .s .now) (c .before .before .before .before .before .before .before .before .before .before .before .if2 .left) (c .before .before .before .before .before .before .before .before .if4 .left)
+    judge-rest footer (c .before .before .before .before .before .before .before .before .before .before .before .before .before .before .before .args .s .now) (c .before .before .before .before .before .before .before .before .before .before .before .if2 .left) (c .before .before .before .before .before .before .before .before .if4 .left)
     (c .before .before .before .before .before .wide .result * 256 + c .before .before .before .wide2 .result) (word-is (c .before .before .before)) (c .before .before .before .before .before .before .before .if5 .left) (c .before .before .if6 .left) (c .before .if7 .left)
     ∙ c .judge-body .ensures
 

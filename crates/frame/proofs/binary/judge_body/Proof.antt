@@ -6,7 +6,7 @@ use native.Mathlib.Omega.{arith}
 use mathlib.Core.Path.{_≡_, sym, ap, _∙_}
 use borrow.Author.Needs.{needs}
 use lib.ListN.{take, drop}
-use Rattle.frame.specs.Binary.{xorOf}
+use Rattle.frame.specs.Binary.{xorOf, footer}
 use Rattle.frame.proofs.BinaryJudge.{body-short, body-checksum, body-no-footer, body-footer, body-frame}
 use Rattle.frame.proofs.binary.judge_body.Statement.{statement}
 use Rattle.frame.proofs.binary.judge_body.Tie as tie
@@ -23,7 +23,7 @@ add-end c = search needs
 returns : tie.Need-returns
 returns c =
     let a = c .before .before .args in
-    body-short (a .s .now) (a .len) (c .before .before .pre .0) (c .if1 .taken)
+    body-short footer (a .s .now) (a .len) (c .before .before .pre .0) (c .if1 .taken)
 
 sub-xor-of : tie.Need-sub-xor-of
 sub-xor-of c = search needs
@@ -46,7 +46,7 @@ add-t14 c = search needs
 returns-2 : tie.Need-returns-2
 returns-2 c =
     let a = c .before .before .before .before .before .before .args in
-    body-checksum (a .s .now) (a .len) (omega arith) (λ e. c .if2 .taken (summed (c .before .before) ∙ sym e))
+    body-checksum footer (a .s .now) (a .len) (omega arith) (λ e. c .if2 .taken (summed (c .before .before) ∙ sym e))
 
 add-if3 : tie.Need-add-if3
 add-if3 c = search needs

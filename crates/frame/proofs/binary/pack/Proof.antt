@@ -3,15 +3,16 @@
 -- Assumes nothing.
 use Prim.Native.Nat.{ℕ, _+_, _/_, _%_, _≤_, _<_}
 use native.Mathlib.Omega.{arith}
-use mathlib.Core.Path.{_≡_, refl, ap, _∙_}
-use mathlib.Core.List.{List, [], _∷_, _++_}
+use mathlib.Core.Path.{_≡_, refl, sym, ap, _∙_}
+use mathlib.Core.List.{List, [], _∷_, _++_, append-assoc}
 use borrow.Author.Needs.{needs}
 use lib.ListN.{length, drop, set, length-set}
 use lib.Seq.{paste}
-use Rattle.frame.specs.Binary.{xorOf, binaryLayout}
+use Rattle.frame.specs.Binary.{xorOf, binaryFront, binaryEnding, binaryLayout}
 use Rattle.frame.specs.Framing.{inFront}
+use Rattle.frame.specs.declared.framing.Framing.the-variants.{Binary}
 use Rattle.frame.proofs.Lists.{wrote-two, wrote-many}
-use Rattle.frame.proofs.BinaryLaws.{length-binary}
+use Rattle.frame.proofs.Framings.{length-layout}
 use Rattle.frame.proofs.binary.pack.Statement.{statement}
 use Rattle.frame.proofs.binary.pack.Tie as tie
 
@@ -25,84 +26,69 @@ front d a b x y h =
 stores : (p d : List ℕ) (end : ℕ) → 4 + length p ≡ end → end + 1 < length d → length p ≤ 256
     → set (set (paste (set (set (set (set d 0 0xA5) 1 0x5A) 2 ((0x8000 + length p) / 256 % 256)) 3 ((0x8000 + length p) % 256)) 4 p (length p)) end (xorOf p)) (end + 1) 0x04
     ≡ inFront (binaryLayout p) d
-unfolding binaryLayout
+unfolding binaryFront
 stores p d end e h m =
     let n : ℕ = 0x8000 + length p in
     let w : List ℕ = 0xA5 ∷ 0x5A ∷ n / 256 ∷ n % 256 ∷ [] in
     let high : n / 256 % 256 ≡ n / 256 = omega arith in
-    let all : end + 2 ≡ length (binaryLayout p) = omega (arith, length-binary p) in
+    let all : end + 2 ≡ length (binaryLayout p) = omega (arith, length-layout Binary p) in
     ap (λ (x : ℕ). set (set (paste (set (set (set (set d 0 0xA5) 1 0x5A) 2 x) 3 (n % 256)) 4 p (length p)) end (xorOf p)) (end + 1) 0x04) high
     ∙ ap (λ (l : List ℕ). set (set (paste l 4 p (length p)) end (xorOf p)) (end + 1) 0x04) (front d 0xA5 0x5A (n / 256) (n % 256) (omega arith))
     ∙ ap (λ (l : List ℕ). set (set l end (xorOf p)) (end + 1) 0x04) (wrote-many w p d 4 refl (omega arith))
     ∙ ap (λ (k : ℕ). set (set ((w ++ p) ++ drop k d) end (xorOf p)) (end + 1) 0x04) e
     ∙ wrote-two (w ++ p) d (xorOf p) 0x04 end (omega arith) h
+    ∙ ap (λ (q : List ℕ). (w ++ q) ++ drop (end + 2) d) (sym (append-assoc p (xorOf p ∷ []) binaryEnding))
     ∙ ap (λ (k : ℕ). binaryLayout p ++ drop k d) all
 
 -- The calls leave the buffer's length.
 kept : (c : tie.After-xor-of) → length (c .before .before .before .put .last .0) ≡ length (c .before .before .before .before .before .before .before .args .buf .now)
 kept c = c .before .before .before .put .kept .0 ∙ simp length-set
 
--- src/binary.rt:94:15
 add-end : tie.Need-add-end
 add-end c = search needs
 
--- src/binary.rt:95:5
 slice-write-buf : tie.Need-slice-write-buf
 slice-write-buf c = search needs
 
--- src/binary.rt:96:5
 slice-write-buf-2 : tie.Need-slice-write-buf-2
 slice-write-buf-2 c = simp length-set (omega arith)
 
--- src/binary.rt:97:16
 add-buf : tie.Need-add-buf
 add-buf c = search needs
 
--- src/binary.rt:97:14
 cast-buf : tie.Need-cast-buf
 cast-buf c = search needs
 
--- src/binary.rt:97:5
 slice-write-buf-3 : tie.Need-slice-write-buf-3
 slice-write-buf-3 c = simp length-set (omega arith)
 
--- src/binary.rt:98:16
 add-buf-2 : tie.Need-add-buf-2
 add-buf-2 c = search needs
 
--- src/binary.rt:98:14
 cast-buf-2 : tie.Need-cast-buf-2
 cast-buf-2 c = search needs
 
--- src/binary.rt:98:5
 slice-write-buf-4 : tie.Need-slice-write-buf-4
 slice-write-buf-4 c = simp length-set (omega arith)
 
--- src/binary.rt:99:5
 put-requires : tie.Need-put-requires
 put-requires c κs = simp length-set (omega arith)
 
--- src/binary.rt:100:16
 xor-of-requires : tie.Need-xor-of-requires
 xor-of-requires c κs = search needs
 
--- src/binary.rt:100:5
 slice-write-buf-5 : tie.Need-slice-write-buf-5
 slice-write-buf-5 c = omega (arith, kept c)
 
--- src/binary.rt:101:9
 add-buf-3 : tie.Need-add-buf-3
 add-buf-3 c = search needs
 
--- src/binary.rt:101:5
 slice-write-buf-6 : tie.Need-slice-write-buf-6
 slice-write-buf-6 c = simp length-set (omega (arith, kept c))
 
--- src/binary.rt:89:1
 same-length : tie.Need-same-length
 same-length c = simp length-set (kept c)
 
--- src/binary.rt:89:1
 returns : tie.Need-returns
 returns c =
     let a = c .before .before .before .before .before .before .before .args in

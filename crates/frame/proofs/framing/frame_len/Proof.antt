@@ -1,32 +1,27 @@
+-- `frame::framing::frame_len` meets its contract: the length is that of each framing.
+-- Assumes nothing.
 use borrow.Author.Needs.{needs}
 use Rattle.frame.proofs.framing.frame_len.Statement.{statement}
 use Rattle.frame.proofs.framing.frame_len.Tie as tie
 
--- src/framing.rt:56:28
 enum-told : tie.Need-enum-told
 enum-told c = search needs
 
--- src/framing.rt:56:28
 add-result : tie.Need-add-result
 add-result c = search needs
 
--- src/framing.rt:57:27
 enum-told-2 : tie.Need-enum-told-2
 enum-told-2 c = search needs
 
--- src/framing.rt:57:27
 mul-result : tie.Need-mul-result
 mul-result c = search needs
 
--- src/framing.rt:57:27
 add-result-2 : tie.Need-add-result-2
 add-result-2 c = search needs
 
--- src/framing.rt:51:1
 returns : tie.Need-returns
 returns c = cc
 
--- src/framing.rt:51:1
 returns-2 : tie.Need-returns-2
 returns-2 c = cc
 

@@ -1,45 +1,51 @@
--- `frame::reader::feed_chunk` meets its contract: the scan's result is one of which an answer can be made.
+-- `frame::reader::feed_chunk` meets its contract: the scan of the chunk gives the answer, and the kept part was copied to the array.
 -- Assumes nothing.
 use native.Mathlib.Nat.{le-refl}
-use Prim.Native.Nat.{zero-le}
-use mathlib.Core.Path.{ap, _∙_, subst}
-use borrow.Author.Needs.{needs}
+use native.Mathlib.Omega.{arith}
+use mathlib.Core.Bool.{false}
+use mathlib.Core.Path.{_≡_}
 use lib.ListN.{length}
-use Rattle.frame.specs.Scan.{Scanned, scanned, calledBy}
-use Rattle.frame.specs.Reader.{Tells}
-use Rattle.frame.specs.declared.reader.Before.{Before}
-use Rattle.frame.proofs.Readers.{answerable, tells, ends-taken}
+use Rattle.frame.specs.Scan.{judging, scanFrom, scanned}
+use Rattle.frame.proofs.Readers.{answerable, from-first, chunk-leaves}
+use Prim.Native.Nat.{zero-le}
+use borrow.Author.Needs.{needs}
 use Rattle.frame.proofs.reader.feed_chunk.Statement.{statement}
 use Rattle.frame.proofs.reader.feed_chunk.Tie as tie
 
-scan-all-requires : tie.Need-scan-all-requires
-scan-all-requires c κs = search needs
+-- All places of the chunk were scanned.
+is : (x : tie.After-find) → let a = x .before .before .before .before .before .args in
+    scanned (a .framing) (a .chunk .now) (x .find .result) ≡ scanFrom (judging false (a .framing)) (length (a .chunk .now)) 0 (a .reach) (a .chunk .now)
+is x = let a = x .before .before .before .before .before .args in from-first false (a .framing) (length (a .chunk .now)) (a .reach) (a .chunk .now) _ (x .find .ensures .0)
+
+find-requires : tie.Need-find-requires
+find-requires c κs = search needs
 
 answer-requires : tie.Need-answer-requires
 answer-requires c κs =
-    let d = c .before .before .before .before .before .before in
-    let a = d .args in
-    let s = c .before .before .scan-all in
-    answerable (a .framing) (a .chunk .now) (length (a .chunk .now)) (a .reach) (scanned (a .framing) (a .chunk .now) (s .result)) _
-    (le-refl (length (a .chunk .now))) (d .pre .reached) (d .pre .before) (s .ensures .0) zero-le (d .pre .noise-small)
+    let a = c .before .before .before .before .before .before .before .before .args in
+    let s = a .chunk .now in
+    let p = c .before .before .before .before .before .before .before .before .pre in
+    answerable (a .framing) s (length s) (a .reach) (scanned (a .framing) s (c .before .before .before .find .result)) _ (le-refl (length s)) (p .reached) (p .near)
+    (is (c .before .before .before)) zero-le (p .small)
+
+keep-requires : tie.Need-keep-requires
+keep-requires c κs =
+    let k = c .answer .ensures in (k .inside, k .there, omega (arith, k .most, c .before .before .before .before .before .before .before .before .before .pre .long))
 
 same-length : tie.Need-same-length
 same-length c = search needs
 
+same-length-2 : tie.Need-same-length-2
+same-length-2 c = search needs
+
 returns : tie.Need-returns
 returns c =
-    let a = c .before .before .before .before .before .before .before .args in
-    let s = c .before .before .before .scan-all in
-    let x = scanned (a .framing) (a .chunk .now) (s .result) in
-    let before : Before = record { base = 0; noise = a .noise; size = length (a .chunk .now) } in (
-      subst
-          (λ (y : Scanned). Tells (calledBy before (a .chunk .now) y) (a .chunk .now) (a .buf .now) (c .answer .result) (s .last .1 .1 .1 .0))
-          (s .ensures .0)
-          (tells before (a .chunk .now) (a .buf .now) x (c .answer .result) _ (c .answer .ensures) (s .ensures .1)),
-      c .answer .ensures .ends
-          ∙ ends-taken (a .noise) (a .chunk .now) x
-          ∙ ap (λ (y : Scanned). calledBy before (a .chunk .now) y .taken) (s .ensures .0),
-    )
+    let a = c .before .before .before .before .before .before .before .before .before .before .before .before .args in
+    let s = a .chunk .now in
+    chunk-leaves (a .framing) s (a .noise) (a .reach) (scanned (a .framing) s (c .before .before .before .before .before .before .before .find .result)) (c .before .before .before .answer .result) (a .buf .now) _ _ _
+    (is (c .before .before .before .before .before .before .before)) (c .before .before .before .answer .ensures) (c .before .before .before .before .before .before .before .find .ensures .1) (c .before .before .keep .ensures)
 
 pub feed-chunk-spec : {M : Type 1} → statement M
-feed-chunk-spec = tie.close (tie.spec scan-all-requires answer-requires same-length returns)
+feed-chunk-spec =
+    tie.close
+    (tie.spec find-requires answer-requires keep-requires same-length same-length-2 returns)

@@ -3,6 +3,7 @@
 use mathlib.Core.Path.{refl, ap, _∙_}
 use borrow.Author.Needs.{needs}
 use lib.ListN.{length, take, replicate}
+use Rattle.frame.specs.Reader.{holding}
 use Rattle.frame.proofs.Lists.{front-of-paste}
 use Rattle.frame.proofs.reader.hold.Statement.{statement}
 use Rattle.frame.proofs.reader.hold.Tie as tie
@@ -15,11 +16,11 @@ put-requires c κs = search needs
 
 returns : tie.Need-returns
 returns c =
-    let s = c .before .before .before .before .args .s .now in
+    let a = c .before .before .before .before .args in
+    let s = a .s .now in
     record {
-      framing = refl;
+      state = ap (holding (a .framing)) (ap (take (length s)) (c .before .put .ensures) ∙ front-of-paste (replicate 517 0) s);
       count = refl;
-      bytes = ap (take (length s)) (c .before .put .ensures) ∙ front-of-paste (replicate 517 0) s;
     }
 
 pub hold-spec : {M : Type 1} → statement M

@@ -5,47 +5,50 @@ use native.Mathlib.Nat.{le-refl}
 use native.Mathlib.Omega.{arith}
 use mathlib.Core.Bool.{true, true≢false}
 use mathlib.Core.List.{List, [], _∷_}
-use mathlib.Core.Path.{refl, sym, ap, _∙_, subst}
-use borrow.Author.Needs.{needs}
+use mathlib.Core.Path.{_≡_, refl, sym, ap, _∙_, subst}
 use lib.ListN.{length, drop, length-drop}
 use Rattle.frame.specs.Judged.{payloadAt}
-use Rattle.frame.specs.Reader.{Holds, quiet}
-use Rattle.frame.specs.Scan.{Stop, scanned, stopOf, stopBuffer}
+use Rattle.frame.specs.Rule.{output}
+use Rattle.frame.specs.Reader.{holding, called, quiet, Holds, frameValues}
+use Rattle.frame.specs.Scan.{judging, Stop, scanned, stopOf, stopBuffer, scanFrom}
 use Rattle.frame.proofs.Lists.{take-rest}
 use Rattle.frame.proofs.Framings.{payload-there, limit-most}
 use Rattle.frame.proofs.Scanning.{scan-facts, AtFrame, scan-found, scan-undecided}
 use Rattle.frame.proofs.ScanCalls.{scan-quiet-found, scan-quiet-passed}
-use Rattle.frame.proofs.Readers.{quiet-right}
+use Rattle.frame.proofs.Readers.{from-first, quiet-right}
+use borrow.Author.Needs.{needs}
 use Rattle.frame.proofs.reader.quiet_held.Statement.{statement}
 use Rattle.frame.proofs.reader.quiet_held.Tie as tie
 
--- What is known where it stopped at a frame.
-at-frame : (c : tie.After-known-told) → let b = c .before .before .before .before .before in let a = b .before .before .before .before .args in
-    let r = b .scan .result in let at = drop (r .place) (a .s .now) in
-    AtFrame (a .framing) (a .s .now) (length (a .s .now)) (r .place) (r .reach) (c .before .end .given .0 .0)
-    (payloadAt (a .framing) at (c .before .end .given .0 .1 .0))
-at-frame c =
-    let b = c .before .before .before .before .before in
-    let a = b .before .before .before .before .args in
-    let r = b .scan .result in
-    let at = drop (r .place) (a .s .now) in
+-- All places were scanned.
+is : (x : tie.After-find) →
+    let a = x .before .before .before .before .args in
+    scanned (a .framing) (a .s .now) (x .find .result) ≡ scanFrom (judging true (a .framing)) (length (a .s .now)) 0 0 (a .s .now)
+is x = let a = x .before .before .before .before .args in from-first true (a .framing) (length (a .s .now)) 0 (a .s .now) _ (x .find .ensures .0)
+
+-- What is known where the scan stopped at a frame.
+at-frame : (k : tie.After-known-told) →
+    let x = k .before .before .before .before .before in
+    let a = x .before .before .before .before .args in
+    let r = x .find .result in
+    AtFrame (a .framing) (a .s .now) (length (a .s .now)) (r .place) (r .reach) (k .before .end .given .0 .0)
+    (payloadAt (a .framing) (drop (r .place) (a .s .now)) (k .before .end .given .0 .1 .0))
+at-frame k =
+    let x = k .before .before .before .before .before in
+    let a = x .before .before .before .before .args in
+    let r = x .find .result in
     scan-found true (a .framing) (a .s .now) (length (a .s .now)) 0 (le-refl (length (a .s .now))) zero-le
-    (scanned (a .framing) (a .s .now) r) (b .scan .ensures .0) (c .before .end .given .0 .0)
-    (payloadAt (a .framing) at (c .before .end .given .0 .1 .0)) (ap (stopOf (a .framing) at) (c .before .end .given .1))
+    (scanned (a .framing) (a .s .now) r) (is x) _ _ (ap (stopOf (a .framing) (drop (r .place) (a .s .now))) (k .before .end .given .1))
 
 -- The frame's bytes are there.
-inside : (c : tie.After-known-told) → let b = c .before .before .before .before .before in let a = b .before .before .before .before .args in
-    b .scan .result .place + c .before .end .given .0 .0 ≤ length (a .s .now)
-inside c =
-    let b = c .before .before .before .before .before in
-    let a = b .before .before .before .before .args in
-    let h = scan-facts true (a .framing) (a .s .now) (length (a .s .now)) 0 (le-refl (length (a .s .now))) zero-le
-    (scanned (a .framing) (a .s .now) (b .scan .result)) (b .scan .ensures .0)
-    in
-    omega (arith, at-frame c .inside, h .there)
+inside : (k : tie.After-known-told) → k .before .before .before .before .before .find .result .place + k .before .end .given .0 .0 ≤ length (k .before .before .before .before .before .before .before .before .before .args .s .now)
+inside k =
+    let a = k .before .before .before .before .before .before .before .before .before .args in
+    let h = scan-facts true (a .framing) (a .s .now) (length (a .s .now)) 0 (le-refl (length (a .s .now))) zero-le _ (is (k .before .before .before .before .before)) in
+    omega (arith, at-frame k .inside, h .there)
 
-scan-requires : tie.Need-scan-requires
-scan-requires c κs = search needs
+find-requires : tie.Need-find-requires
+find-requires c κs = search needs
 
 enum-known-end : tie.Need-enum-known-end
 enum-known-end c = search needs
@@ -64,11 +67,9 @@ part-hold-end c = search needs
 
 hold-requires : tie.Need-hold-requires
 hold-requires c κs =
-    let b = c .before .before .before .before .before .before in
-    let a = b .before .before .before .before .args in
-    let next = b .scan .result .place + c .before .before .end .given .0 .0 in
-    subst (λ (l : List ℕ). length l ≤ 517) (sym (take-rest (a .s .now) next))
-    (omega (arith, length-drop next (a .s .now), limit-most (a .framing)))
+    let a = c .before .before .before .before .before .before .before .before .before .before .args in
+    let next = c .before .before .before .before .before .before .find .result .place + c .before .before .end .given .0 .0 in
+    subst (λ (l : List ℕ). length l ≤ 517) (sym (take-rest (a .s .now) next)) (omega (arith, length-drop next (a .s .now), limit-most (a .framing)))
 
 enum-told : tie.Need-enum-told
 enum-told c = search needs
@@ -87,9 +88,9 @@ same-length c = search needs
 
 returns : tie.Need-returns
 returns c =
-    let b = c .before .before .before .before .before .before .before in
-    let a = b .before .before .before .before .args in
-    let r = b .scan .result in
+    let x = c .before .before .before .before .before .before .before in
+    let a = x .before .before .before .before .args in
+    let r = x .find .result in
     let at = drop (r .place) (a .s .now) in
     let end = c .before .before .before .end in
     let used = end .given .0 .0 in
@@ -98,13 +99,12 @@ returns c =
     let next = drop (r .place + used) (a .s .now) in
     let h = payload-there (a .framing) at used len (at-frame (c .before .before) .is-frame) in
     let stops = ap (stopOf (a .framing) at) (end .given .1) in
-    quiet-right (a .framing) (quiet (a .framing) (a .s .now))
-    (record { taken = 0; out = record { frames = p ∷ []; noise = r .place }; held = next }) (a .buf .now) _ _
-    (scan-quiet-found (a .framing) (a .s .now) (scanned (a .framing) (a .s .now) r) used p (b .scan .ensures .0) stops)
+    quiet-right (holding (a .framing) (a .s .now)) (quiet (holding (a .framing) (a .s .now))) (called 0 (output (p ∷ []) (r .place)) next) (a .buf .now) _ _
+    (scan-quiet-found (a .framing) (a .s .now) (scanned (a .framing) (a .s .now) r) used p (is x) stops)
     (record {
-      values = ap (λ (n : ℕ). record { number = 0; taken = 0; noise = r .place; len = n; isFrame = true }) (sym (h .1));
-      state = subst (λ (l : List ℕ). Holds (a .framing) l (c .hold .result)) (take-rest (a .s .now) (r .place + used)) (c .hold .ensures);
-      buffer = b .scan .ensures .1 ∙ ap (λ (s : Stop). stopBuffer s (a .buf .now)) stops;
+      values = ap (frameValues 0 (r .place)) (sym (h .1));
+      state = subst (λ (l : List ℕ). Holds (holding (a .framing) l) (c .hold .result)) (take-rest (a .s .now) (r .place + used)) (c .hold .ensures);
+      buffer = x .find .ensures .1 ∙ ap (λ (s : Stop). stopBuffer s (a .buf .now)) stops;
     })
 
 same-length-2 : tie.Need-same-length-2
@@ -112,12 +112,11 @@ same-length-2 c = search needs
 
 returns-2 : tie.Need-returns-2
 returns-2 c =
-    let b = c .before .before .before .before .before in
-    let a = b .before .before .before .before .args in
-    let r = b .scan .result in
+    let x = c .before .before .before .before .before in
+    let a = x .before .before .before .before .args in
+    let r = x .find .result in
     let u = scan-undecided true (a .framing) (a .s .now) (length (a .s .now)) 0 (le-refl (length (a .s .now))) zero-le
-    (scanned (a .framing) (a .s .now) r) (b .scan .ensures .0)
-    (ap (stopOf (a .framing) (drop (r .place) (a .s .now))) (c .before .enum-told .given .1))
+    (scanned (a .framing) (a .s .now) r) (is x) (ap (stopOf (a .framing) (drop (r .place) (a .s .now))) (c .before .enum-told .given .1))
     in
     absurd (true≢false (u .goes-on))
 
@@ -126,24 +125,23 @@ same-length-3 c = search needs
 
 returns-3 : tie.Need-returns-3
 returns-3 c =
-    let b = c .before .before .before .before .before in
-    let a = b .before .before .before .before .args in
-    let r = b .scan .result in
+    let x = c .before .before .before .before .before in
+    let a = x .before .before .before .before .args in
+    let r = x .find .result in
     let stops = ap (stopOf (a .framing) (drop (r .place) (a .s .now))) (c .before .enum-told2 .given .1) in
-    quiet-right (a .framing) (quiet (a .framing) (a .s .now))
-    (record { taken = 0; out = record { frames = []; noise = r .place }; held = [] }) (a .buf .now) _ _
-    (scan-quiet-passed (a .framing) (a .s .now) (scanned (a .framing) (a .s .now) r) (b .scan .ensures .0) stops)
+    quiet-right (holding (a .framing) (a .s .now)) (quiet (holding (a .framing) (a .s .now))) (called 0 (output [] (r .place)) []) (a .buf .now) _ _
+    (scan-quiet-passed (a .framing) (a .s .now) (scanned (a .framing) (a .s .now) r) (is x) stops)
     (record {
       values = refl;
       state = c .new2 .ensures;
-      buffer = b .scan .ensures .1 ∙ ap (λ (s : Stop). stopBuffer s (a .buf .now)) stops;
+      buffer = x .find .ensures .1 ∙ ap (λ (s : Stop). stopBuffer s (a .buf .now)) stops;
     })
 
 pub quiet-held-spec : {M : Type 1} → statement M
 quiet-held-spec =
     tie.close
     (tie.spec
-    scan-requires
+    find-requires
     enum-known-end
     add-next
     sub-hold

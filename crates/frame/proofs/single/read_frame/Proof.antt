@@ -18,53 +18,43 @@ found c =
     let a = c .before .before .before .before .before .before .args in
     c .before .before .before .judge .ensures ∙ ap (verdictOf (a .framing) (a .s .now)) (c .before .used .given .1)
 
--- src/single.rt:28:11
 judge-requires : tie.Need-judge-requires
 judge-requires c κs = search needs
 
--- src/single.rt:29:50
 enum-told : tie.Need-enum-told
 enum-told c = search needs
 
--- src/single.rt:30:24
 enum-known-refusal : tie.Need-enum-known-refusal
 enum-known-refusal c = search needs
 
--- src/single.rt:31:25
 enum-known-used : tie.Need-enum-known-used
 enum-known-used c = search needs
 
--- src/single.rt:33:17
 returns : tie.Need-returns
 returns c =
     let a = c .before .before .before .before .before .before .before .args in
     let p = payload-there (a .framing) (a .s .now) (c .before .before .used .given .0 .0) (c .before .before .used .given .0 .1 .0) (found (c .before)) in
     reads-short (a .framing) (a .s .now) (a .buf .now) (c .before .before .used .given .0 .0) (c .before .before .used .given .0 .1 .0) (payloadAt (a .framing) (a .s .now) (c .before .before .used .given .0 .1 .0)) (found (c .before)) (p .1) (c .if1 .taken)
 
--- src/single.rt:35:13
 unpack-requires : tie.Need-unpack-requires
 unpack-requires c κs =
     let a = c .before .before .before .before .before .before .before .before .args in
     (payload-packed (a .framing) (a .s .now) (c .before .before .before .used .given .0 .0) (c .before .before .before .used .given .0 .1 .0) (found (c .before .before)), c .before .if1 .left)
 
--- src/single.rt:25:1
 returns-2 : tie.Need-returns-2
 returns-2 c =
     let a = c .before .before .before .before .before .args in
     reads-cut (a .framing) (a .s .now) (a .buf .now) (c .before .before .judge .ensures ∙ ap (verdictOf (a .framing) (a .s .now)) (c .enum-told .given .1))
 
--- src/single.rt:25:1
 returns-3 : tie.Need-returns-3
 returns-3 c =
     let a = c .before .before .before .before .before .before .args in
     reads-refused (a .framing) (a .s .now) (a .buf .now) (c .before .refusal .given .0 .0) (c .before .refusal .given .0 .1 .0)
     (c .before .before .before .judge .ensures ∙ ap (verdictOf (a .framing) (a .s .now)) (c .before .refusal .given .1))
 
--- src/single.rt:25:1
 same-length : tie.Need-same-length
 same-length c = search needs
 
--- src/single.rt:25:1
 returns-4 : tie.Need-returns-4
 returns-4 c =
     let a = c .before .before .before .before .before .before .before .before .before .before .before .args in

@@ -10,38 +10,31 @@ use Rattle.frame.proofs.Singles.{writes-payload, writes-short, writes-f
 use Rattle.frame.proofs.single.write_frame.Statement.{statement}
 use Rattle.frame.proofs.single.write_frame.Tie as tie
 
--- src/single.rt:48:9
 returns : tie.Need-returns
 returns c =
     let a = c .before .before .before .args in
     writes-payload (a .framing) (a .payload .now) (a .buf .now) (inl (c .if1 .taken))
 
--- src/single.rt:51:9
 returns-2 : tie.Need-returns-2
 returns-2 c =
     let a = c .before .before .before .before .args in
     writes-payload (a .framing) (a .payload .now) (a .buf .now) (inr (c .if2 .taken))
 
--- src/single.rt:53:9
 frame-len-requires : tie.Need-frame-len-requires
 frame-len-requires c κs = search needs
 
--- src/single.rt:55:9
 returns-3 : tie.Need-returns-3
 returns-3 c =
     let a = c .before .before .before .before .before .before .args in
     writes-short (a .framing) (a .payload .now) (a .buf .now) (omega arith) (omega arith)
     (omega (arith, length-layout (a .framing) (a .payload .now), c .before .frame-len .ensures, c .if3 .taken))
 
--- src/single.rt:57:5
 pack-requires : tie.Need-pack-requires
 pack-requires c κs = search needs
 
--- src/single.rt:43:1
 same-length : tie.Need-same-length
 same-length c = search needs
 
--- src/single.rt:43:1
 returns-4 : tie.Need-returns-4
 returns-4 c =
     let a = c .before .before .before .before .before .before .before .before .before .before .args in

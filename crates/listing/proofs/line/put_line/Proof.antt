@@ -32,7 +32,7 @@ put-simple-requires : tie.Need-put-simple-requires
 put-simple-requires c κs =
     let s = c .before .before .before .before .before .before .before .before .before .before .before in
     let p = s .args .payload .now in
-    (s .pre .0, rw (delivery-by p _ _ (rw (c .before .before .delivery2 .given .1) at (rw (c .before .before .before .before .before .before .delivery .given .1) at (c .before .before .before .before .before .before .before .before .read-from-module .ensures)))) (s .pre .1))
+    rw (delivery-by p _ _ (rw (c .before .before .delivery2 .given .1) at (rw (c .before .before .before .before .before .before .delivery .given .1) at (c .before .before .before .before .before .before .before .before .read-from-module .ensures)))) (s .pre)
 
 enum-known-delivery-3 : tie.Need-enum-known-delivery-3
 enum-known-delivery-3 c = search needs
@@ -41,7 +41,7 @@ put-reception-requires : tie.Need-put-reception-requires
 put-reception-requires c κs =
     let s = c .before .before .before .before .before .before .before .before .before .before .before in
     let p = s .args .payload .now in
-    (s .pre .0, rw (delivery-by p _ _ (rw (c .before .before .delivery3 .given .1) at (rw (c .before .before .before .before .before .before .delivery .given .1) at (c .before .before .before .before .before .before .before .before .read-from-module .ensures)))) (s .pre .1))
+    rw (delivery-by p _ _ (rw (c .before .before .delivery3 .given .1) at (rw (c .before .before .before .before .before .before .delivery .given .1) at (c .before .before .before .before .before .before .before .before .read-from-module .ensures)))) (s .pre)
 
 enum-known-notice : tie.Need-enum-known-notice
 enum-known-notice c = search needs
@@ -52,7 +52,7 @@ enum-known-notice-2 c = search needs
 put-response-requires : tie.Need-put-response-requires
 put-response-requires c κs =
     let s = c .before .before .before .before .before .before .before .before .before .before in
-    (s .pre .0, rw (line-by (s .args .payload .now) (rw (c .before .before .notice2 .given .1) at (rw (c .before .before .before .before .before .notice .given .1) at (c .before .before .before .before .before .before .before .read-from-module .ensures)))) (s .pre .1))
+    rw (line-by (s .args .payload .now) (rw (c .before .before .notice2 .given .1) at (rw (c .before .before .before .before .before .notice .given .1) at (c .before .before .before .before .before .before .before .read-from-module .ensures)))) (s .pre)
 
 enum-known-notice-3 : tie.Need-enum-known-notice-3
 enum-known-notice-3 c = search needs
@@ -60,7 +60,7 @@ enum-known-notice-3 c = search needs
 put-standard-requires : tie.Need-put-standard-requires
 put-standard-requires c κs =
     let s = c .before .before .before .before .before .before .before .before .before .before in
-    (s .pre .0, rw (line-by (s .args .payload .now) (rw (c .before .before .notice3 .given .1) at (rw (c .before .before .before .before .before .notice .given .1) at (c .before .before .before .before .before .before .before .read-from-module .ensures)))) (s .pre .1))
+    rw (line-by (s .args .payload .now) (rw (c .before .before .notice3 .given .1) at (rw (c .before .before .before .before .before .notice .given .1) at (c .before .before .before .before .before .before .before .read-from-module .ensures)))) (s .pre)
 
 enum-known-notice-4 : tie.Need-enum-known-notice-4
 enum-known-notice-4 c = search needs
@@ -68,7 +68,7 @@ enum-known-notice-4 c = search needs
 put-remote-requires : tie.Need-put-remote-requires
 put-remote-requires c κs =
     let s = c .before .before .before .before .before .before .before .before .before .before in
-    (s .pre .0, rw (line-by (s .args .payload .now) (rw (c .before .before .notice4 .given .1) at (rw (c .before .before .before .before .before .notice .given .1) at (c .before .before .before .before .before .before .before .read-from-module .ensures)))) (s .pre .1))
+    rw (line-by (s .args .payload .now) (rw (c .before .before .notice4 .given .1) at (rw (c .before .before .before .before .before .notice .given .1) at (c .before .before .before .before .before .before .before .read-from-module .ensures)))) (s .pre)
 
 enum-known-refusal : tie.Need-enum-known-refusal
 enum-known-refusal c = search needs
@@ -76,7 +76,7 @@ enum-known-refusal c = search needs
 put-refusal-requires : tie.Need-put-refusal-requires
 put-refusal-requires c κs =
     let s = c .before .before .before .before .before .before .before in
-    rw (line-by (s .args .payload .now) (rw (c .before .before .refusal .given .1) at (c .before .before .before .before .read-from-module .ensures))) (s .pre .1)
+    rw (line-by (s .args .payload .now) (rw (c .before .before .refusal .given .1) at (c .before .before .before .before .read-from-module .ensures))) (s .pre)
 
 same-length : tie.Need-same-length
 same-length c = search needs

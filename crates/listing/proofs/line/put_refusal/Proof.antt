@@ -1,6 +1,5 @@
 -- `listing::line::put_refusal` meets its contract: the word, then the number.
 -- Assumes nothing.
-use native.Mathlib.Omega.{arith}
 use borrow.Author.Needs.{needs}
 use Rattle.message.specs.Examples.{text}
 use Rattle.message.specs.Refusal.{numberOf}

@@ -1,6 +1,5 @@
 -- `listing::line::put_response` meets its contract: the word and the identifier, then how it came out.
 -- Assumes nothing.
-use native.Mathlib.Omega.{arith}
 use mathlib.Core.Path.{refl}
 use borrow.Author.Needs.{needs}
 use Rattle.listing.proofs.Texts.{going, going-room, going-part, going-next, going-last}
@@ -17,7 +16,7 @@ slice-aggregate-put-row-2 c = search needs
 put-row-requires : tie.Need-put-row-requires
 put-row-requires c κs =
     let s = c .before .before .before .before in
-    (s .pre .0, going-part (responseRow (s .args .response)) _ (s .pre .1) (going (s .args .out .now) (s .args .at) (response-parts (s .args .response) refl)))
+    going-part (responseRow (s .args .response)) _ (s .pre) (going (s .args .out .now) (s .args .at) (response-parts (s .args .response) refl))
 
 enum-told : tie.Need-enum-told
 enum-told c = search needs
@@ -28,7 +27,7 @@ slice-aggregate-put-text c = search needs
 put-text-requires : tie.Need-put-text-requires
 put-text-requires c κs =
     let s = c .before .before .before .before .before .before .before .before .before .before .before in
-    going-room (s .pre .1) (going-next (s .pre .1) (going (s .args .out .now) (s .args .at) (response-parts (s .args .response) (c .before .before .enum-told .given .1))) (c .before .before .before .before .before .before .put-row .ensures))
+    going-room (s .pre) (going-next (s .pre) (going (s .args .out .now) (s .args .at) (response-parts (s .args .response) (c .before .before .enum-told .given .1))) (c .before .before .before .before .before .before .put-row .ensures))
 
 enum-told-2 : tie.Need-enum-told-2
 enum-told-2 c = search needs
@@ -39,7 +38,7 @@ slice-aggregate-put-text-2 c = search needs
 put-text-requires-2 : tie.Need-put-text-requires-2
 put-text-requires-2 c κs =
     let s = c .before .before .before .before .before .before .before .before .before .before .before in
-    going-room (s .pre .1) (going-next (s .pre .1) (going (s .args .out .now) (s .args .at) (response-parts (s .args .response) (c .before .before .enum-told2 .given .1))) (c .before .before .before .before .before .before .put-row .ensures))
+    going-room (s .pre) (going-next (s .pre) (going (s .args .out .now) (s .args .at) (response-parts (s .args .response) (c .before .before .enum-told2 .given .1))) (c .before .before .before .before .before .before .put-row .ensures))
 
 same-length : tie.Need-same-length
 same-length c = search needs
@@ -49,7 +48,7 @@ returns c =
     let s = c .before .before .before .before .before .before .before .before .before .before .before .before .before .before in
     let parts = response-parts (s .args .response) (c .before .before .before .before .before .enum-told .given .1) in
     let row = c .before .before .before .before .before .before .before .before .before .put-row in
-    going-last (s .pre .1) (going-next (s .pre .1) (going (s .args .out .now) (s .args .at) parts) (row .ensures)) (c .before .before .put-text .ensures)
+    going-last (s .pre) (going-next (s .pre) (going (s .args .out .now) (s .args .at) parts) (row .ensures)) (c .before .before .put-text .ensures)
 
 same-length-2 : tie.Need-same-length-2
 same-length-2 c = search needs
@@ -59,7 +58,7 @@ returns-2 c =
     let s = c .before .before .before .before .before .before .before .before .before .before .before .before .before .before in
     let parts = response-parts (s .args .response) (c .before .before .before .before .before .enum-told2 .given .1) in
     let row = c .before .before .before .before .before .before .before .before .before .put-row in
-    going-last (s .pre .1) (going-next (s .pre .1) (going (s .args .out .now) (s .args .at) parts) (row .ensures)) (c .before .before .put-text2 .ensures)
+    going-last (s .pre) (going-next (s .pre) (going (s .args .out .now) (s .args .at) parts) (row .ensures)) (c .before .before .put-text2 .ensures)
 
 pub put-response-spec : {M : Type 1} → statement M
 put-response-spec =

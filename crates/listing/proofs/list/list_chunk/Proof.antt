@@ -1,224 +1,131 @@
--- `listing::list::list_chunk` meets its contract. The invariant: whatever state the first answer came from, this one is an answer of calls over the chunk
--- from it, and the lines before it are put. The measure is the count of frames that are left.
+-- `listing::list::list_chunk` meets its contract: the refusals in their order, then the frames while bytes are held, and then the others.
 -- Assumes nothing.
-use Prim.Native.Nat.{ℕ}
-use native.Mathlib.Omega.{arith}
-use mathlib.Core.Path.{_≡_, refl, sym, _∙_}
-use mathlib.Core.List.{List}
+use mathlib.Core.Bool.{true}
+use mathlib.Core.Path.{_≡_, sym, ap, _∙_, subst}
+use borrow.Author.Tests.{not-true, not-false}
+use lib.ListN.{length, drop}
+use Rattle.frame.specs.Draining.{drain}
+use Rattle.frame.specs.Reader.{State, stateOf, Holds, sound}
+use Rattle.listing.specs.Listing.{valuesOf, chunkRefusal}
+use Rattle.frame.specs.View.{viewed}
+use Rattle.frame.specs.declared.refusal.Refusal.the-variants.{State as BadState, Buffer, Chunk}
+use Rattle.listing.specs.Parts.{Midway, Room}
+use Rattle.listing.proofs.Chunks.{sound-count, chunk-room, refused-lists, rest-lists, midway-room, midway-lists, none-viewed, none-inside}
+use Rattle.listing.proofs.Chunks.{chunk-state, chunk-buffer, chunk-long, chunk-free}
 use borrow.Author.Needs.{needs}
-use lib.ListN.{length, replicate}
-use Rattle.io.proofs.Counting.{front}
-use Rattle.frame.specs.Reader.{Feeds}
-use Rattle.frame.specs.declared.reader.Reader.{Reader}
-use Rattle.listing.proofs.Fits.{rest-is}
-use Rattle.listing.proofs.Chunks.{Feeding, feeding, frame-inside, frame-room, frame-taken, frame-noise, frame-step, clean-room, clean-step, fed-again}
-use Rattle.listing.proofs.Chunks.{more-noise, feeding-done, feeding-refused, leftAt, left-less, chunk-refused}
 use Rattle.listing.proofs.list.list_chunk.Statement.{statement}
 use Rattle.listing.proofs.list.list_chunk.Tie as tie
 
-abbrev Inv-loop : tie.InvT-loop
-Inv-loop chunk out₀ table buf₀ fed₀ spot₀ out buf fed spot =
-    (length buf ≡ 256) × (length out ≡ length out₀)
-    × ((reader : Reader) (old : List ℕ) → length old ≡ 256 → Feeds reader chunk old fed₀ buf₀ →
-    Feeding reader chunk out₀ fed (spot .done) (spot .end) (spot .noise) buf out)
+-- The state is sound.
+yes : (c : tie.Else1) → sound (c .before .before .before .before .args .reader) ≡ true
+yes c = sym (c .before .is-sound .ensures) ∙ not-false _ (c .if1 .left)
 
-abbrev μ-loop : tie.MeasureT-loop
-μ-loop chunk out₀ table buf₀ fed₀ spot₀ out buf fed spot = leftAt (fed .answer) (fed .reader) chunk (spot .done)
+-- There is room for all lines, and the call is not refused.
+fits : (c : tie.Else3) → Room (drain (stateOf (c .before .before .before .before .before .before .args .reader)) (c .before .before .before .before .before .before .args .chunk .now)) 0 0 (c .before .before .before .before .before .before .args .out .now)
+fits c = chunk-room (c .before .before .before .before .before .before .args .reader) (c .before .before .before .before .before .before .args .chunk .now) (c .before .before .before .before .before .before .args .out .now) (sound-count (c .before .before .before .before .before .before .args .reader) (yes (c .before .before))) (c .if3 .left) (c .before .if2 .left)
 
-refused-requires : tie.Need-refused-requires Inv-loop μ-loop
+free : (c : tie.Else3) → chunkRefusal (c .before .before .before .before .before .before .args .reader) (length (c .before .before .before .before .before .before .args .out .now)) (length (c .before .before .before .before .before .before .args .chunk .now)) ≡ 0
+free c = chunk-free (c .before .before .before .before .before .before .args .reader) (length (c .before .before .before .before .before .before .args .out .now)) (length (c .before .before .before .before .before .before .args .chunk .now)) (yes (c .before .before)) (c .before .if2 .left) (c .if3 .left)
+
+-- Nothing is held, and the calls go on with a view.
+some : (c : tie.Else4) →
+    let a = c .before .before .before .before .before .before .before .before .before .before .before .before .args in
+    let p = c .before .before .before .before .list-held .result in
+    Midway (drain (stateOf (a .reader)) (a .chunk .now)) (viewed (record { framing = p .reader .framing; from = p .done; end = p .done }) (a .chunk .now))
+    (drop (p .done) (a .chunk .now)) (a .out .now) 0 0 (p .end) (p .noise) (c .before .before .before .before .list-held .last .1 .1 .0)
+some c =
+    let a = c .before .before .before .before .before .before .before .before .before .before .before .before .args in
+    let p = c .before .before .before .before .list-held .result in
+    let h = c .before .before .before .before .list-held .ensures .some (c .if4 .left) in
+    subst
+    (λ (s : State). Midway (drain (stateOf (a .reader)) (a .chunk .now)) s (drop (p .done) (a .chunk .now)) (a .out .now) 0 0 (p .end) (p .noise)
+    (c .before .before .before .before .list-held .last .1 .1 .0))
+    (sym (none-viewed (p .reader) (a .chunk .now) (p .done) (h .0))) (h .1)
+
+is-sound-requires : tie.Need-is-sound-requires
+is-sound-requires c κs = search needs
+
+refused-requires : tie.Need-refused-requires
 refused-requires c κs = search needs
 
-returns : tie.Need-returns Inv-loop μ-loop
-returns c = chunk-refused _ _ _ _ (c .before .if1 .taken) (c .refused .ensures .0) (c .refused .ensures .1)
+returns : tie.Need-returns
+returns c =
+    let a = c .before .before .before .before .before .args in
+    refused-lists (drain (stateOf (a .reader)) (a .chunk .now) .out) (a .reader) (a .out .now) (c .refused .result) BadState
+    (chunk-state (a .reader) (length (a .out .now)) (length (a .chunk .now)) (sym (c .before .before .is-sound .ensures) ∙ not-true _ (c .before .if1 .taken)))
+    (c .refused .ensures .0) (c .refused .ensures .1)
 
-pairs-requires : tie.Need-pairs-requires Inv-loop μ-loop
-pairs-requires c κs = search needs
-
-slice-aggregate-feed : tie.Need-slice-aggregate-feed Inv-loop μ-loop
-slice-aggregate-feed c = search needs
-
-feed-requires : tie.Need-feed-requires Inv-loop μ-loop
-feed-requires c κs = search needs
-
-spot-at-requires : tie.Need-spot-at-requires Inv-loop μ-loop
-spot-at-requires c κs = search needs
-
-loop-holds : tie.Need-loop-holds Inv-loop μ-loop
-loop-holds c = (c .before .before .feed .kept .1 .1 .0, refl, λ reader old full feeds. rw (c .spot-at .ensures) (feeding reader _ old _ _ _ feeds full))
-
-enum-known-answer : tie.Need-enum-known-answer Inv-loop μ-loop
-enum-known-answer c = search needs
-
-slice-aggregate-whole : tie.Need-slice-aggregate-whole Inv-loop μ-loop
-slice-aggregate-whole c = sym (c .before .before .before .before .loop .inv .0)
-
-slice-aggregate-put-line : tie.Need-slice-aggregate-put-line Inv-loop μ-loop
-slice-aggregate-put-line c =
-    let s = c .before .before .before .before .before .before .before .before .before .before .before .before .before .before .before in
-    let l = c .before .before .before .before .before .before .loop in
-    let g = l .inv .2 (s .args .reader) (replicate 256 0) refl (c .before .before .before .before .before .before .before .before .before .feed .ensures) in
-    front _ (l .buf) (frame-inside g (c .before .before .before .before .answer .given .1))
-
-put-line-requires : tie.Need-put-line-requires Inv-loop μ-loop
-put-line-requires c κs =
-    let s = c .before .before .before .before .before .before .before .before .before .before .before .before .before .before .before .before in
-    let l = c .before .before .before .before .before .before .before .loop in
-    let g = l .inv .2 (s .args .reader) (replicate 256 0) refl (c .before .before .before .before .before .before .before .before .before .before .feed .ensures) in
-    (c .before .before .before .before .before .before .before .before .before .before .before .before .pairs .ensures, frame-room g (c .before .before .before .before .before .answer .given .1) (c .before .before .before .before .before .before .before .before .before .before .before .before .before .if1 .left))
-
-add-spot-at : tie.Need-add-spot-at Inv-loop μ-loop
-add-spot-at c =
-    let s = c .before .before .before .before .before .before .before .before .before .before .before .before .before .before .before .before .before .before .before .before in
-    let l = c .before .before .before .before .before .before .before .before .before .before .before .loop in
-    let g = l .inv .2 (s .args .reader) (replicate 256 0) refl (c .before .before .before .before .before .before .before .before .before .before .before .before .before .before .feed .ensures) in
-    omega (arith, frame-taken g (c .before .before .before .before .before .before .before .before .before .answer .given .1))
-
-add-spot-at-2 : tie.Need-add-spot-at-2 Inv-loop μ-loop
-add-spot-at-2 c =
-    let s = c .before .before .before .before .before .before .before .before .before .before .before .before .before .before .before .before .before .before .before .before .before in
-    let l = c .before .before .before .before .before .before .before .before .before .before .before .before .loop in
-    let g = l .inv .2 (s .args .reader) (replicate 256 0) refl (c .before .before .before .before .before .before .before .before .before .before .before .before .before .before .before .feed .ensures) in
-    omega (arith, frame-noise g (c .before .before .before .before .before .before .before .before .before .before .answer .given .1) (c .before .before .before .before .before .before .before .before .before .before .before .before .before .before .before .before .before .before .if1 .left))
-
-spot-at-requires-2 : tie.Need-spot-at-requires-2 Inv-loop μ-loop
-spot-at-requires-2 c κs = search needs
-
-list-clean-requires : tie.Need-list-clean-requires Inv-loop μ-loop
-list-clean-requires c κs =
-    let s = c .before .before .before .before .before .before .before .before .before .before .before .before .before .before .before .before .before .before .before .before .before .before .before .before .before in
-    let l = c .before .before .before .before .before .before .before .before .before .before .before .before .before .before .before .before .loop in
-    let g = l .inv .2 (s .args .reader) (replicate 256 0) refl (c .before .before .before .before .before .before .before .before .before .before .before .before .before .before .before .before .before .before .before .feed .ensures) in
-    let m = frame-step g (c .before .before .before .before .before .before .before .before .before .before .before .before .before .before .answer .given .1) (c .before .before .before .before .before .before .before .before .before .before .before .before .before .before .before .before .before .before .before .before .before .before .if1 .left) (c .before .before .before .before .before .before .before .before .put-line .ensures) in
-    (c .before .before .before .before .before .before .before .before .before .before .before .before .before .before .before .before .before .before .before .before .before .pairs .ensures, rw (c .before .before .before .spot-at2 .ensures) (clean-room m))
-
-sub-feed : tie.Need-sub-feed Inv-loop μ-loop
-sub-feed c =
-    let s = c .before .before .before .before .before .before .before .before .before .before .before .before .before .before .before .before .before .before .before .before .before .before .before .before .before .before .before .before in
-    let l = c .before .before .before .before .before .before .before .before .before .before .before .before .before .before .before .before .before .before .before .loop in
-    let g = l .inv .2 (s .args .reader) (replicate 256 0) refl (c .before .before .before .before .before .before .before .before .before .before .before .before .before .before .before .before .before .before .before .before .before .before .feed .ensures) in
-    let m = frame-step g (c .before .before .before .before .before .before .before .before .before .before .before .before .before .before .before .before .before .answer .given .1) (c .before .before .before .before .before .before .before .before .before .before .before .before .before .before .before .before .before .before .before .before .before .before .before .before .before .if1 .left) (c .before .before .before .before .before .before .before .before .before .before .before .put-line .ensures) in
-    let k = clean-step m (rw (c .before .before .before .before .before .before .spot-at2 .ensures) at (c .before .before .list-clean .ensures)) in
-    omega (arith, k .0 .inside)
-
-part-feed-start : tie.Need-part-feed-start Inv-loop μ-loop
-part-feed-start c =
-    let s = c .before .before .before .before .before .before .before .before .before .before .before .before .before .before .before .before .before .before .before .before .before .before .before .before .before .before .before .before in
-    let l = c .before .before .before .before .before .before .before .before .before .before .before .before .before .before .before .before .before .before .before .loop in
-    let g = l .inv .2 (s .args .reader) (replicate 256 0) refl (c .before .before .before .before .before .before .before .before .before .before .before .before .before .before .before .before .before .before .before .before .before .before .feed .ensures) in
-    let m = frame-step g (c .before .before .before .before .before .before .before .before .before .before .before .before .before .before .before .before .before .answer .given .1) (c .before .before .before .before .before .before .before .before .before .before .before .before .before .before .before .before .before .before .before .before .before .before .before .before .before .if1 .left) (c .before .before .before .before .before .before .before .before .before .before .before .put-line .ensures) in
-    let k = clean-step m (rw (c .before .before .before .before .before .before .spot-at2 .ensures) at (c .before .before .list-clean .ensures)) in
-    omega (arith, k .0 .inside)
-
-part-feed-end : tie.Need-part-feed-end Inv-loop μ-loop
-part-feed-end c = search needs
-
-slice-aggregate-feed-2 : tie.Need-slice-aggregate-feed-2 Inv-loop μ-loop
-slice-aggregate-feed-2 c = sym (c .before .before .before .before .before .before .before .before .before .before .before .before .before .before .before .before .before .before .before .before .before .loop .inv .0)
-
-feed-requires-2 : tie.Need-feed-requires-2 Inv-loop μ-loop
-feed-requires-2 c κs = search needs
-
-loop-less : tie.Need-loop-less Inv-loop μ-loop
-loop-less c =
-    let s = c .before .before .before .before .before .before .before .before .before .before .before .before .before .before .before .before .before .before .before .before .before .before .before .before .before .before .before .before .before .before .before .before in
-    let l = c .before .before .before .before .before .before .before .before .before .before .before .before .before .before .before .before .before .before .before .before .before .before .before .loop in
-    let g = l .inv .2 (s .args .reader) (replicate 256 0) refl (c .before .before .before .before .before .before .before .before .before .before .before .before .before .before .before .before .before .before .before .before .before .before .before .before .before .before .feed .ensures) in
-    let m = frame-step g (c .before .before .before .before .before .before .before .before .before .before .before .before .before .before .before .before .before .before .before .before .before .answer .given .1) (c .before .before .before .before .before .before .before .before .before .before .before .before .before .before .before .before .before .before .before .before .before .before .before .before .before .before .before .before .before .if1 .left) (c .before .before .before .before .before .before .before .before .before .before .before .before .before .before .before .put-line .ensures) in
-    let k = clean-step m (rw (c .before .before .before .before .before .before .before .before .before .before .spot-at2 .ensures) at (c .before .before .before .before .before .before .list-clean .ensures)) in
-    let rest = rest-is (s .args .chunk .now) _ (k .0 .inside) in
-    left-less (s .args .chunk .now) _ _ (l .fed) (c .before .feed2 .result) (l .spot .done) (c .before .before .before .before .before .before .list-clean .result .done) (c .before .before .before .before .before .before .before .before .before .before .before .before .before .before .before .before .before .before .before .before .before .answer .given .1)
-    (rw rest at (c .before .feed2 .ensures)) (k .1)
-
-loop-again : tie.Need-loop-again Inv-loop μ-loop
-loop-again c =
-    let s = c .before .before .before .before .before .before .before .before .before .before .before .before .before .before .before .before .before .before .before .before .before .before .before .before .before .before .before .before .before .before .before .before in
-    let l = c .before .before .before .before .before .before .before .before .before .before .before .before .before .before .before .before .before .before .before .before .before .before .before .loop in
-    let g = l .inv .2 (s .args .reader) (replicate 256 0) refl (c .before .before .before .before .before .before .before .before .before .before .before .before .before .before .before .before .before .before .before .before .before .before .before .before .before .before .feed .ensures) in
-    let m = frame-step g (c .before .before .before .before .before .before .before .before .before .before .before .before .before .before .before .before .before .before .before .before .before .answer .given .1) (c .before .before .before .before .before .before .before .before .before .before .before .before .before .before .before .before .before .before .before .before .before .before .before .before .before .before .before .before .before .if1 .left) (c .before .before .before .before .before .before .before .before .before .before .before .before .before .before .before .put-line .ensures) in
-    let k = clean-step m (rw (c .before .before .before .before .before .before .before .before .before .before .spot-at2 .ensures) at (c .before .before .before .before .before .before .list-clean .ensures)) in
-    let rest = rest-is (s .args .chunk .now) _ (k .0 .inside) in (
-      c .before .feed2 .kept .1 .1 .0 ∙ l .inv .0,
-      c .before .before .before .before .before .before .list-clean .kept .1 .1 .1 .1 .1 .0 ∙ c .before .before .before .before .before .before .before .before .before .before .before .before .before .before .before .put-line .kept .1 .1 .0 ∙ l .inv .1,
-      λ reader old full feeds.
-          fed-again
-          (clean-step (frame-step (l .inv .2 reader old full feeds) (c .before .before .before .before .before .before .before .before .before .before .before .before .before .before .before .before .before .before .before .before .before .answer .given .1) (c .before .before .before .before .before .before .before .before .before .before .before .before .before .before .before .before .before .before .before .before .before .before .before .before .before .before .before .before .before .if1 .left) (c .before .before .before .before .before .before .before .before .before .before .before .before .before .before .before .put-line .ensures))
-          (rw (c .before .before .before .before .before .before .before .before .before .before .spot-at2 .ensures) at (c .before .before .before .before .before .before .list-clean .ensures)) .0)
-          (rw rest at (c .before .feed2 .ensures)) (l .inv .0),
-    )
-
-enum-known-answer-2 : tie.Need-enum-known-answer-2 Inv-loop μ-loop
-enum-known-answer-2 c = search needs
-
-add-lines : tie.Need-add-lines Inv-loop μ-loop
-add-lines c =
-    let s = c .before .before .before .before .before .before .before .before .before .before .before .before .before .before in
-    let l = c .before .before .before .before .before .loop in
-    let g = l .inv .2 (s .args .reader) (replicate 256 0) refl (c .before .before .before .before .before .before .before .before .feed .ensures) in
-    omega (arith, more-noise g (c .before .before .before .answer2 .given .1))
-
-lines-requires : tie.Need-lines-requires Inv-loop μ-loop
-lines-requires c κs = search needs
-
-same-length : tie.Need-same-length Inv-loop μ-loop
-same-length c = c .before .before .before .before .before .before .loop .inv .1
-
-returns-2 : tie.Need-returns-2 Inv-loop μ-loop
-returns-2 c =
-    let s = c .before .before .before .before .before .before .before .before .before .before .before .before .before .before .before in
-    let l = c .before .before .before .before .before .before .loop in
-    let g = l .inv .2 (s .args .reader) (replicate 256 0) refl (c .before .before .before .before .before .before .before .before .before .feed .ensures) in
-    feeding-done g (c .before .before .before .before .answer2 .given .1) (c .before .before .before .before .before .before .before .before .before .before .before .before .if1 .left) _ (c .lines .ensures .0) (c .lines .ensures .1)
-
-enum-known-answer-3 : tie.Need-enum-known-answer-3 Inv-loop μ-loop
-enum-known-answer-3 c = search needs
-
-refused-requires-2 : tie.Need-refused-requires-2 Inv-loop μ-loop
+refused-requires-2 : tie.Need-refused-requires-2
 refused-requires-2 c κs = search needs
 
-same-length-2 : tie.Need-same-length-2 Inv-loop μ-loop
-same-length-2 c = c .before .before .before .before .before .loop .inv .1
+returns-2 : tie.Need-returns-2
+returns-2 c =
+    let a = c .before .before .before .before .before .before .args in
+    refused-lists (drain (stateOf (a .reader)) (a .chunk .now) .out) (a .reader) (a .out .now) (c .refused2 .result) Buffer
+    (chunk-buffer (a .reader) (length (a .out .now)) (length (a .chunk .now)) (yes (c .before .before)) (c .before .if2 .taken)) (c .refused2 .ensures .0) (c .refused2 .ensures .1)
 
-returns-3 : tie.Need-returns-3 Inv-loop μ-loop
+refused-requires-3 : tie.Need-refused-requires-3
+refused-requires-3 c κs = search needs
+
+returns-3 : tie.Need-returns-3
 returns-3 c =
-    let s = c .before .before .before .before .before .before .before .before .before .before .before .before .before .before in
-    let l = c .before .before .before .before .before .loop in
-    let g = l .inv .2 (s .args .reader) (replicate 256 0) refl (c .before .before .before .before .before .before .before .before .feed .ensures) in
-    feeding-refused g (c .before .before .before .answer3 .given .1) (c .before .before .before .before .before .before .before .before .before .before .before .if1 .left) _ (c .refused2 .ensures .0) (c .refused2 .ensures .1)
+    let a = c .before .before .before .before .before .before .before .args in
+    refused-lists (drain (stateOf (a .reader)) (a .chunk .now) .out) (a .reader) (a .out .now) (c .refused3 .result) Chunk
+    (chunk-long (a .reader) (length (a .out .now)) (length (a .chunk .now)) (yes (c .before .before .before)) (c .before .before .if2 .left) (c .before .if3 .taken))
+    (c .refused3 .ensures .0) (c .refused3 .ensures .1)
+
+list-held-requires : tie.Need-list-held-requires
+list-held-requires c κs =
+    let a = c .before .before .before .before .before .before .before .args in
+    record { within = sound-count (a .reader) (yes (c .before .before .before)); small = c .before .if3 .left; fits = fits (c .before) }
+
+lines-requires : tie.Need-lines-requires
+lines-requires c κs = search needs
+
+same-length : tie.Need-same-length
+same-length c = search needs
+
+returns-4 : tie.Need-returns-4
+returns-4 c =
+    let a = c .before .before .before .before .before .before .before .before .before .before .before .before .before .args in
+    let h = c .before .before .before .before .before .list-held .ensures .all (c .before .if4 .taken) in
+    rest-lists {s = stateOf (a .reader)} (drain (stateOf (a .reader)) (a .chunk .now)) (a .reader) (a .out .now) (c .lines .result) _ (free (c .before .before .before .before .before .before .before))
+    (record { values = ap valuesOf (c .lines .ensures .1) ∙ h .values; state = subst (Holds _) (sym (c .lines .ensures .0)) (h .state); puts = h .puts })
+
+list-view-requires : tie.Need-list-view-requires
+list-view-requires c κs =
+    let x = c .before .before .before .before .before in
+    let m = some (c .before) in
+    record {
+      lies = none-inside (x .list-held .result .reader) (c .before .before .before .before .before .before .before .before .before .before .before .before .before .args .chunk .now) (x .list-held .result .done) (x .list-held .ensures .inside);
+      small = c .before .before .before .before .before .before .before .if3 .left;
+      fits = midway-room m (fits (c .before .before .before .before .before .before .before));
+    }
+
+same-length-2 : tie.Need-same-length-2
+same-length-2 c = search needs
+
+returns-5 : tie.Need-returns-5
+returns-5 c =
+    let a = c .before .before .before .before .before .before .before .before .before .before .before .before .before .before .before .before .args in
+    rest-lists (drain (stateOf (a .reader)) (a .chunk .now)) (a .reader) (a .out .now) (c .before .before .list-view .result) _ (free (c .before .before .before .before .before .before .before .before .before .before))
+    (midway-lists (stateOf (a .reader)) (c .before .before .list-view .result) _ (some (c .before .before .before .before)) (fits (c .before .before .before .before .before .before .before .before .before .before)) (c .before .before .before .before .before .before .before .before .list-held .ensures .framing) (c .before .before .list-view .ensures))
 
 pub list-chunk-spec : {M : Type 1} → statement M
 list-chunk-spec =
     tie.close
     (tie.spec
-    Inv-loop
-    μ-loop
+    is-sound-requires
     refused-requires
     returns
-    pairs-requires
-    slice-aggregate-feed
-    feed-requires
-    spot-at-requires
-    loop-holds
-    enum-known-answer
-    slice-aggregate-whole
-    slice-aggregate-put-line
-    put-line-requires
-    add-spot-at
-    add-spot-at-2
-    spot-at-requires-2
-    list-clean-requires
-    sub-feed
-    part-feed-start
-    part-feed-end
-    slice-aggregate-feed-2
-    feed-requires-2
-    loop-less
-    loop-again
-    enum-known-answer-2
-    add-lines
+    refused-requires-2
+    returns-2
+    refused-requires-3
+    returns-3
+    list-held-requires
     lines-requires
     same-length
-    returns-2
-    enum-known-answer-3
-    refused-requires-2
+    returns-4
+    list-view-requires
     same-length-2
-    returns-3)
+    returns-5)

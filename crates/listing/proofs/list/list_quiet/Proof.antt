@@ -1,93 +1,149 @@
--- `listing::list::list_quiet` meets its contract. The invariant: whatever state the first answer came from, this one is an answer of calls from it, and the
--- lines before it are put. The measure is the count of frames that are left.
+-- `listing::list::list_quiet` meets its contract: what is put so far, and what the calls from the present state on give, is all.
 -- Assumes nothing.
-use Prim.Native.Nat.{ℕ}
+use Prim.Native.Nat.{ℕ, _+_, _≤_, _<_}
 use native.Mathlib.Omega.{arith}
-use mathlib.Core.Path.{_≡_, refl, sym, _∙_}
-use mathlib.Core.List.{List}
+use mathlib.Core.Bool.{true}
+use mathlib.Core.Path.{_≡_, refl, sym, ap, _∙_}
+use mathlib.Core.List.{List, []}
 use borrow.Author.Needs.{needs}
-use lib.ListN.{length, replicate}
+use borrow.Author.Tests.{not-true, not-false}
+use lib.ListN.{length, take}
 use Rattle.io.proofs.Counting.{front}
-use Rattle.frame.specs.Reader.{Quiets}
-use Rattle.frame.specs.declared.reader.Reader.{Reader}
-use Rattle.listing.proofs.Chunks.{Quieting, quieting, quiet-inside, quiet-line-room, quiet-frame-noise, quiet-within, quieting-next}
-use Rattle.listing.proofs.Chunks.{empty-noise, quieting-done, quieting-refused, leftIn, quiet-less, end-refused}
+use Rattle.frame.specs.Draining.{ruleAfter, Says}
+use Rattle.frame.specs.Framing.{limit}
+use Rattle.frame.specs.Rule.{Output, join}
+use Rattle.frame.specs.Reader.{stateOf, quiet, AfterQuiet, newReader, sound, frameValues, noFrameValues, quietValuesOf, quietRefusal}
+use Rattle.frame.specs.declared.refusal.Refusal.the-variants.{State, Buffer}
+use Rattle.frame.proofs.Theorems.{quiet-tells, quiet-stays-in-limit}
+use Rattle.listing.specs.Line.{linesOf}
+use Rattle.listing.specs.Parts.{Progress}
+use Rattle.listing.proofs.Chunks.{one, sound-count, quiet-room, progress, progress-room, progress-frame, progress-noise, says-frame, says-none, says-inside}
+use Rattle.listing.proofs.Chunks.{says-next, says-refused, quiet-free, quiet-next, quiet-end, quiet-lists, refused-lists, end-state, end-buffer}
 use Rattle.listing.proofs.list.list_quiet.Statement.{statement}
 use Rattle.listing.proofs.list.list_quiet.Tie as tie
 
 abbrev Inv-loop : tie.InvT-loop
-Inv-loop out₀ table buf₀ quieted₀ end₀ total₀ out buf quieted end total =
-    (length buf ≡ 256) × (length out ≡ length out₀)
-    × ((reader : Reader) (old : List ℕ) → length old ≡ 256 → Quiets reader old quieted₀ buf₀ → Quieting reader out₀ quieted end total buf out)
+Inv-loop out₀ buf₀ state₀ end₀ total₀ out buf state end total =
+    (length buf ≡ 256) × (state .count ≤ limit (state .framing)) × (state .framing ≡ state₀ .framing)
+    × Progress (ruleAfter (stateOf state₀) []) (ruleAfter (stateOf state) []) out₀ 0 0 end total out
 
 abbrev μ-loop : tie.MeasureT-loop
-μ-loop out₀ table buf₀ quieted₀ end₀ total₀ out buf quieted end total = leftIn (quieted .answer) (quieted .reader)
+μ-loop out₀ buf₀ state₀ end₀ total₀ out buf state end total = length (ruleAfter (stateOf state) [] .frames)
+
+-- The state is sound.
+yes : (c : tie.Else1 Inv-loop μ-loop) → sound (c .before .before .before .args .reader) ≡ true
+yes c = sym (c .before .is-sound .ensures) ∙ not-false _ (c .if1 .left)
+
+-- What the answer of a call says, that it is not refused, and that the buffer keeps its length.
+says : (q : tie.After-quiet Inv-loop μ-loop) →
+    let r = q .before .before .loop .state in
+    Says (quietRefusal r (length (q .before .before .loop .buf))) (quiet (stateOf r)) (AfterQuiet (stateOf r) (quiet (stateOf r)) (quiet (stateOf r) .out .frames)) r
+    (q .before .before .loop .buf) (quietValuesOf (q .quiet .result .answer)) (q .quiet .result .reader) (q .quiet .last .1 .0)
+says q = quiet-tells (q .before .before .loop .state) (q .before .before .loop .buf) (q .quiet .result) _ (q .quiet .ensures)
+
+free : (q : tie.After-quiet Inv-loop μ-loop) → quietRefusal (q .before .before .loop .state) (length (q .before .before .loop .buf)) ≡ 0
+free q = quiet-free (q .before .before .loop .state) (q .before .before .loop .buf) (q .before .before .loop .inv .1) (q .before .before .loop .inv .0)
+
+still : (q : tie.After-quiet Inv-loop μ-loop) → length (q .quiet .last .1 .0) ≡ 256
+still q = q .quiet .kept .1 .0 ∙ q .before .before .loop .inv .0
+
+limits : (q : tie.After-quiet Inv-loop μ-loop) →
+    (q .quiet .result .reader .framing ≡ q .before .before .loop .state .framing) × (q .quiet .result .reader .count ≤ limit (q .before .before .loop .state .framing))
+limits q = quiet-stays-in-limit (q .before .before .loop .state) (q .before .before .loop .buf) (q .quiet .result) _ (q .quiet .ensures) (q .before .before .loop .inv .1)
+
+-- There is room for all lines, and little noise.
+room : (q : tie.After-quiet Inv-loop μ-loop) →
+    (0 + length (linesOf (ruleAfter (stateOf (q .before .before .before .before .before .before .before .args .reader)) [] .frames)) ≤ length (q .before .before .before .before .before .before .before .args .out .now))
+    × (ruleAfter (stateOf (q .before .before .before .before .before .before .before .args .reader)) [] .noise ≤ 517)
+room q = quiet-room (q .before .before .before .before .before .before .before .args .reader) (q .before .before .before .before .before .before .before .args .out .now) (sound-count (q .before .before .before .before .before .before .before .args .reader) (yes (q .before .before .before .before))) (q .before .before .before .if2 .left)
+
+-- With a frame: what is left begins with it.
+frame-left : (q : tie.After-quiet Inv-loop μ-loop) {taken more len : ℕ} → quietValuesOf (q .quiet .result .answer) ≡ frameValues taken more len →
+    ruleAfter (stateOf (q .before .before .loop .state)) [] ≡ join (one (take len (q .quiet .last .1 .0)) more) (ruleAfter (stateOf (q .quiet .result .reader)) [])
+frame-left q e = quiet-next (q .before .before .loop .state) (q .quiet .result .reader) (says-next _ (says q) (free q)) _ _ (says-frame _ (says q) (free q) e)
+
+frame-few : (q : tie.After-quiet Inv-loop μ-loop) {taken more len : ℕ} → quietValuesOf (q .quiet .result .answer) ≡ frameValues taken more len →
+    q .before .before .loop .total + more ≤ 517
+unfolding join
+frame-few q {more = more} e =
+    let l : more ≤ ruleAfter (stateOf (q .before .before .loop .state)) [] .noise = omega (arith, ap (λ (o : Output (List ℕ)). o .noise) (frame-left q e)) in
+    omega (arith, progress-noise (q .before .before .loop .inv .3) more l, room q .1)
+
+frame-less : (q : tie.After-quiet Inv-loop μ-loop) {taken more len : ℕ} → quietValuesOf (q .quiet .result .answer) ≡ frameValues taken more len →
+    length (ruleAfter (stateOf (q .quiet .result .reader)) [] .frames) < length (ruleAfter (stateOf (q .before .before .loop .state)) [] .frames)
+unfolding join
+frame-less q e = omega (arith, ap (λ (o : Output (List ℕ)). length (o .frames)) (frame-left q e))
+
+-- Without one: noise is all that is left.
+none-few : (q : tie.After-quiet Inv-loop μ-loop) {taken more : ℕ} → quietValuesOf (q .quiet .result .answer) ≡ noFrameValues taken more →
+    q .before .before .loop .total + more ≤ 517
+none-few q {more = more} e =
+    let end = quiet-end (q .before .before .loop .state) (q .quiet .result .reader) (says-next _ (says q) (free q)) more (says-none _ (says q) (free q) e) in
+    let l : more ≤ ruleAfter (stateOf (q .before .before .loop .state)) [] .noise = omega (arith, ap (λ (o : Output (List ℕ)). o .noise) (end .0)) in
+    omega (arith, progress-noise (q .before .before .loop .inv .3) more l, room q .1)
+
+is-sound-requires : tie.Need-is-sound-requires Inv-loop μ-loop
+is-sound-requires c κs = search needs
 
 refused-requires : tie.Need-refused-requires Inv-loop μ-loop
 refused-requires c κs = search needs
 
 returns : tie.Need-returns Inv-loop μ-loop
-returns c = end-refused _ _ _ (c .before .if1 .taken) (c .refused .ensures .0) (c .refused .ensures .1)
+returns c =
+    let a = c .before .before .before .before .args in
+    refused-lists (ruleAfter (stateOf (a .reader)) []) (a .reader) (a .out .now) (c .refused .result) State
+    (end-state (a .reader) (length (a .out .now)) 0 (sym (c .before .before .is-sound .ensures) ∙ not-true _ (c .before .if1 .taken))) (c .refused .ensures .0) (c .refused .ensures .1)
 
-pairs-requires : tie.Need-pairs-requires Inv-loop μ-loop
-pairs-requires c κs = search needs
+refused-requires-2 : tie.Need-refused-requires-2 Inv-loop μ-loop
+refused-requires-2 c κs = search needs
+
+returns-2 : tie.Need-returns-2 Inv-loop μ-loop
+returns-2 c =
+    let a = c .before .before .before .before .before .args in
+    refused-lists (ruleAfter (stateOf (a .reader)) []) (a .reader) (a .out .now) (c .refused2 .result) Buffer
+    (end-buffer (a .reader) (length (a .out .now)) 0 (yes (c .before .before)) (c .before .if2 .taken)) (c .refused2 .ensures .0) (c .refused2 .ensures .1)
+
+loop-holds : tie.Need-loop-holds Inv-loop μ-loop
+loop-holds c =
+    (refl, sound-count (c .before .before .before .before .args .reader) (yes (c .before)), refl, progress (ruleAfter (stateOf (c .before .before .before .before .args .reader)) []) _ _ _)
 
 slice-aggregate-quiet : tie.Need-slice-aggregate-quiet Inv-loop μ-loop
-slice-aggregate-quiet c = search needs
+slice-aggregate-quiet c = sym (c .before .loop .inv .0)
 
 quiet-requires : tie.Need-quiet-requires Inv-loop μ-loop
 quiet-requires c κs = search needs
-
-loop-holds : tie.Need-loop-holds Inv-loop μ-loop
-loop-holds c = (c .before .quiet .kept .1 .0, refl, λ reader old full quiets. quieting reader old _ _ _ quiets full)
 
 enum-known-answer : tie.Need-enum-known-answer Inv-loop μ-loop
 enum-known-answer c = search needs
 
 slice-aggregate-whole : tie.Need-slice-aggregate-whole Inv-loop μ-loop
-slice-aggregate-whole c = sym (c .before .before .before .before .loop .inv .0)
+slice-aggregate-whole c = sym (still (c .before .before .before .before .before .before))
 
 slice-aggregate-put-line : tie.Need-slice-aggregate-put-line Inv-loop μ-loop
 slice-aggregate-put-line c =
-    let s = c .before .before .before .before .before .before .before .before .before .before .before .before .before in
-    let l = c .before .before .before .before .before .before .loop in
-    let g = l .inv .2 (s .args .reader) (replicate 256 0) refl (c .before .before .before .before .before .before .before .before .quiet .ensures) in
-    front _ (l .buf) (quiet-inside g (c .before .before .before .before .answer .given .1))
+    front _ _ (says-inside _ (says (c .before .before .before .before .before .before .before)) (free (c .before .before .before .before .before .before .before)) (ap quietValuesOf (c .before .before .before .answer .given .1)))
 
 put-line-requires : tie.Need-put-line-requires Inv-loop μ-loop
 put-line-requires c κs =
-    let s = c .before .before .before .before .before .before .before .before .before .before .before .before .before .before in
-    let l = c .before .before .before .before .before .before .before .loop in
-    let g = l .inv .2 (s .args .reader) (replicate 256 0) refl (c .before .before .before .before .before .before .before .before .before .quiet .ensures) in
-    (c .before .before .before .before .before .before .before .before .before .before .before .pairs .ensures, quiet-line-room g (c .before .before .before .before .before .answer .given .1) (c .before .before .before .before .before .before .before .before .before .before .before .before .if1 .left))
+    progress-room (c .before .before .before .before .before .before .before .before .before .before .loop .inv .3) (room (c .before .before .before .before .before .before .before .before) .0) _ _ _ (frame-left (c .before .before .before .before .before .before .before .before) (ap quietValuesOf (c .before .before .before .before .answer .given .1)))
 
 add-total : tie.Need-add-total Inv-loop μ-loop
 add-total c =
-    let s = c .before .before .before .before .before .before .before .before .before .before .before .before .before .before .before .before .before in
-    let l = c .before .before .before .before .before .before .before .before .before .before .loop in
-    let g = l .inv .2 (s .args .reader) (replicate 256 0) refl (c .before .before .before .before .before .before .before .before .before .before .before .before .quiet .ensures) in
-    omega (arith, quiet-frame-noise g (c .before .before .before .before .before .before .before .before .answer .given .1) (c .before .before .before .before .before .before .before .before .before .before .before .before .before .before .before .if1 .left))
-
-slice-aggregate-quiet-2 : tie.Need-slice-aggregate-quiet-2 Inv-loop μ-loop
-slice-aggregate-quiet-2 c = sym (c .before .before .before .before .before .before .before .before .before .before .before .loop .inv .0)
-
-quiet-requires-2 : tie.Need-quiet-requires-2 Inv-loop μ-loop
-quiet-requires-2 c κs = search needs
+    omega (arith, frame-few (c .before .before .before .before .before .before .before .before .before .before .before) (ap quietValuesOf (c .before .before .before .before .before .before .before .answer .given .1)))
 
 loop-less : tie.Need-loop-less Inv-loop μ-loop
 loop-less c =
-    let s = c .before .before .before .before .before .before .before .before .before .before .before .before .before .before .before .before .before .before .before .before in
-    let l = c .before .before .before .before .before .before .before .before .before .before .before .before .before .loop in
-    let g = l .inv .2 (s .args .reader) (replicate 256 0) refl (c .before .before .before .before .before .before .before .before .before .before .before .before .before .before .before .quiet .ensures) in
-    quiet-less _ _ (l .quieted) (c .before .quiet2 .result) (c .before .before .before .before .before .before .before .before .before .before .before .answer .given .1) (c .before .quiet2 .ensures) (quiet-within g (c .before .before .before .before .before .before .before .before .before .before .before .answer .given .1) (c .before .before .before .before .before .before .before .before .before .before .before .before .before .before .before .before .before .before .if1 .left))
+    frame-less (c .before .before .before .before .before .before .before .before .before .before .before) (ap quietValuesOf (c .before .before .before .before .before .before .before .answer .given .1))
 
 loop-again : tie.Need-loop-again Inv-loop μ-loop
 loop-again c =
-    let l = c .before .before .before .before .before .before .before .before .before .before .before .before .before .loop in (
-      c .before .quiet2 .kept .1 .0 ∙ l .inv .0,
-      c .before .before .before .before .before .put-line .kept .1 .1 .0 ∙ l .inv .1,
-      λ reader old full quiets.
-          quieting-next (l .inv .2 reader old full quiets) (c .before .before .before .before .before .before .before .before .before .before .before .answer .given .1) (c .before .before .before .before .before .before .before .before .before .before .before .before .before .before .before .before .before .before .if1 .left) (c .before .before .before .before .before .put-line .ensures) (c .before .quiet2 .ensures) (l .inv .0),
+    let q = c .before .before .before .before .before .before .before .before .before .before .before in
+    let l = c .before .before .before .before .before .before .before .before .before .before .before .before .before .loop in
+    let kept = limits q in (
+      still q,
+      rw (kept .0) (kept .1),
+      kept .0 ∙ l .inv .2,
+      progress-frame (l .inv .3) (room q .0) _ _ _ (frame-left q (ap quietValuesOf (c .before .before .before .before .before .before .before .answer .given .1))) (c .before .before .put-line .ensures),
     )
 
 enum-known-answer-2 : tie.Need-enum-known-answer-2 Inv-loop μ-loop
@@ -95,39 +151,35 @@ enum-known-answer-2 c = search needs
 
 add-lines : tie.Need-add-lines Inv-loop μ-loop
 add-lines c =
-    let s = c .before .before .before .before .before .before .before .before .before .before .before in
-    let l = c .before .before .before .before .loop in
-    let g = l .inv .2 (s .args .reader) (replicate 256 0) refl (c .before .before .before .before .before .before .quiet .ensures) in
-    omega (arith, empty-noise g (c .before .before .answer2 .given .1))
+    omega (arith, none-few (c .before .before .before .before .before) (ap quietValuesOf (c .before .answer2 .given .1)))
 
 lines-requires : tie.Need-lines-requires Inv-loop μ-loop
 lines-requires c κs = search needs
 
 same-length : tie.Need-same-length Inv-loop μ-loop
-same-length c = c .before .before .before .before .before .loop .inv .1
+same-length c = c .before .before .before .before .before .before .before .before .loop .inv .3 .text .long
 
-returns-2 : tie.Need-returns-2 Inv-loop μ-loop
-returns-2 c =
-    let s = c .before .before .before .before .before .before .before .before .before .before .before .before in
-    let l = c .before .before .before .before .before .loop in
-    let g = l .inv .2 (s .args .reader) (replicate 256 0) refl (c .before .before .before .before .before .before .before .quiet .ensures) in
-    quieting-done g (c .before .before .before .answer2 .given .1) (c .before .before .before .before .before .before .before .before .before .before .if1 .left) _ (c .lines .ensures .0) (c .lines .ensures .1)
+returns-3 : tie.Need-returns-3 Inv-loop μ-loop
+returns-3 c =
+    let q = c .before .before .before .before .before .before in
+    let l = c .before .before .before .before .before .before .before .before .loop in
+    let a = c .before .before .before .before .before .before .before .before .before .before .before .before .before .args in
+    let e = quiet-end (l .state) (q .quiet .result .reader) (says-next _ (says q) (free q)) _ (says-none _ (says q) (free q) (ap quietValuesOf (c .before .before .answer2 .given .1))) in
+    quiet-lists (a .reader) (a .out .now) (c .lines .result) _ (l .inv .3) (sound-count (a .reader) (yes (c .before .before .before .before .before .before .before .before .before .before))) (c .before .before .before .before .before .before .before .before .before .if2 .left) (e .0)
+    (c .lines .ensures .0 ∙ e .1 ∙ ap newReader (l .inv .2)) (c .lines .ensures .1)
 
 enum-known-answer-3 : tie.Need-enum-known-answer-3 Inv-loop μ-loop
 enum-known-answer-3 c = search needs
 
-refused-requires-2 : tie.Need-refused-requires-2 Inv-loop μ-loop
-refused-requires-2 c κs = search needs
+refused-requires-3 : tie.Need-refused-requires-3 Inv-loop μ-loop
+refused-requires-3 c κs = search needs
 
 same-length-2 : tie.Need-same-length-2 Inv-loop μ-loop
-same-length-2 c = c .before .before .before .before .before .loop .inv .1
+same-length-2 c = c .before .before .before .before .before .before .before .before .loop .inv .3 .text .long
 
-returns-3 : tie.Need-returns-3 Inv-loop μ-loop
-returns-3 c =
-    let s = c .before .before .before .before .before .before .before .before .before .before .before .before in
-    let l = c .before .before .before .before .before .loop in
-    let g = l .inv .2 (s .args .reader) (replicate 256 0) refl (c .before .before .before .before .before .before .before .quiet .ensures) in
-    quieting-refused g (c .before .before .before .answer3 .given .1) (c .before .before .before .before .before .before .before .before .before .before .if1 .left) _ (c .refused2 .ensures .0) (c .refused2 .ensures .1)
+returns-4 : tie.Need-returns-4 Inv-loop μ-loop
+returns-4 c =
+    absurd (says-refused _ (says (c .before .before .before .before .before .before)) (free (c .before .before .before .before .before .before)) (c .before .before .answer3 .given .0 .0) (ap quietValuesOf (c .before .before .answer3 .given .1)))
 
 pub list-quiet-spec : {M : Type 1} → statement M
 list-quiet-spec =
@@ -135,27 +187,27 @@ list-quiet-spec =
     (tie.spec
     Inv-loop
     μ-loop
+    is-sound-requires
     refused-requires
     returns
-    pairs-requires
+    refused-requires-2
+    returns-2
+    loop-holds
     slice-aggregate-quiet
     quiet-requires
-    loop-holds
     enum-known-answer
     slice-aggregate-whole
     slice-aggregate-put-line
     put-line-requires
     add-total
-    slice-aggregate-quiet-2
-    quiet-requires-2
     loop-less
     loop-again
     enum-known-answer-2
     add-lines
     lines-requires
     same-length
-    returns-2
+    returns-3
     enum-known-answer-3
-    refused-requires-2
+    refused-requires-3
     same-length-2
-    returns-3)
+    returns-4)

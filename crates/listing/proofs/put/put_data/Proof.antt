@@ -2,7 +2,7 @@
 -- Assumes nothing.
 use native.Mathlib.Omega.{arith}
 use borrow.Author.Needs.{needs}
-use Rattle.frame.specs.Ascii.{hex}
+use Rattle.frame.specs.Hex.{hex}
 use Rattle.message.specs.Examples.{text}
 use Rattle.listing.proofs.Texts.{going, going-room, going-part, going-next, going-last}
 use Rattle.listing.proofs.Lines.{data-none, data-some}
@@ -16,7 +16,7 @@ put-text-requires : tie.Need-put-text-requires
 put-text-requires c κs =
     let s = c .before .before .before .before .before in
     let none = data-none (s .args .«data» .now) (c .before .before .if1 .taken) in
-    rw none at (s .pre .1)
+    rw none at (s .pre)
 
 same-length : tie.Need-same-length
 same-length c = search needs
@@ -34,14 +34,14 @@ put-text-requires-2 : tie.Need-put-text-requires-2
 put-text-requires-2 c κs =
     let s = c .before .before .before .before .before in
     let some = data-some (s .args .«data» .now) (omega arith) in
-    going-part (text " ") _ (s .pre .1) (going (s .args .out .now) (s .args .at) some)
+    going-part (text " ") _ (s .pre) (going (s .args .out .now) (s .args .at) some)
 
 put-digits-requires : tie.Need-put-digits-requires
 put-digits-requires c κs =
     let s = c .before .before .before .before .before .before .before .before .before in
     let some = data-some (s .args .«data» .now) (omega arith) in
-    let g = going-next (s .pre .1) (going (s .args .out .now) (s .args .at) some) (c .before .before .before .put-text2 .ensures) in
-    (s .pre .0, going-part (hex (s .args .«data» .now)) _ (s .pre .1) g)
+    let g = going-next (s .pre) (going (s .args .out .now) (s .args .at) some) (c .before .before .before .put-text2 .ensures) in
+    going-part (hex (s .args .«data» .now)) _ (s .pre) g
 
 slice-aggregate-put-text-3 : tie.Need-slice-aggregate-put-text-3
 slice-aggregate-put-text-3 c = search needs
@@ -50,8 +50,8 @@ put-text-requires-3 : tie.Need-put-text-requires-3
 put-text-requires-3 c κs =
     let s = c .before .before .before .before .before .before .before .before .before .before .before .before .before .before in
     let some = data-some (s .args .«data» .now) (omega arith) in
-    let g = going-next (s .pre .1) (going (s .args .out .now) (s .args .at) some) (c .before .before .before .before .before .before .before .before .put-text2 .ensures) in
-    going-room (s .pre .1) (going-next (s .pre .1) g (c .before .before .before .before .put-digits .ensures))
+    let g = going-next (s .pre) (going (s .args .out .now) (s .args .at) some) (c .before .before .before .before .before .before .before .before .put-text2 .ensures) in
+    going-room (s .pre) (going-next (s .pre) g (c .before .before .before .before .put-digits .ensures))
 
 same-length-2 : tie.Need-same-length-2
 same-length-2 c = search needs
@@ -60,8 +60,8 @@ returns-2 : tie.Need-returns-2
 returns-2 c =
     let s = c .before .before .before .before .before .before .before .before .before .before .before .before .before .before .before .before .before in
     let some = data-some (s .args .«data» .now) (omega arith) in
-    let g = going-next (s .pre .1) (going (s .args .out .now) (s .args .at) some) (c .before .before .before .before .before .before .before .before .before .before .before .put-text2 .ensures) in
-    going-last (s .pre .1) (going-next (s .pre .1) g (c .before .before .before .before .before .before .before .put-digits .ensures)) (c .before .before .put-text3 .ensures)
+    let g = going-next (s .pre) (going (s .args .out .now) (s .args .at) some) (c .before .before .before .before .before .before .before .before .before .before .before .put-text2 .ensures) in
+    going-last (s .pre) (going-next (s .pre) g (c .before .before .before .before .before .before .before .put-digits .ensures)) (c .before .before .put-text3 .ensures)
 
 pub put-data-spec : {M : Type 1} → statement M
 put-data-spec =

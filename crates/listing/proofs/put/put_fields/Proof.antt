@@ -12,10 +12,10 @@ use Rattle.listing.proofs.put.put_fields.Statement.{statement}
 use Rattle.listing.proofs.put.put_fields.Tie as tie
 
 abbrev Inv-loop : tie.InvT-loop
-Inv-loop table out₀ at bytes starts end₀ left₀ i₀ out end left i = (i ≤ length bytes) × Going out₀ at (fields starts bytes) (fields left (drop i bytes)) end out
+Inv-loop out₀ at bytes starts end₀ left₀ i₀ out end left i = (i ≤ length bytes) × Going out₀ at (fields starts bytes) (fields left (drop i bytes)) end out
 
 abbrev μ-loop : tie.MeasureT-loop
-μ-loop table out₀ at bytes starts end₀ left₀ i₀ out end left i = length bytes - i
+μ-loop out₀ at bytes starts end₀ left₀ i₀ out end left i = length bytes - i
 
 loop-holds : tie.Need-loop-holds Inv-loop μ-loop
 loop-holds c = let a = c .before .before .args in (omega arith, going (a .out .now) (a .at) refl)
@@ -25,7 +25,7 @@ put-space-requires c κs =
     let s = c .before .before .before .before .before in
     let l = c .before .before .loop in
     let more = fields-next (l .left) (s .args .bytes .now) (l .i) (omega arith) in
-    omega (arith, simp length-append at (rw more at (going-room (s .pre .1) (l .inv .1))))
+    omega (arith, simp length-append at (rw more at (going-room (s .pre) (l .inv .1))))
 
 shared-slice-read-put-pair : tie.Need-shared-slice-read-put-pair Inv-loop μ-loop
 shared-slice-read-put-pair c = search needs
@@ -36,7 +36,7 @@ put-pair-requires c κs =
     let s = p .before .before .before .before .before .before in
     let l = p .before .before .before .loop in
     let more = fields-next (l .left) (s .args .bytes .now) (l .i) (omega arith) in
-    (s .pre .0, omega (arith, going-room (s .pre .1) (going-next (s .pre .1) (rw more at (l .inv .1)) (p .put-space .ensures))))
+    omega (arith, going-room (s .pre) (going-next (s .pre) (rw more at (l .inv .1)) (p .put-space .ensures)))
 
 add-i : tie.Need-add-i Inv-loop μ-loop
 add-i c = search needs
@@ -50,8 +50,8 @@ loop-again c =
     let s = p .before .before .before .before .before .before in
     let l = p .before .before .before .loop in
     let more = fields-next (l .left) (s .args .bytes .now) (l .i) (omega arith) in
-    let g = going-next (s .pre .1) (rw more at (l .inv .1)) (p .put-space .ensures) in
-    (omega arith, going-next (s .pre .1) g (c .before .before .put-pair .ensures))
+    let g = going-next (s .pre) (rw more at (l .inv .1)) (p .put-space .ensures) in
+    (omega arith, going-next (s .pre) g (c .before .before .put-pair .ensures))
 
 same-length : tie.Need-same-length Inv-loop μ-loop
 same-length c = c .before .loop .inv .1 .long
@@ -61,7 +61,7 @@ returns c =
     let s = c .before .before .before .before in
     let l = c .before .loop in
     let none = drop-all (s .args .bytes .now) (l .i) (omega arith) in
-    going-done (s .pre .1) (rw none at (l .inv .1))
+    going-done (s .pre) (rw none at (l .inv .1))
 
 pub put-fields-spec : {M : Type 1} → statement M
 put-fields-spec =

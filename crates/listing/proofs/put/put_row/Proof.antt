@@ -11,13 +11,13 @@ use Rattle.listing.proofs.put.put_row.Tie as tie
 put-text-requires : tie.Need-put-text-requires
 put-text-requires c κs =
     let s = c .before .before .before .before in
-    omega (arith, simp length-append at (s .pre .1))
+    omega (arith, simp length-append at (s .pre))
 
 put-fields-requires : tie.Need-put-fields-requires
 put-fields-requires c κs =
     let p = c .before .before .before in
     let s = p .before .before .before .before .before in
-    (s .pre .0, going-room (s .pre .1) (going-next (s .pre .1) (going (s .args .out .now) (s .args .at) refl) (p .put-text .ensures)))
+    going-room (s .pre) (going-next (s .pre) (going (s .args .out .now) (s .args .at) refl) (p .put-text .ensures))
 
 same-length : tie.Need-same-length
 same-length c = search needs
@@ -26,8 +26,8 @@ returns : tie.Need-returns
 returns c =
     let p = c .before .before .before .before .before .before in
     let s = p .before .before .before .before .before in
-    let g = going-next (s .pre .1) (going (s .args .out .now) (s .args .at) refl) (p .put-text .ensures) in
-    going-last (s .pre .1) g (c .before .before .put-fields .ensures)
+    let g = going-next (s .pre) (going (s .args .out .now) (s .args .at) refl) (p .put-text .ensures) in
+    going-last (s .pre) g (c .before .before .put-fields .ensures)
 
 pub put-row-spec : {M : Type 1} → statement M
 put-row-spec = tie.close (tie.spec put-text-requires put-fields-requires same-length returns)

@@ -1,13 +1,16 @@
 -- `frame::reader::Reader::quiet` meets its contract: the refusals in their order, and otherwise the quiet of the held bytes.
 -- Assumes nothing.
 use native.Mathlib.Omega.{arith}
-use mathlib.Core.Path.{_≡_, refl, sym}
+use Prim.Native.Nat.{ℕ}
+use mathlib.Core.Path.{_≡_, sym, ap}
+use lib.Dec.{eqb}
 use borrow.Author.Needs.{needs}
 use lib.ListN.{length, length-take}
 use lib.Seq.{length-take-le}
-use Rattle.frame.specs.Reader.{quietRefusal}
+use Rattle.frame.specs.Reader.{refusalValues}
 use Rattle.frame.proofs.Framings.{limit-most}
-use Rattle.frame.proofs.Readers.{refuses, answers, quiet-state, quiet-buffer, quiet-accepted}
+use Rattle.frame.proofs.Readers.{quiet-state, quiet-buffer, quiet-accepted}
+use Rattle.frame.proofs.Promises.{refuses, answers}
 use Rattle.frame.proofs.reader.Reader.quiet.Statement.{statement}
 use Rattle.frame.proofs.reader.Reader.quiet.Tie as tie
 
@@ -15,50 +18,42 @@ use Rattle.frame.proofs.reader.Reader.quiet.Tie as tie
 array : (c : tie.Start) → length (c .args .self .held) ≡ 517
 array c = search needs
 
--- src/reader.rt:289:12
 limit-of-requires : tie.Need-limit-of-requires
 limit-of-requires c κs = search needs
 
--- src/reader.rt:290:13
 returns : tie.Need-returns
 returns c =
     let a = c .before .before .before .args in
-    refuses (quietRefusal (a .self) (length (a .buf .now))) _ _ (a .self) (a .buf .now) 16
-    (quiet-state (a .self) (length (a .buf .now)) 0 (omega (arith, c .before .limit-of .ensures, c .if1 .taken))) refl
+    let n = quiet-state (a .self) (length (a .buf .now)) 0 (omega (arith, c .before .limit-of .ensures, c .if1 .taken)) in
+    refuses (ap (λ (k : ℕ). eqb k 0) n) (sym (ap refusalValues n))
 
--- src/reader.rt:296:13
 returns-2 : tie.Need-returns-2
 returns-2 c =
     let a = c .before .before .before .before .args in
-    refuses (quietRefusal (a .self) (length (a .buf .now))) _ _ (a .self) (a .buf .now) 13
-    (quiet-buffer (a .self) (length (a .buf .now)) 0 (omega (arith, c .before .before .limit-of .ensures, c .before .if1 .left)) (c .if2 .taken)) refl
+    let n = quiet-buffer (a .self) (length (a .buf .now)) 0 (omega (arith, c .before .before .limit-of .ensures, c .before .if1 .left)) (c .if2 .taken) in
+    refuses (ap (λ (k : ℕ). eqb k 0) n) (sym (ap refusalValues n))
 
--- src/reader.rt:302:13
 slice-aggregate-whole : tie.Need-slice-aggregate-whole
 slice-aggregate-whole c = search needs
 
--- src/reader.rt:303:29
 slice-aggregate-quiet-held : tie.Need-slice-aggregate-quiet-held
 slice-aggregate-quiet-held c =
     let a = c .before .before .before .before .before .before .before .args in
     sym (length-take-le (a .self .count) (a .self .held) (omega (arith, c .before .before .before .before .before .limit-of .ensures, c .before .before .before .before .if1 .left, limit-most (a .self .framing), array (c .before .before .before .before .before .before .before))))
 
--- src/reader.rt:303:9
 quiet-held-requires : tie.Need-quiet-held-requires
 quiet-held-requires c κs =
     let a = c .before .before .before .before .before .before .before .before .args in
     (omega (arith, length-take (a .self .count) (a .self .held), c .before .before .before .before .before .before .limit-of .ensures, c .before .before .before .before .before .if1 .left), c .before .before .before .before .if2 .left)
 
--- src/reader.rt:284:5
 same-length : tie.Need-same-length
 same-length c = search needs
 
--- src/reader.rt:284:5
 returns-3 : tie.Need-returns-3
 returns-3 c =
     let a = c .before .before .before .before .before .before .before .before .before .before .before .args in
     let h = c .before .before .quiet-held .ensures in
-    answers (quietRefusal (a .self) (length (a .buf .now))) _ _ (a .self) (a .buf .now) _ _ _
+    answers
     (quiet-accepted (a .self) (length (a .buf .now)) 0 (omega (arith, c .before .before .before .before .before .before .before .before .before .limit-of .ensures, c .before .before .before .before .before .before .before .before .if1 .left)) (c .before .before .before .before .before .before .before .if2 .left))
     (h .values) (h .state) (h .buffer)
 

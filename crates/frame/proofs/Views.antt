@@ -1,0 +1,182 @@
+-- Laws of views: a view's call is the line call of the reader that the view stands for.
+-- Assumes nothing.
+use Prim.Native.Nat.{ℕ, _+_, _-_, _≤_, _<_}
+use native.Mathlib.Omega.{arith}
+use mathlib.Core.Path.{_≡_, refl, sym, ap, ap₂, _∙_, subst}
+use mathlib.Core.List.{List, []}
+use mathlib.Core.Bool.{Bool, true, false, cond, _&&_, true≢false, false≢true}
+use borrow.Author.Tests.{le-leb, lt-leb, leb-true, eqb-true}
+use lib.Dec.{leb, eqb}
+use lib.ListN.{length, take, drop, length-drop}
+use lib.Seq.{drop-drop}
+use Rattle.frame.specs.Framing.{limit}
+use Rattle.frame.specs.Reader.{State, holding, Called, line, after, stateOf, Holds, refusalValues, valuesAt, bufferAt, sound, lineNumber, feedRefusal}
+use Rattle.frame.specs.Reader.{feedValuesOf, Feeds}
+use Rattle.frame.specs.Refusal.{numberOf}
+use Rattle.frame.specs.Scan.{KeepsCall}
+use Rattle.frame.specs.View.{inside, part, viewed, viewCall, Follows, viewRefusal, Views, Stands, ViewIsFeed, ViewStaysInside}
+use Rattle.frame.specs.Draining.{ViewTells}
+use Rattle.frame.specs.declared.reader.Reader.{Reader}
+use Rattle.frame.specs.declared.refusal.Refusal.{Refusal}
+use Rattle.frame.specs.declared.answer.Kept.{Kept}
+use Rattle.frame.specs.declared.answer.FeedAnswer.the-variants.{Refused}
+use Rattle.frame.specs.declared.view.View.{View}
+use Rattle.frame.specs.declared.view.Viewed.{Viewed}
+use Rattle.frame.proofs.Parts.{part-size, part-rest}
+use Rattle.frame.proofs.Settling.{line-one, line-taken, line-size}
+use Rattle.frame.proofs.Promises.{refuses, answers, numbered, answered, refusing, says}
+
+-- What the answer of a view's call says.
+pub view-tells : ViewTells
+view-tells v chunk buf a buf′ p = says (viewCall v chunk) p (line-one (viewed v chunk) (drop (v .end) chunk))
+
+-- Both of two tests hold.
+both : (a b : Bool) → a && b ≡ true → (a ≡ true) × (b ≡ true)
+both true b e = (refl, e)
+both false b e = absurd (false≢true e)
+
+-- What it is for a view to lie in a chunk of this size.
+pub record Inside (v : View) (size : ℕ) : Type 0 where
+  pub onward : v .from ≤ v .end
+  pub there : v .end ≤ size
+  pub fits : v .end - v .from ≤ limit (v .framing)
+
+pub is-inside : (v : View) (size : ℕ) → inside v size ≡ true → Inside v size
+is-inside v size e =
+    let h = both (leb (v .from) (v .end)) (leb (v .end) size && leb (v .end - v .from) (limit (v .framing))) e in
+    let k = both (leb (v .end) size) (leb (v .end - v .from) (limit (v .framing))) (h .1) in
+    record { onward = leb-true _ _ (h .0); there = leb-true _ _ (k .0); fits = leb-true _ _ (k .1) }
+
+pub inside-is : (v : View) (size : ℕ) → Inside v size → inside v size ≡ true
+inside-is v size h =
+    simp (le-leb (v .from) (v .end) (h .onward), le-leb (v .end) size (h .there), le-leb (v .end - v .from) (limit (v .framing)) (h .fits))
+
+-- The part of a view has as many bytes as it says.
+pub part-length : (v : View) (chunk : List ℕ) → Inside v (length chunk) → length (part (v .from) (v .end) chunk) ≡ v .end - v .from
+part-length v chunk h = part-size (v .from) (v .end) chunk (h .onward) (h .there)
+
+-- The reader of a view that lies in the chunk.
+stands-state : (v : View) (chunk : List ℕ) (r : Reader) → inside v (length chunk) ≡ true → Stands v chunk r → Holds (viewed v chunk) r
+stands-state v chunk r e h = subst (λ (q : Bool). Holds (cond q (viewed v chunk) (holding (v .framing) [])) r) e h
+
+-- The view that follows a call lies in the chunk.
+next-inside :
+    (v : View) (chunk : List ℕ) (v′ : View) → Inside v (length chunk) → Follows v chunk (viewCall v chunk) v′ → Inside v′ (length chunk)
+next-inside v chunk v′ h k =
+    let c : Called = viewCall v chunk in
+    let taken : c .taken ≤ length (drop (v .end) chunk) = line-taken (viewed v chunk) (drop (v .end) chunk) in
+    let framing : v′ .framing ≡ v .framing = ap (λ (s : State). s .framing) (k .state) in
+    let few : length (c .held) ≤ limit (v .framing) =
+    line-size (viewed v chunk) (drop (v .end) chunk) (rw (part-length v chunk h) (h .fits)) in
+    record {
+      onward = omega (arith, k .from);
+      there = omega (arith, k .end, length-drop (v .end) chunk, h .there);
+      fits = rw framing (omega (arith, k .from));
+    }
+
+pub view-stays-inside : ViewStaysInside
+view-stays-inside v chunk buf a buf′ p e = by-refusal (eqb (viewRefusal v (length buf) (length chunk)) 0) refl
+  where
+    by-refusal : (q : Bool) → eqb (viewRefusal v (length buf) (length chunk)) 0 ≡ q → inside (a .view) (length chunk) ≡ true
+    by-refusal true z = inside-is (a .view) (length chunk) (next-inside v chunk (a .view) (is-inside v (length chunk) e) (p .answers z .1))
+    by-refusal false z = ap (λ (x : View). inside x (length chunk)) (p .refuses z .1) ∙ e
+
+-- A view's call and the reader's call with the chunk have the same refusal.
+same-refusal :
+    (v : View) (chunk : List ℕ) (room : ℕ) (r : Reader) → inside v (length chunk) ≡ true → Holds (viewed v chunk) r →
+    viewRefusal v room (length chunk) ≡ feedRefusal r room (length chunk)
+same-refusal v chunk room r e h =
+    let k = is-inside v (length chunk) e in
+    let framing : r .framing ≡ v .framing = ap (λ (s : State). s .framing) (h .state) in
+    let few : r .count ≤ limit (r .framing) = rw framing (omega (arith, h .count, part-length v chunk k, k .fits)) in
+    ap (λ (q : Bool). lineNumber q room (length chunk)) (e ∙ sym (le-leb (r .count) (limit (r .framing)) few))
+
+-- Where a chunk is not refused, no shorter one is.
+shorter : (q : Bool) (room size less : ℕ) → less ≤ size → lineNumber q room size ≡ 0 → lineNumber q room less ≡ 0
+shorter q room size less l = by q (leb 256 room) (leb size 65536) refl
+  where
+    by :
+        (q s t : Bool) → leb size 65536 ≡ t → _≡_ {A = ℕ} (cond q (cond s (cond t 0 15) 13) 16) 0 →
+        _≡_ {A = ℕ} (cond q (cond s (cond (leb less 65536) 0 15) 13) 16) 0
+    by true true true h e = rw (le-leb less 65536 (omega (arith, leb-true size 65536 h)))
+    by true true false h e = absurd (omega arith)
+    by true false t h e = absurd (omega arith)
+    by false s t h e = absurd (omega arith)
+
+-- A view's call is the reader's.
+pub view-is-feed : ViewIsFeed
+view-is-feed v chunk buf a buf′ r p e h =
+    let k : Holds (viewed v chunk) r = stands-state v chunk r e h in
+    let c : Called = viewCall v chunk in
+    let rest : List ℕ = drop (v .end) chunk in
+    let number : viewRefusal v (length buf) (length chunk) ≡ feedRefusal r (length buf) (length chunk) = same-refusal v chunk (length buf) r e k in
+    let same : c ≡ line (stateOf r) rest = ap (λ (s : State). line s rest) (sym (k .state)) in
+    record {
+      answered = λ z r′ h′.
+          let g = answered c p z in
+          let f = g .1 in
+          let k′ : Holds (viewed (a .view) chunk) r′ =
+          stands-state (a .view) chunk r′
+          (inside-is (a .view) (length chunk) (next-inside v chunk (a .view) (is-inside v (length chunk) e) f)) h′ in
+          answers
+          (shorter (sound r) (length buf) (length chunk) (length rest) (rw length-drop (omega arith))
+          (sym number ∙ eqb-true (viewRefusal v (length buf) (length chunk)) 0 (numbered c p true z)))
+          (g .0 ∙ ap valuesAt same)
+          (subst (λ (s : State). Holds s r′) (f .state ∙ ap₂ after (sym (k .state)) same) k′)
+          (g .2 ∙ ap (λ (x : Called). bufferAt (x .out .frames) buf) same);
+      refused = λ z.
+          let g = refusing c p z in
+          subst
+          (λ (b : List ℕ). Feeds r chunk buf (record { reader = r; answer = a .answer }) b)
+          (sym (g .2))
+          (refuses (ap (λ (n : ℕ). eqb n 0) (sym number) ∙ numbered c p false z) (g .0 ∙ ap refusalValues number));
+    }
+
+module _ (v : View) (room size : ℕ) where
+  -- The refusals of a view's call, in their order.
+  pub view-state : inside v size ≡ false → viewRefusal v room size ≡ 16
+  view-state e = ap (λ (q : Bool). lineNumber q room size) e
+
+  pub view-buffer : inside v size ≡ true → room < 256 → viewRefusal v room size ≡ 13
+  view-buffer e h = ap (λ (q : Bool). lineNumber q room size) e ∙ simp (lt-leb 256 room h)
+
+  pub view-chunk : inside v size ≡ true → 256 ≤ room → 65536 < size → viewRefusal v room size ≡ 15
+  view-chunk e h k = ap (λ (q : Bool). lineNumber q room size) e ∙ simp (le-leb 256 room h, lt-leb size 65536 k)
+
+  view-accepted : inside v size ≡ true → 256 ≤ room → size ≤ 65536 → viewRefusal v room size ≡ 0
+  view-accepted e h k = ap (λ (q : Bool). lineNumber q room size) e ∙ simp (le-leb 256 room h, le-leb size 65536 k)
+
+-- A refused call.
+pub refused-views :
+    (v : View) (chunk buf : List ℕ) (a : Viewed) (r : Refusal) → viewRefusal v (length buf) (length chunk) ≡ numberOf r →
+    eqb (numberOf r) 0 ≡ false → a .view ≡ v → a .answer ≡ Refused r → Views v chunk buf a buf
+refused-views v chunk buf a r n z e f =
+    record {
+      refuses = λ _. (ap feedValuesOf f ∙ ap refusalValues (sym n), e, refl);
+      answers = λ t. absurd (true≢false (sym t ∙ ap (λ (k : ℕ). eqb k 0) n ∙ z));
+    }
+
+-- A call that is not refused: the kept part of the chunk's rest is the view that follows.
+pub kept-views :
+    (v : View) (chunk buf buf′ : List ℕ) (k : Kept) → Inside v (length chunk) → 256 ≤ length buf → length chunk ≤ 65536 →
+    let w : List ℕ = drop (v .from) chunk in
+    let count : ℕ = v .end - v .from in
+    KeepsCall (line (holding (v .framing) (take count w)) (drop count w)) count w k buf buf′ →
+    Views v chunk buf (record { view = record { framing = v .framing; from = v .from + k .from; end = v .from + k .end }; answer = k .answer }) buf′
+kept-views v chunk buf buf′ k h room few kept =
+    let w : List ℕ = drop (v .from) chunk in
+    let count : ℕ = v .end - v .from in
+    let end : v .from + count ≡ v .end = omega (arith, h .onward) in
+    let same : line (holding (v .framing) (take count w)) (drop count w) ≡ viewCall v chunk =
+    ap (line (viewed v chunk)) (drop-drop count (v .from) chunk ∙ ap (λ (n : ℕ). drop n chunk) end) in
+    let g : KeepsCall (viewCall v chunk) count w k buf buf′ = subst (λ (c : Called). KeepsCall c count w k buf buf′) same kept in
+    let size : length (viewCall v chunk .held) ≡ k .end - k .from = ap length (sym (g .held)) ∙ part-size (k .from) (k .end) w (g .inside) (g .there) in
+    answers
+    (view-accepted v (length buf) (length chunk) (inside-is v (length chunk) h) room few)
+    (g .values)
+    (record {
+      end = omega (arith, g .ends);
+      from = omega (arith, g .inside);
+      state = ap (holding (v .framing)) (sym (part-rest (v .from) (k .from) (k .end) chunk) ∙ g .held);
+    })
+    (g .buffer)

@@ -1,0 +1,90 @@
+-- `frame::answer::answer` meets its contract: the answer is made by where the scan stopped.
+-- Assumes nothing.
+use Prim.Native.Nat.{_+_, _≤_}
+use native.Mathlib.Omega.{arith}
+use mathlib.Core.Path.{_≡_, subst}
+use lib.ListN.{drop, length-drop}
+use Rattle.frame.specs.Checks.{cut, frame}
+use Rattle.frame.specs.Framing.{judge}
+use Rattle.frame.specs.Judged.{payloadAt}
+use Rattle.frame.specs.Scan.{stopOf, Usable}
+use Rattle.frame.specs.declared.scan.ScanEnd.{ScanEnd}
+use Rattle.frame.proofs.Framings.{undecided-short, payload-there, limit-most}
+use Rattle.frame.proofs.Readers.{kept-frame, kept-undecided, kept-passed}
+use borrow.Author.Needs.{needs}
+use Rattle.frame.proofs.answer.answer.Statement.{statement}
+use Rattle.frame.proofs.answer.answer.Tie as tie
+
+-- What is known at a frame.
+at-frame : (k : tie.After-known-told) →
+    let r = k .before .before .before .before .args .found in
+    let a = k .before .before .before .before .args in
+    let at = drop (r .place) (a .w .now) in
+    (judge (a .framing) at ≡ frame (k .before .end .given .0 .0) (payloadAt (a .framing) at (k .before .end .given .0 .1 .0)))
+    × (r .place + k .before .end .given .0 .0 ≤ r .reach)
+    × (r .reach ≤ r .place + 517)
+at-frame k =
+    let a = k .before .before .before .before .args in
+    let r = a .found in
+    subst (λ (e : ScanEnd). Usable (stopOf (a .framing) (drop (r .place) (a .w .now)) e) (a .framing) (a .w .now) (r .place) (r .reach))
+    (k .before .end .given .1) (k .before .before .before .before .pre .usable)
+
+add-noise : tie.Need-add-noise
+add-noise c = search needs
+
+enum-known-end : tie.Need-enum-known-end
+enum-known-end c = search needs
+
+sub-taken : tie.Need-sub-taken
+sub-taken c = search needs
+
+add-t15 : tie.Need-add-t15
+add-t15 c = omega (arith, at-frame (c .before) .1)
+
+enum-told : tie.Need-enum-told
+enum-told c = search needs
+
+enum-told-2 : tie.Need-enum-told-2
+enum-told-2 c = search needs
+
+returns : tie.Need-returns
+returns c =
+    let d = c .before .before .before .before .before in
+    let a = d .args in
+    let r = a .found in
+    let used = c .before .before .end .given .0 .0 in
+    let len = c .before .before .end .given .0 .1 .0 in
+    let f = at-frame (c .before) in
+    kept-frame (a .framing) (a .w .now) (a .before) (r .place) (r .reach) (r .end) used len (c .before .before .end .given .1)
+    (payload-there (a .framing) (drop (r .place) (a .w .now)) used len (f .0) .1) (f .1) (d .pre .there) (f .2)
+
+returns-2 : tie.Need-returns-2
+returns-2 c =
+    let d = c .before .before .before in
+    let a = d .args in
+    let r = a .found in
+    let at = drop (r .place) (a .w .now) in
+    let e : judge (a .framing) at ≡ cut =
+    subst (λ (e : ScanEnd). Usable (stopOf (a .framing) at e) (a .framing) (a .w .now) (r .place) (r .reach)) (c .enum-told .given .1) (d .pre .usable)
+    in
+    kept-undecided (a .framing) (a .w .now) (a .before) (r .place) (r .reach) (r .end) (c .enum-told .given .1) (d .pre .inside)
+    (omega (arith, undecided-short (a .framing) at e, limit-most (a .framing), length-drop (r .place) (a .w .now)))
+
+returns-3 : tie.Need-returns-3
+returns-3 c =
+    let a = c .before .before .before .args in
+    kept-passed (a .framing) (a .w .now) (a .before) (a .found .place) (a .found .reach) (a .found .end) (c .enum-told2 .given .1)
+
+pub answer-spec : {M : Type 1} → statement M
+answer-spec =
+    tie.close
+    (tie.spec
+    add-noise
+    enum-known-end
+    sub-taken
+    add-t15
+    enum-told
+    enum-told-2
+    returns
+    returns-2
+    returns-3)

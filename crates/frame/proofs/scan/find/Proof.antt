@@ -1,0 +1,104 @@
+-- `frame::scan::find` meets its contract: a frame that was found is taken out at its place.
+-- Assumes nothing.
+use Prim.Native.Nat.{ℕ}
+use native.Mathlib.Omega.{arith}
+use mathlib.Core.Logic.{⊎-elim}
+use mathlib.Core.List.{List}
+use mathlib.Core.Path.{_≡_, refl, sym, ap, _∙_, subst}
+use lib.ListN.{drop}
+use Rattle.frame.specs.Framing.{inFront}
+use Rattle.frame.specs.Judged.{payloadAt, Packed}
+use Rattle.frame.specs.Scan.{stopOf, scanned, stopBuffer}
+use Rattle.frame.specs.declared.scan.ScanEnd.{ScanEnd}
+use Rattle.frame.specs.declared.scan.ScanEnd.the-variants.{Frame, Undecided, Passed}
+use Rattle.frame.specs.declared.framing.Framing.{Framing}
+use Rattle.frame.proofs.Framings.{payload-there, payload-packed, payload-size}
+use Rattle.frame.proofs.Lists.{take-rest}
+use Rattle.frame.proofs.Scanning.{AtFrame, scan-found-from}
+use borrow.Author.Needs.{needs}
+use Rattle.frame.proofs.scan.find.Statement.{statement}
+use Rattle.frame.proofs.scan.find.Tie as tie
+
+-- What is known where the scan stopped at a frame.
+at-frame : (k : tie.After-known-told) →
+    let a = k .before .before .before .before .before .before .args in
+    let r = k .before .before .before .scan .result in
+    AtFrame (a .framing) (a .s .now) (a .stop) (r .place) (r .reach) (k .before .end .given .0 .0)
+    (payloadAt (a .framing) (drop (r .place) (a .s .now)) (k .before .end .given .0 .1 .0))
+at-frame k =
+    let a = k .before .before .before .before .before .before .args in
+    let r = k .before .before .before .scan .result in
+    let pre = k .before .before .before .before .before .before .pre in
+    scan-found-from (a .ended) (a .framing) (a .s .now) (a .stop) (a .from) (a .reach) (pre .1) (pre .2) (pre .0) (scanned (a .framing) (a .s .now) r)
+    (k .before .before .before .scan .ensures) _ _ (ap (stopOf (a .framing) (drop (r .place) (a .s .now))) (k .before .end .given .1))
+
+-- Where it stopped at no frame, the buffer is as it came.
+no-frame : (f : Framing) (s buf : List ℕ) (e : ScanEnd) → ((used len : ℕ) → e ≡ Frame used len → ⊥) → stopBuffer (stopOf f s e) buf ≡ buf
+no-frame f s buf (Frame used len) h = absurd (h used len refl)
+no-frame f s buf Undecided h = refl
+no-frame f s buf Passed h = refl
+
+scan-requires : tie.Need-scan-requires
+scan-requires c κs = search needs
+
+enum-known-end : tie.Need-enum-known-end
+enum-known-end c = search needs
+
+sub-unpack : tie.Need-sub-unpack
+sub-unpack c = omega (arith, at-frame c .before)
+
+part-unpack-start : tie.Need-part-unpack-start
+part-unpack-start c = omega (arith, at-frame c .before)
+
+part-unpack-end : tie.Need-part-unpack-end
+part-unpack-end c = search needs
+
+unpack-requires : tie.Need-unpack-requires
+unpack-requires c κs =
+    let a = c .before .before .before .before .before .before .before .before .args in
+    let place = c .before .before .before .before .before .scan .result .place in
+    let at = drop place (a .s .now) in
+    let used = c .before .before .before .end .given .0 .0 in
+    let len = c .before .before .before .end .given .0 .1 .0 in
+    let e = at-frame (c .before .before) .is-frame in (
+      subst (λ (l : List ℕ). Packed (a .framing) l len) (sym (take-rest (a .s .now) place)) (payload-packed (a .framing) at used len e),
+      omega (arith, payload-there (a .framing) at used len e .1, payload-size (a .framing) at (payloadAt (a .framing) at len) used e .1),
+    )
+
+same-length : tie.Need-same-length
+same-length c = search needs
+
+returns : tie.Need-returns
+returns c =
+    let a = c .before .before .before .before .before .before .before .before .before .before .before .args in
+    let r = c .before .before .before .before .before .before .before .before .scan .result in
+    let at = drop (r .place) (a .s .now) in
+    let len = c .before .before .before .before .before .before .end .given .0 .1 .0 in (
+      c .before .before .before .before .before .before .before .before .scan .ensures,
+      c .before .before .unpack .ensures
+          ∙ ap (λ (l : List ℕ). inFront (payloadAt (a .framing) l len) (a .buf .now)) (take-rest (a .s .now) (r .place))
+          ∙ sym (ap (λ (e : ScanEnd). stopBuffer (stopOf (a .framing) at e) (a .buf .now)) (c .before .before .before .before .before .before .end .given .1)),
+    )
+
+returns-2 : tie.Need-returns-2
+returns-2 c =
+    let a = c .before .before .before .before .args in
+    let r = c .before .scan .result in (
+      c .before .scan .ensures,
+      sym (no-frame (a .framing) (drop (r .place) (a .s .now)) (a .buf .now) (r .end)
+          (λ used len e. ⊎-elim (λ (q : _). let z : _≡_ {A = ℕ} 1 0 = cc in omega arith) (λ q. let z : _≡_ {A = ℕ} 2 0 = cc in omega arith) (c .match .keys2))),
+    )
+
+pub find-spec : {M : Type 1} → statement M
+find-spec =
+    tie.close
+    (tie.spec
+    scan-requires
+    enum-known-end
+    sub-unpack
+    part-unpack-start
+    part-unpack-end
+    unpack-requires
+    same-length
+    returns
+    returns-2)
