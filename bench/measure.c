@@ -1,7 +1,8 @@
 // measure ROUNDS INPUT COMMAND...: the CPU time of commands that read the same input, as a row of a table.
 //
-// The commands take turns, so that whatever else the machine does meets all of them. Each is one argument, split at spaces. The row has the first
-// command's least time in ms and then, for each command, its least time and its lower quartile as ratios to that.
+// The commands take turns in each round, so that whatever else the machine does meets all of them. Each is one argument, split at spaces. The row has
+// the median of the first command's times in ms and then, for each command, the median over the rounds of its time as a ratio to the first command's in
+// the same round.
 
 #include <fcntl.h>
 #include <stdio.h>
@@ -69,6 +70,26 @@ static int ascending(const void *a, const void *b)
     return (x > y) - (x < y);
 }
 
+// Of an even number of values, the mean of the two in the middle. Sorts the values.
+static double median(double *values, int count)
+{
+    qsort(values, (size_t)count, sizeof *values, ascending);
+    return (values[(count - 1) / 2] + values[count / 2]) / 2;
+}
+
+// Prints the row. `times` has the rounds of the first command, then those of the second, and so on; `values` has room for one command's.
+static void print_row(const double *times, int count, int rounds, double *values)
+{
+    memcpy(values, times, (size_t)rounds * sizeof *values);
+    printf("%9.1f", median(values, rounds));
+    for (int c = 0; c < count; c++) {
+        for (int round = 0; round < rounds; round++)
+            values[round] = times[c * rounds + round] / times[round];
+        printf("%9.2f", median(values, rounds));
+    }
+    printf("\n");
+}
+
 int main(int argc, char **argv)
 {
     int rounds = argc > 3 ? atoi(argv[1]) : 0;
@@ -78,16 +99,12 @@ int main(int argc, char **argv)
         return 2;
     }
     double *times = calloc((size_t)rounds * (size_t)count, sizeof *times);
-    if (times == NULL)
+    double *values = calloc((size_t)rounds, sizeof *values);
+    if (times == NULL || values == NULL)
         fail("calloc");
     for (int round = 0; round < rounds; round++)
         for (int c = 0; c < count; c++)
             times[c * rounds + round] = cpu_time(argv[3 + c], argv[2]);
-    for (int c = 0; c < count; c++)
-        qsort(times + c * rounds, (size_t)rounds, sizeof *times, ascending);
-    printf("%9.1f", times[0]);
-    for (int c = 0; c < count; c++)
-        printf("%8.2f %5.2f", times[c * rounds] / times[0], times[c * rounds + rounds / 4] / times[0]);
-    printf("\n");
+    print_row(times, count, rounds, values);
     return 0;
 }
