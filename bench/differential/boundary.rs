@@ -66,7 +66,7 @@ pub struct ToModule {
     pub address: u8,
     pub command: u8,
     pub response_id: u8,
-    pub far: u32,
+    pub extended: u32,
     pub options: Options,
     pub signals: u16,
     pub mask: u16,

@@ -59,7 +59,7 @@ fn report(tally: &Tally, total: u64) {
         println!("  {what}: {count}");
     }
     println!("  segments by the leftmost rule: {} frames, {} bytes of noise", tally.frames, tally.noise);
-    println!("  kinds read to the module (refused, simple, extended, extended far, change): {:?}", &tally.to_kinds[..5]);
+    println!("  kinds read to the module (refused, simple, extended, to an extended address, change): {:?}", &tally.to_kinds[..5]);
     println!("  kinds read from the module (refused, simple, extended, response, standard, remote): {:?}", tally.from_kinds);
     for number in (1..=16).chain([255]) {
         println!("  refusal {number}: {}", tally.refusals[number]);

@@ -8,7 +8,7 @@ fn plain(address: u8) -> bool {
     matches!(address, 0 | 1..=100 | 120)
 }
 
-fn far(address: u32) -> bool {
+fn is_extended(address: u32) -> bool {
     matches!(address, 0..=0xFFFF | 0x8000_0000..=0xFFFF_FFFE)
 }
 
@@ -111,11 +111,11 @@ fn extended_to(p: &[u8], blank: ToModule, at: usize) -> Result<ToModule, u8> {
         return Err(7);
     }
     let to = if at == 7 { long(p, 3) } else { 0 };
-    if !far(to) {
+    if !is_extended(to) {
         return Err(8);
     }
     let (options, start) = options(p, at).ok_or(10)?;
-    Ok(ToModule { response_id: p[2], far: to, options, start, ..blank })
+    Ok(ToModule { response_id: p[2], extended: to, options, start, ..blank })
 }
 
 fn change(p: &[u8], blank: ToModule) -> Result<ToModule, u8> {
@@ -204,8 +204,8 @@ pub fn request(m: &ToModule, data: &[u8]) -> Result<Vec<u8>, u8> {
         1 => vec![m.address, m.command],
         2 if !plain(m.address) => return Err(8),
         2 => vec![m.address, 0xA0, m.response_id],
-        3 if !far(m.far) => return Err(8),
-        3 => [&[0x80, 0xA0, m.response_id], &m.far.to_be_bytes()[..]].concat(),
+        3 if !is_extended(m.extended) => return Err(8),
+        3 => [&[0x80, 0xA0, m.response_id], &m.extended.to_be_bytes()[..]].concat(),
         _ => return Err(UNKNOWN),
     };
     if m.kind != 1 {

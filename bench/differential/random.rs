@@ -188,7 +188,7 @@ pub fn storm(r: &mut Random, f: Framing, size: usize) -> Vec<u8> {
 
 const ADDRESSES: [u8; 12] = [0, 1, 2, 99, 100, 101, 119, 120, 121, 0x7F, 0x80, 0xDB];
 const COMMANDS: [u8; 12] = [0, 1, 0x7F, 0x80, 0x81, 0x82, 0xA0, 0xA0, 0xA1, 0xA2, 0xF2, 0xFF];
-const FAR: [u32; 10] = [0, 1, 0xFFFF, 0x10000, 0x7FFF_FFFF, 0x8000_0000, 0x8000_0001, 0xFFFF_FFFD, 0xFFFF_FFFE, 0xFFFF_FFFF];
+const EXTENDED: [u32; 10] = [0, 1, 0xFFFF, 0x10000, 0x7FFF_FFFF, 0x8000_0000, 0x8000_0001, 0xFFFF_FFFD, 0xFFFF_FFFE, 0xFFFF_FFFF];
 
 fn address(r: &mut Random) -> u8 {
     match r.below(8) {
@@ -198,10 +198,10 @@ fn address(r: &mut Random) -> u8 {
     }
 }
 
-fn far(r: &mut Random) -> u32 {
+fn extended_address(r: &mut Random) -> u32 {
     match r.below(4) {
         0 => r.next() as u32,
-        _ => r.pick(&FAR),
+        _ => r.pick(&EXTENDED),
     }
 }
 
@@ -255,7 +255,7 @@ fn extended_to(r: &mut Random) -> Vec<u8> {
     let mut s = vec![address(r), 0xA0, r.byte()];
     if r.once_in(3) {
         s[0] = 0x80;
-        s.extend(far(r).to_be_bytes());
+        s.extend(extended_address(r).to_be_bytes());
     }
     s.extend(option_string(r));
     if r.once_in(12) {
@@ -357,7 +357,7 @@ pub fn to_module(r: &mut Random) -> ToModule {
         address: address(r),
         command: r.pick(&COMMANDS),
         response_id: r.byte(),
-        far: far(r),
+        extended: extended_address(r),
         options,
         signals: r.next() as u16,
         mask: r.next() as u16,
@@ -401,8 +401,8 @@ pub fn from_module(r: &mut Random) -> FromModule {
         response_id: r.byte(),
         result: r.pick(&[0, 1, 0, 1, 2, 0xFF]),
         lqi: r.byte(),
-        source: far(r),
-        destination: far(r),
+        source: extended_address(r),
+        destination: extended_address(r),
         status,
         start: r.next() as usize,
     }

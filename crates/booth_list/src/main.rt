@@ -29,6 +29,7 @@ fn write_text(answer: ListAnswer, out: &[u8]) -> bool
     }
 }
 
+// The noise of an answer, which is none where it is refused.
 fn noise_of(answer: ListAnswer) -> u64
     ensures { λ r. ⌜ r ≡ valuesOf answer .noise ⌝ }
 {

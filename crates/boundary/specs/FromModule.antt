@@ -17,7 +17,10 @@ use Rattle.message.specs.declared.from_module.Response.{Response}
 use Rattle.message.specs.declared.from_module.Notice.{Notice}
 use Rattle.message.specs.declared.from_module.Notice.the-variants.{Response as IsResponse, Standard, Remote}
 use Rattle.boundary.specs.Framing.{unknownNumber}
+use Rattle.boundary.specs.Single.{WritesFlat}
 use Rattle.boundary.specs.Status.{noStatus, standardPart, remotePart, standardIn, remoteIn}
+use Rattle.boundary.specs.declared.framing.NamedFraming.{NamedFraming}
+use Rattle.boundary.specs.declared.single.FlatWriting.{FlatWriting}
 use Rattle.boundary.specs.declared.status.StatusNumbers.{StatusNumbers}
 use Rattle.boundary.specs.declared.from_module.FromModuleNumbers.{FromModuleNumbers}
 use Rattle.boundary.specs.declared.from_module.NamedDelivery.{NamedDelivery}
@@ -173,3 +176,10 @@ abbrev pub noticeLayoutIn : NamedNotice → List ℕ
 noticeLayoutIn (KnownNotice m) = noticeLayout m
 noticeLayoutIn BadResult = []
 noticeLayoutIn NoNotice = []
+
+-- The promise of a write of such a message into buf, which then holds `after`.
+abbrev pub WritesDelivery : NamedFraming → NamedDelivery → List ℕ → List ℕ → FlatWriting → List ℕ → Type 0
+WritesDelivery f d dat buf answer after = WritesFlat f (deliveryRefusalIn d) (deliveryLayoutIn d dat) buf answer after
+
+abbrev pub WritesNotice : NamedFraming → NamedNotice → List ℕ → FlatWriting → List ℕ → Type 0
+WritesNotice f m buf answer after = WritesFlat f (noticeRefusalIn m) (noticeLayoutIn m) buf answer after

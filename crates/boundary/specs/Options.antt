@@ -1,4 +1,5 @@
--- The options of an extended message as numbers: for each whether it is given, and its argument, which is 0 in reading and is not looked at in writing where it is not.
+-- The options of an extended message as numbers: for each whether it is given, and its argument. The argument of an option that is not given is 0 in
+-- reading and is not looked at in writing.
 use Prim.Native.Nat.{ℕ}
 use mathlib.Core.Bool.{Bool, true, false}
 use Rattle.message.specs.Options.{byteGiven, wordGiven}

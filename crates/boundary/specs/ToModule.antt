@@ -5,15 +5,18 @@ use mathlib.Core.List.{List, []}
 use mathlib.Core.Bool.{cond}
 use lib.Dec.{eqb}
 use Rattle.message.specs.Meaning.{Meaning, refused, carrying, bare}
-use Rattle.message.specs.ToModule.{requestRefusal, requestLayout, changeRefusal}
+use Rattle.message.specs.ToModule.{requestRefusal, requestLayout, changeRefusal, changeLayout}
 use Rattle.message.specs.declared.to_module.Address.{Address}
-use Rattle.message.specs.declared.to_module.Address.the-variants.{Plain, Extended as Far}
+use Rattle.message.specs.declared.to_module.Address.the-variants.{Plain, Extended}
 use Rattle.message.specs.declared.to_module.Transmission.{Transmission}
 use Rattle.message.specs.declared.to_module.Request.{Request}
 use Rattle.message.specs.declared.to_module.Request.the-variants.{Simple as SimpleRequest, Extended as ExtendedRequest}
 use Rattle.message.specs.declared.to_module.OutputChange.{OutputChange}
 use Rattle.boundary.specs.Framing.{unknownNumber}
+use Rattle.boundary.specs.Single.{WritesFlat}
 use Rattle.boundary.specs.Options.{noNumbers, optionNumbers, optionsIn}
+use Rattle.boundary.specs.declared.framing.NamedFraming.{NamedFraming}
+use Rattle.boundary.specs.declared.single.FlatWriting.{FlatWriting}
 use Rattle.boundary.specs.declared.to_module.ToModuleNumbers.{ToModuleNumbers}
 use Rattle.boundary.specs.declared.to_module.NamedRequest.{NamedRequest}
 use Rattle.boundary.specs.declared.to_module.NamedRequest.the-variants.{Known, Unknown}
@@ -21,15 +24,15 @@ use Rattle.boundary.specs.declared.to_module.NamedRequest.the-variants.{
 -- A plain address, an extended one, and the kind of an extended message to it.
 abbrev pub plainOf : Address → ℕ
 plainOf (Plain a) = a
-plainOf (Far w) = 0
+plainOf (Extended w) = 0
 
-abbrev pub farOf : Address → ℕ
-farOf (Plain a) = 0
-farOf (Far w) = w
+abbrev pub extendedOf : Address → ℕ
+extendedOf (Plain a) = 0
+extendedOf (Extended w) = w
 
 abbrev pub addressKind : Address → ℕ
 addressKind (Plain a) = 2
-addressKind (Far w) = 3
+addressKind (Extended w) = 3
 
 -- A refusal: its number with zeros beside it.
 abbrev pub refusedTo : ℕ → ToModuleNumbers
@@ -40,7 +43,7 @@ refusedTo n =
       address = 0;
       command = 0;
       «response_id» = 0;
-      far = 0;
+      extended = 0;
       options = noNumbers;
       signals = 0;
       mask = 0;
@@ -56,7 +59,7 @@ transmissionNumbers m start =
       address = plainOf (m .address);
       command = 0;
       «response_id» = m .«response_id»;
-      far = farOf (m .address);
+      extended = extendedOf (m .address);
       options = optionNumbers (m .options);
       signals = 0;
       mask = 0;
@@ -71,7 +74,7 @@ requestNumbers (SimpleRequest m) start =
       address = m .address;
       command = m .command;
       «response_id» = 0;
-      far = 0;
+      extended = 0;
       options = noNumbers;
       signals = 0;
       mask = 0;
@@ -87,7 +90,7 @@ changeNumbers m =
       address = m .address;
       command = 0;
       «response_id» = 0;
-      far = 0;
+      extended = 0;
       options = noNumbers;
       signals = m .signals;
       mask = m .mask;
@@ -108,7 +111,7 @@ unfoldable pub requestIn : ToModuleNumbers → NamedRequest
 requestIn n =
     cond (eqb (n .kind) 1) (Known (SimpleRequest (record { address = n .address; command = n .command })))
     (cond (eqb (n .kind) 2) (Known (ExtendedRequest (transmissionIn (Plain (n .address)) n)))
-    (cond (eqb (n .kind) 3) (Known (ExtendedRequest (transmissionIn (Far (n .far)) n))) Unknown))
+    (cond (eqb (n .kind) 3) (Known (ExtendedRequest (transmissionIn (Extended (n .extended)) n))) Unknown))
 
 abbrev pub changeIn : ToModuleNumbers → OutputChange
 changeIn n = record { address = n .address; signals = n .signals; mask = n .mask }
@@ -124,3 +127,10 @@ requestLayoutIn Unknown dat = []
 
 abbrev pub changeRefusalIn : ToModuleNumbers → ℕ
 changeRefusalIn n = cond (eqb (n .kind) 4) (changeRefusal (changeIn n)) unknownNumber
+
+-- The promise of a write of such a message into buf, which then holds `after`.
+abbrev pub WritesRequest : NamedFraming → NamedRequest → List ℕ → List ℕ → FlatWriting → List ℕ → Type 0
+WritesRequest f q dat buf answer after = WritesFlat f (requestRefusalIn q) (requestLayoutIn q dat) buf answer after
+
+abbrev pub WritesChange : NamedFraming → ToModuleNumbers → List ℕ → FlatWriting → List ℕ → Type 0
+WritesChange f n buf answer after = WritesFlat f (changeRefusalIn n) (changeLayout (changeIn n)) buf answer after

@@ -20,9 +20,8 @@ use message::StandardStatus;
 ghost use mathlib.Core.Path.{_≡_};
 ghost use Rattle.message.specs.FromModule.{fromModuleOf, readFromModule, outcomeByte};
 ghost use Rattle.boundary.specs.Framing.{framingOf};
-ghost use Rattle.boundary.specs.Single.{WritesFlat};
 ghost use Rattle.boundary.specs.FromModule.{deliveryNumbers, responseNumbers, standardNumbers, remoteNumbers, noticeNumbers, fromModuleNumbers};
-ghost use Rattle.boundary.specs.FromModule.{deliveryIn, responseIn, noticeIn, deliveryRefusalIn, deliveryLayoutIn, noticeRefusalIn, noticeLayoutIn};
+ghost use Rattle.boundary.specs.FromModule.{deliveryIn, responseIn, noticeIn, WritesDelivery, WritesNotice};
 
 // A message from the module. `kind` is 0 for a refusal, 1 for a simple message, 2 for an extended one, 3 for a response, 4 for a standard status, 5 for a
 // remote status. `address` is the sender's, `response_id` also a response's own ID, `lqi` also a status's. Fields that the kind does not have are 0 in an
@@ -41,6 +40,21 @@ pub struct FromModuleNumbers {
     pub status: StatusNumbers,
     pub start: usize,
 }
+
+// All fields 0.
+const NO_MESSAGE: FromModuleNumbers = FromModuleNumbers {
+    kind: 0,
+    refusal: 0,
+    address: 0,
+    command: 0,
+    response_id: 0,
+    result: 0,
+    lqi: 0,
+    source: 0,
+    destination: 0,
+    status: NO_STATUS,
+    start: 0,
+};
 
 // The message with data that numbers stand for, if any.
 pub(crate) enum NamedDelivery {
@@ -71,29 +85,20 @@ fn delivery_numbers(delivery: Delivery, start: usize) -> FromModuleNumbers
     match delivery {
         Delivery::Simple(m) => FromModuleNumbers {
             kind: 1,
-            refusal: 0,
             address: m.address,
             command: m.command,
-            response_id: 0,
-            result: 0,
-            lqi: 0,
-            source: 0,
-            destination: 0,
-            status: NO_STATUS,
             start: start,
+            ..NO_MESSAGE
         },
         Delivery::Extended(m) => FromModuleNumbers {
             kind: 2,
-            refusal: 0,
             address: m.sender,
-            command: 0,
             response_id: m.response_id,
-            result: 0,
             lqi: m.lqi,
             source: m.source,
             destination: m.destination,
-            status: NO_STATUS,
             start: start,
+            ..NO_MESSAGE
         },
     }
 }
@@ -104,16 +109,9 @@ fn response_numbers(m: Response) -> FromModuleNumbers
     let outcome = m.outcome;
     FromModuleNumbers {
         kind: 3,
-        refusal: 0,
-        address: 0,
-        command: 0,
         response_id: m.id,
         result: outcome_number(outcome),
-        lqi: 0,
-        source: 0,
-        destination: 0,
-        status: NO_STATUS,
-        start: 0,
+        ..NO_MESSAGE
     }
 }
 
@@ -122,14 +120,8 @@ fn standard_numbers(s: StandardStatus) -> FromModuleNumbers
 {
     FromModuleNumbers {
         kind: 4,
-        refusal: 0,
         address: s.sender,
-        command: 0,
-        response_id: 0,
-        result: 0,
         lqi: s.lqi,
-        source: 0,
-        destination: 0,
         status: StatusNumbers {
             identifier: s.identifier,
             serial: s.serial,
@@ -145,11 +137,9 @@ fn standard_numbers(s: StandardStatus) -> FromModuleNumbers
             ad3: s.ad3,
             ad4: s.ad4,
             correction: s.correction,
-            signals: 0,
-            mask: 0,
-            interrupts: 0,
+            ..NO_STATUS
         },
-        start: 0,
+        ..NO_MESSAGE
     }
 }
 
@@ -158,34 +148,20 @@ fn remote_numbers(s: RemoteStatus) -> FromModuleNumbers
 {
     FromModuleNumbers {
         kind: 5,
-        refusal: 0,
         address: s.sender,
-        command: 0,
-        response_id: 0,
-        result: 0,
         lqi: s.lqi,
-        source: 0,
-        destination: 0,
         status: StatusNumbers {
-            identifier: 0,
             serial: s.serial,
             destination: s.destination,
             time: s.time,
             relays: s.relays,
-            supply: 0,
             unused: s.unused,
-            di: 0,
-            di_changed: 0,
-            ad1: 0,
-            ad2: 0,
-            ad3: 0,
-            ad4: 0,
-            correction: 0,
             signals: s.signals,
             mask: s.mask,
             interrupts: s.interrupts,
+            ..NO_STATUS
         },
-        start: 0,
+        ..NO_MESSAGE
     }
 }
 
@@ -206,17 +182,8 @@ fn from_module_numbers(answer: FromModule) -> FromModuleNumbers
         FromModule::Delivery { delivery, start } => delivery_numbers(delivery, start),
         FromModule::Notice(notice) => notice_numbers(notice),
         FromModule::Refused(refusal) => FromModuleNumbers {
-            kind: 0,
             refusal: refusal.number(),
-            address: 0,
-            command: 0,
-            response_id: 0,
-            result: 0,
-            lqi: 0,
-            source: 0,
-            destination: 0,
-            status: NO_STATUS,
-            start: 0,
+            ..NO_MESSAGE
         },
     }
 }
@@ -293,7 +260,7 @@ pub extern "C" fn boundary_write_delivery(
     data: &[u8],
     buf: &mut [u8],
 ) -> FlatWriting
-    ensures { λ r. ⌜ WritesFlat (framingOf framing) (deliveryRefusalIn (deliveryIn delivery)) (deliveryLayoutIn (deliveryIn delivery) (now («data» .entry))) (now (buf .entry)) r (now (buf .exit)) ⌝ }
+    ensures { λ r. ⌜ WritesDelivery (framingOf framing) (deliveryIn delivery) (now («data» .entry)) (now (buf .entry)) r (now (buf .exit)) ⌝ }
 {
     let NamedFraming::Known(f) = framing_of(framing) else {
         return unwritten(255);
@@ -312,7 +279,7 @@ pub extern "C" fn boundary_write_notice(
     notice: FromModuleNumbers,
     buf: &mut [u8],
 ) -> FlatWriting
-    ensures { λ r. ⌜ WritesFlat (framingOf framing) (noticeRefusalIn (noticeIn notice)) (noticeLayoutIn (noticeIn notice)) (now (buf .entry)) r (now (buf .exit)) ⌝ }
+    ensures { λ r. ⌜ WritesNotice (framingOf framing) (noticeIn notice) (now (buf .entry)) r (now (buf .exit)) ⌝ }
 {
     let NamedFraming::Known(f) = framing_of(framing) else {
         return unwritten(255);

@@ -15,11 +15,10 @@ use message::Simple;
 use message::ToModule;
 use message::Transmission;
 ghost use mathlib.Core.Path.{_≡_};
-ghost use Rattle.message.specs.ToModule.{toModuleOf, readToModule, changeLayout};
+ghost use Rattle.message.specs.ToModule.{toModuleOf, readToModule};
 ghost use Rattle.boundary.specs.Framing.{framingOf};
-ghost use Rattle.boundary.specs.Single.{WritesFlat};
 ghost use Rattle.boundary.specs.ToModule.{transmissionNumbers, requestNumbers, toModuleNumbers};
-ghost use Rattle.boundary.specs.ToModule.{transmissionIn, requestIn, changeIn, requestRefusalIn, requestLayoutIn, changeRefusalIn};
+ghost use Rattle.boundary.specs.ToModule.{transmissionIn, requestIn, WritesRequest, WritesChange};
 
 // A message to the module. `kind` is 0 for a refusal, 1 for a simple message, 2 for an extended one to a plain address, 3 for an extended one to an
 // extended address, 4 for a change of outputs. Fields that the kind does not have are 0 in an answer, and are not looked at in a write; `refusal` and
@@ -31,12 +30,26 @@ pub struct ToModuleNumbers {
     pub address: u8,
     pub command: u8,
     pub response_id: u8,
-    pub far: u32,
+    pub extended: u32,
     pub options: OptionNumbers,
     pub signals: u16,
     pub mask: u16,
     pub start: usize,
 }
+
+// All fields 0.
+const NO_MESSAGE: ToModuleNumbers = ToModuleNumbers {
+    kind: 0,
+    refusal: 0,
+    address: 0,
+    command: 0,
+    response_id: 0,
+    extended: 0,
+    options: NO_OPTIONS,
+    signals: 0,
+    mask: 0,
+    start: 0,
+};
 
 // The request that numbers stand for, if any.
 pub(crate) enum NamedRequest {
@@ -53,27 +66,19 @@ fn transmission_numbers(m: Transmission, start: usize) -> ToModuleNumbers
     match address {
         Address::Plain(a) => ToModuleNumbers {
             kind: 2,
-            refusal: 0,
             address: a,
-            command: 0,
             response_id: m.response_id,
-            far: 0,
             options: numbers,
-            signals: 0,
-            mask: 0,
             start: start,
+            ..NO_MESSAGE
         },
         Address::Extended(w) => ToModuleNumbers {
             kind: 3,
-            refusal: 0,
-            address: 0,
-            command: 0,
             response_id: m.response_id,
-            far: w,
+            extended: w,
             options: numbers,
-            signals: 0,
-            mask: 0,
             start: start,
+            ..NO_MESSAGE
         },
     }
 }
@@ -84,15 +89,10 @@ fn request_numbers(request: Request, start: usize) -> ToModuleNumbers
     match request {
         Request::Simple(m) => ToModuleNumbers {
             kind: 1,
-            refusal: 0,
             address: m.address,
             command: m.command,
-            response_id: 0,
-            far: 0,
-            options: NO_OPTIONS,
-            signals: 0,
-            mask: 0,
             start: start,
+            ..NO_MESSAGE
         },
         Request::Extended(m) => transmission_numbers(m, start),
     }
@@ -105,27 +105,14 @@ fn to_module_numbers(answer: ToModule) -> ToModuleNumbers
         ToModule::Request { request, start } => request_numbers(request, start),
         ToModule::OutputChange(m) => ToModuleNumbers {
             kind: 4,
-            refusal: 0,
             address: m.address,
-            command: 0,
-            response_id: 0,
-            far: 0,
-            options: NO_OPTIONS,
             signals: m.signals,
             mask: m.mask,
-            start: 0,
+            ..NO_MESSAGE
         },
         ToModule::Refused(refusal) => ToModuleNumbers {
-            kind: 0,
             refusal: refusal.number(),
-            address: 0,
-            command: 0,
-            response_id: 0,
-            far: 0,
-            options: NO_OPTIONS,
-            signals: 0,
-            mask: 0,
-            start: 0,
+            ..NO_MESSAGE
         },
     }
 }
@@ -157,7 +144,10 @@ fn request_in(n: ToModuleNumbers) -> NamedRequest
         )));
     }
     if n.kind == 3 {
-        return NamedRequest::Known(Request::Extended(transmission_in(Address::Extended(n.far), n)));
+        return NamedRequest::Known(Request::Extended(transmission_in(
+            Address::Extended(n.extended),
+            n,
+        )));
     }
     NamedRequest::Unknown
 }
@@ -179,7 +169,7 @@ pub extern "C" fn boundary_write_request(
     data: &[u8],
     buf: &mut [u8],
 ) -> FlatWriting
-    ensures { λ r. ⌜ WritesFlat (framingOf framing) (requestRefusalIn (requestIn request)) (requestLayoutIn (requestIn request) (now («data» .entry))) (now (buf .entry)) r (now (buf .exit)) ⌝ }
+    ensures { λ r. ⌜ WritesRequest (framingOf framing) (requestIn request) (now («data» .entry)) (now (buf .entry)) r (now (buf .exit)) ⌝ }
 {
     let NamedFraming::Known(f) = framing_of(framing) else {
         return unwritten(255);
@@ -198,7 +188,7 @@ pub extern "C" fn boundary_write_output_change(
     change: ToModuleNumbers,
     buf: &mut [u8],
 ) -> FlatWriting
-    ensures { λ r. ⌜ WritesFlat (framingOf framing) (changeRefusalIn change) (changeLayout (changeIn change)) (now (buf .entry)) r (now (buf .exit)) ⌝ }
+    ensures { λ r. ⌜ WritesChange (framingOf framing) change (now (buf .entry)) r (now (buf .exit)) ⌝ }
 {
     let NamedFraming::Known(f) = framing_of(framing) else {
         return unwritten(255);

@@ -1,5 +1,9 @@
 // Drives the line reader over standard input: `digest FRAMING SIZE`, with FRAMING `binary` or `ascii`, feeds it in chunks of SIZE bytes and prints how many
 // frames and how many bytes of noise came out, and a digest of the payloads. The end of the input is the quiet. bench/ compares it with other programs.
+use console::front;
+use console::number;
+use console::print_u64;
+use console::smaller;
 use frame::Fed;
 use frame::FeedAnswer;
 use frame::Framing;
@@ -8,8 +12,7 @@ use frame::Reader;
 use frame::View;
 use libc::STDIN_FILENO;
 use libc::STDOUT_FILENO;
-ghost use lib.ListN.{length};
-ghost use Prim.Native.Nat.{_≤_, _<_};
+ghost use Prim.Native.Nat.{_≤_};
 
 // What has come out so far.
 struct Tally {
@@ -18,6 +21,7 @@ struct Tally {
     digest: u64,
 }
 
+// A reader's state, and what has come out so far.
 struct Driven {
     reader: Reader,
     tally: Tally,
@@ -47,18 +51,17 @@ fn weighted_sum(payload: &[u8]) -> u64 {
 }
 
 // The tally after noise and a frame, whose payload is the first `len` bytes of buf.
-fn counted(tally: Tally, noise: usize, buf: &[u8], len: usize) -> Tally {
-    let end = smaller(len, buf.len());
+fn with_frame(tally: Tally, noise: usize, buf: &[u8], len: usize) -> Tally {
     let digest = tally.digest;
     Tally {
         frames: std::num::wrapping_add_u64(tally.frames, 1),
         noise: std::num::wrapping_add_u64(tally.noise, noise as u64),
-        digest: ((digest << 5) | (digest >> 59)) ^ weighted_sum(&buf[..end]),
+        digest: ((digest << 5) | (digest >> 59)) ^ weighted_sum(front(buf, len)),
     }
 }
 
 // The tally after noise alone.
-fn noisier(tally: Tally, noise: usize) -> Tally {
+fn with_noise(tally: Tally, noise: usize) -> Tally {
     Tally {
         frames: tally.frames,
         noise: std::num::wrapping_add_u64(tally.noise, noise as u64),
@@ -66,22 +69,15 @@ fn noisier(tally: Tally, noise: usize) -> Tally {
     }
 }
 
-// The smaller of two numbers.
-fn smaller(a: usize, b: usize) -> usize
-    ensures { λ r. ⌜ (r ≤ a) × (r ≤ b) ⌝ }
-{
-    if a < b { a } else { b }
-}
-
 // The tally after an answer.
-fn fed_tally(tally: Tally, answer: FeedAnswer, buf: &[u8]) -> Tally {
+fn with_answer(tally: Tally, answer: FeedAnswer, buf: &[u8]) -> Tally {
     match answer {
         FeedAnswer::Frame {
             taken: _,
             noise,
             len,
-        } => counted(tally, noise, buf, len),
-        FeedAnswer::NeedsMore { taken: _, noise } => noisier(tally, noise),
+        } => with_frame(tally, noise, buf, len),
+        FeedAnswer::NeedsMore { taken: _, noise } => with_noise(tally, noise),
         FeedAnswer::Refused(_) => tally,
     }
 }
@@ -108,8 +104,10 @@ fn is_last(answer: FeedAnswer, end: usize, len: usize) -> bool {
 
 // What is offered next: the rest of the chunk behind a frame, else the next chunk.
 fn next_span(answer: FeedAnswer, span: Span, size: usize, len: usize) -> Span
-    requires { ⌜ (span .at ≤ span .end) × (span .end ≤ len) ⌝ }
-    ensures { λ r. ⌜ (r .at ≤ r .end) × (r .end ≤ len) ⌝ }
+    requires { ⌜ span .at ≤ span .end ⌝ }
+    requires { ⌜ span .end ≤ len ⌝ }
+    ensures { λ r. ⌜ r .at ≤ r .end ⌝ }
+    ensures { λ r. ⌜ r .end ≤ len ⌝ }
 {
     let at = span.at;
     let end = span.end;
@@ -158,7 +156,7 @@ fn drive_view(framing: Framing, start: Tally, chunk: &[u8], buf: &mut [u8]) -> D
     while 0 < turns {
         let viewed = view.feed(chunk, buf);
         let answer = viewed.answer;
-        tally = fed_tally(tally, answer, buf);
+        tally = with_answer(tally, answer, buf);
         view = viewed.view;
         if !is_frame(answer) {
             break;
@@ -185,7 +183,7 @@ fn drive(start: Driven, s: &[u8], size: usize) -> Driven {
     let mut turns: u64 = 0x400000;
     while 0 < turns {
         let answer = fed.answer;
-        tally = fed_tally(tally, answer, &buf);
+        tally = with_answer(tally, answer, &buf);
         if is_last(answer, span.end, s.len()) {
             let reader = fed.reader;
             return Driven { reader, tally };
@@ -206,8 +204,8 @@ fn drive(start: Driven, s: &[u8], size: usize) -> Driven {
     Driven { reader, tally }
 }
 
-// The line is quiet: what the reader still holds. A state holds fewer frames than there are turns.
-fn quieted(start: Driven) -> Tally {
+// Makes quiet calls until the reader is empty. A state holds fewer frames than there are turns.
+fn drive_quiet(start: Driven) -> Tally {
     let mut buf = [0u8; 256];
     let mut tally = start.tally;
     let mut last = start.reader.quiet(&mut buf);
@@ -216,10 +214,10 @@ fn quieted(start: Driven) -> Tally {
         let answer = last.answer;
         match answer {
             QuietAnswer::Frame { noise, len } => {
-                tally = counted(tally, noise, &buf, len);
+                tally = with_frame(tally, noise, &buf, len);
             }
             QuietAnswer::Empty { noise } => {
-                return noisier(tally, noise);
+                return with_noise(tally, noise);
             }
             QuietAnswer::Refused(_) => {
                 return tally;
@@ -229,26 +227,6 @@ fn quieted(start: Driven) -> Tally {
         turns -= 1;
     }
     tally
-}
-
-// The number that the digits at the front of s stand for.
-fn number(s: &[u8]) -> usize {
-    let mut n: usize = 0;
-    let mut i = 0;
-    while i < s.len() {
-        if s[i] < b'0' {
-            return n;
-        }
-        if b'9' < s[i] {
-            return n;
-        }
-        if 65536 < n {
-            return n;
-        }
-        n = n * 10 + (s[i] - b'0') as usize;
-        i += 1;
-    }
-    n
 }
 
 // The framing that an argument names by its first letter.
@@ -277,34 +255,15 @@ fn drive_input(framing: Framing, size: usize) -> Tally {
         let got = libc::read(STDIN_FILENO, &mut chunk);
         let n = io::count(got, &chunk);
         if n == 0 {
-            return quieted(driven);
+            return drive_quiet(driven);
         }
         driven = drive(driven, &chunk[..n], size);
         reads -= 1;
     }
-    quieted(driven)
+    drive_quiet(driven)
 }
 
-// A digit of 0-9 A-F.
-fn digit(v: u8) -> u8
-    requires { ⌜ v < 16 ⌝ }
-{
-    if v < 10 { 0x30 + v } else { 0x37 + v }
-}
-
-// Prints a number as 16 digits.
-fn print_hex(n: u64) {
-    let mut text = [0u8; 16];
-    let mut rest = n;
-    let mut i: usize = 16;
-    while 0 < i {
-        i -= 1;
-        text[i] = digit((rest % 16) as u8);
-        rest = rest / 16;
-    }
-    io::write_all(STDOUT_FILENO, &text);
-}
-
+// Takes the framing and the size from the arguments, and prints what came out.
 fn main() {
     let mut word = io::buffer();
     let length = os::arg(1, &mut word);
@@ -321,6 +280,6 @@ fn main() {
     io::write_all(STDOUT_FILENO, b"\nnoise ");
     io::print_decimal(STDOUT_FILENO, tally.noise);
     io::write_all(STDOUT_FILENO, b"\ndigest ");
-    print_hex(tally.digest);
+    print_u64(tally.digest);
     io::write_all(STDOUT_FILENO, b"\n");
 }

@@ -12,9 +12,10 @@ use lib.Dec.{leb, eqb}
 use lib.ListN.{length, getD, take, drop, length-drop, length-map, take-append-drop}
 use lib.Seq.{drop-drop, getD-drop, length-take-le, split-at, take-all, take-take}
 use Rattle.frame.specs.Checks.{Checks, fails, Verdict, cut, refused, frame, behind, run}
-use Rattle.frame.specs.Digit.{digitValue, digitRun, Digits}
-use Rattle.frame.specs.Hex.{sum, decoded}
-use Rattle.frame.specs.Ascii.{colon, carriageReturn, lineFeed, digits, digitCount, afterDigits, ascii, lineEnd, crLf}
+use Rattle.frame.specs.Digit.{digitValue}
+use Rattle.frame.specs.Hex.{sumOf}
+use Rattle.frame.specs.Ascii.{colon, carriageReturn, hexDigits, digitCount, afterDigits, ascii, lineEnd, crLf}
+use Rattle.frame.specs.DigitRuns.{digitRun, Digits, decoded}
 use Rattle.frame.proofs.Numbers.{and-fails}
 use Rattle.frame.proofs.Lists.{drop-last-take}
 use Rattle.frame.proofs.Trees.{behind-behind, pass-byte, fail-byte, cut-byte, frame-behind, refused≢frame, Keeps}
@@ -29,21 +30,21 @@ module _ (room : ℕ) (t : List ℕ → ℕ → Checks) (s : List ℕ) (r : ℕ)
   front = length-take-le r s (h .there)
 
   -- More digits than there is room for.
-  pub counted-many : room < r → run (digits room t) s ≡ refused (suc room) 3
+  pub counted-many : room < r → run (hexDigits room t) s ≡ refused (suc room) 3
   counted-many l =
-      ap (run (digits room t)) (sym (take-append-drop r s))
+      ap (run (hexDigits room t)) (sym (take-append-drop r s))
       ∙ digits-many room t (take r s) (drop r s) (h .digits) (omega (arith, front))
 
   -- Nothing stands behind the digits.
-  pub counted-cut : r ≤ room → length s ≤ r → run (digits room t) s ≡ cut
+  pub counted-cut : r ≤ room → length s ≤ r → run (hexDigits room t) s ≡ cut
   counted-cut l m =
-      ap (run (digits room t)) (sym (take-all r s m)) ∙ digits-cut room t (take r s) (h .digits) (omega (arith, front))
+      ap (run (hexDigits room t)) (sym (take-all r s m)) ∙ digits-cut room t (take r s) (h .digits) (omega (arith, front))
 
   -- A character stands behind the digits.
   pub counted-end : r ≤ room → r < length s
-      → run (digits room t) s ≡ behind (suc r) (run (t (map digitValue (take r s)) (getD s r 0)) (drop (suc r) s))
+      → run (hexDigits room t) s ≡ behind (suc r) (run (t (map digitValue (take r s)) (getD s r 0)) (drop (suc r) s))
   counted-end l m =
-      ap (run (digits room t)) (split-at s r 0 m)
+      ap (run (hexDigits room t)) (split-at s r 0 m)
       ∙ digits-end room t (take r s) (drop (suc r) s) (getD s r 0) (h .digits) (omega (arith, front)) (h .stops (omega arith) m)
       ∙ ap (λ (k : ℕ). behind (suc k) (run (t (map digitValue (take r s)) (getD s r 0)) (drop (suc r) s))) front
 
@@ -62,7 +63,7 @@ no-digit-count n h = and-fails (leb 4 n) (eqb (n % 2) 0) (⊎-elim (λ l. inl (l
 
 -- What stands behind a colon at the front of s, whatever the ending.
 abbrev line : (List ℕ → ℕ → Checks) → List ℕ → Verdict
-line end s = behind 1 (run (digits 514 end) (drop 1 s))
+line end s = behind 1 (run (hexDigits 514 end) (drop 1 s))
 
 -- The values of the digits behind the colon.
 abbrev values : List ℕ → ℕ → List ℕ
@@ -134,11 +135,11 @@ pub record Summed (s : List ℕ) (count n : ℕ) : Type 0 where
   pub stopped : Stopped s count
   pub enough : 4 ≤ count
   pub even : count % 2 ≡ 0
-  pub sum-is : n ≡ sum (decoded (take count (drop 1 s)))
+  pub sum-is : n ≡ sumOf (decoded (take count (drop 1 s)))
 
 module _ {s : List ℕ} {count n : ℕ} (h : Summed s count n) where
   -- The sum modulo 256.
-  line-sum : n % 256 ≡ sum (decoded (take count (drop 1 s))) % 256
+  line-sum : n % 256 ≡ sumOf (decoded (take count (drop 1 s))) % 256
   line-sum = ap (λ (k : ℕ). k % 256) (h .sum-is)
 
   -- The count passes.
@@ -179,43 +180,19 @@ line-character {s} {count} h f = line-fails h crLf 6 (crlf-character (values s c
 pub line-return : (s : List ℕ) (count : ℕ) → getD s (1 + count) 0 ≡ carriageReturn → JudgesAt crLf lineEnd s count
 line-return s count r = crlf-return (values s count) (getD s (1 + count) 0) r
 
-module _ {s : List ℕ} {count n : ℕ} (h : Summed s count n) (r : JudgesAt crLf lineEnd s count) (z : n % 256 ≡ 0) where
-  -- Nothing stands behind CR.
-  pub line-cut : length s ≤ 1 + count + 1 → line crLf s ≡ cut
-  unfolding lineEnd
-  line-cut l = line-ends h crLf lineEnd r z ∙ ap (behind (1 + suc count)) (cut-byte lineFeed 5 _ s (1 + count + 1) l)
-
-  -- Another character than LF.
-  pub line-footer : 1 + count + 1 < length s → (getD s (1 + count + 1) 0 ≡ lineFeed → ⊥) → line crLf s ≡ refused (1 + count + 2) 5
-  unfolding lineEnd
-  line-footer l f =
-      let size : 1 + suc count + 1 ≡ 1 + count + 2 = omega arith in
-      line-ends h crLf lineEnd r z
-      ∙ ap (behind (1 + suc count)) (fail-byte lineFeed 5 _ s (1 + count + 1) l f)
-      ∙ ap (λ (k : ℕ). refused k 5) size
-
-  -- A whole frame.
-  pub line-frame : 1 + count + 1 < length s → getD s (1 + count + 1) 0 ≡ lineFeed
-      → line crLf s ≡ frame (1 + count + 2) (decoded (take (2 * (count / 2 - 1)) (drop 1 s)))
-  unfolding lineEnd
-  line-frame l f =
-      line-ends h crLf lineEnd r z
-      ∙ ap (behind (1 + suc count)) (pass-byte lineFeed 5 _ s (1 + count + 1) l f)
-      ∙ ap (λ (k : ℕ). frame k (decoded (take (2 * (count / 2 - 1)) (drop 1 s)))) (omega arith)
-
 -- The colon, whatever the ending.
 module _ (end : List ℕ → ℕ → Checks) (s : List ℕ) where
   -- Nothing is there.
   pub judge-empty : length s ≡ 0 → run (ascii end) s ≡ cut
   unfolding ascii
-  judge-empty h = cut-byte colon 1 (digits 514 end) s 0 (omega arith)
+  judge-empty h = cut-byte colon 1 (hexDigits 514 end) s 0 (omega arith)
 
   -- Another character than a colon.
   pub judge-start : 0 < length s → (getD s 0 0 ≡ colon → ⊥) → run (ascii end) s ≡ refused 1 1
   unfolding ascii
-  judge-start h e = fail-byte colon 1 (digits 514 end) s 0 h e
+  judge-start h e = fail-byte colon 1 (hexDigits 514 end) s 0 h e
 
   -- Behind the colon, the line is left.
   pub judge-line : 0 < length s → getD s 0 0 ≡ colon → run (ascii end) s ≡ line end s
   unfolding ascii
-  judge-line h e = pass-byte colon 1 (digits 514 end) s 0 h e
+  judge-line h e = pass-byte colon 1 (hexDigits 514 end) s 0 h e

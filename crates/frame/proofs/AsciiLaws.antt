@@ -11,13 +11,16 @@ use borrow.Author.Tests.{le-leb, leb-true, eq-eqb, ne-eqb, eqb-true}
 use lib.Dec.{leb, eqb}
 use lib.ListN.{length, getD, take, drop, length-append, length-map}
 use lib.Seq.{take-at}
-use Rattle.frame.specs.Checks.{Checks, fails, whole, byte, Verdict, cut, refused, frame, behind, run, Bytes, Payload}
-use Rattle.frame.specs.Digit.{isDigit, digitValue, Digits}
-use Rattle.frame.specs.Hex.{hex, pairs, sum, decoded}
+use Rattle.frame.specs.Checks.{Checks, fails, whole, byte, Verdict, cut, refused, frame, behind, run}
+use Rattle.frame.specs.Framing.{layout}
+use Rattle.frame.specs.Digit.{isDigit, digitValue}
+use Rattle.frame.specs.Hex.{hex, pairs, sumOf}
 use Rattle.frame.specs.Ascii.{colon, carriageReturn, lineFeed, checksumOf, asciiFront, asciiEnding}
-use Rattle.frame.specs.Ascii.{asciiLayout, digits, digitCount, afterDigits, ascii, lineEnd, crLf}
+use Rattle.frame.specs.Ascii.{hexDigits, digitCount, afterDigits, ascii, lineEnd, crLf}
+use Rattle.frame.specs.Elements.{Bytes}
 use Rattle.frame.specs.declared.framing.Framing.the-variants.{Ascii}
-use Rattle.frame.specs.Claims.{Spells}
+use Rattle.frame.specs.Claims.{IsLayout, Payload}
+use Rattle.frame.specs.DigitRuns.{Digits, decoded}
 use Rattle.frame.proofs.Numbers.{both-true, and-true}
 use Rattle.frame.proofs.Lists.{bytes-left, bytes-right, bytes-append, drop-last-snoc, drop-last-of}
 use Rattle.frame.proofs.Trees.{behind-behind, Within, within-byte, within-test, within-more, within-whole, run-byte, pass-test}
@@ -34,12 +37,12 @@ pub length-ascii-front : (p : List ℕ) → length (asciiFront p) ≡ 2 * length
 length-ascii-front p = rw ascii-front-is (simp (length-append, length-hex) (omega arith))
 
 -- The sum of payload and checksum is 0 modulo 256.
-pub checksum-sum : (p : List ℕ) → sum (p ++ (checksumOf p ∷ [])) % 256 ≡ 0
+pub checksum-sum : (p : List ℕ) → sumOf (p ++ (checksumOf p ∷ [])) % 256 ≡ 0
 checksum-sum p = rw sum-append (omega arith)
 
 -- No other byte brings that sum to 0 modulo 256.
-pub checksum-only : (p : List ℕ) (b : ℕ) → b < 256 → sum (p ++ (b ∷ [])) % 256 ≡ 0 → b ≡ checksumOf p
-checksum-only p b h e = let z : (sum p + sum (b ∷ [])) % 256 ≡ 0 = rw sum-append at e in omega arith
+pub checksum-only : (p : List ℕ) (b : ℕ) → b < 256 → sumOf (p ++ (b ∷ [])) % 256 ≡ 0 → b ≡ checksumOf p
+checksum-only p b h e = let z : (sumOf p + sumOf (b ∷ [])) % 256 ≡ 0 = rw sum-append at e in omega arith
 
 -- As many digits as a payload and its checksum have are at least four, and an even count.
 pub digit-count : (n : ℕ) → digitCount n ≡ true → (4 ≤ n) × (n % 2 ≡ 0)
@@ -56,18 +59,18 @@ within-either n false t u v w = w
 
 -- Up to `room` digits and one more character are taken before t.
 pub within-digits : (n room : ℕ) (t : List ℕ → ℕ → Checks) → ((ds : List ℕ) (c : ℕ) → Within n (t ds c))
-    → Within (suc (room + n)) (digits room t)
-unfolding digits
+    → Within (suc (room + n)) (hexDigits room t)
+unfolding hexDigits
 within-digits n zero t w = rw zero-add (λ c. within-either n (isDigit c) (fails 3) (t [] c) tt (w [] c))
 within-digits n (suc room) t w =
-    λ c. within-either (suc room + n) (isDigit c) (digits room (λ ds e. t (digitValue c ∷ ds) e)) (t [] c)
+    λ c. within-either (suc room + n) (isDigit c) (hexDigits room (λ ds e. t (digitValue c ∷ ds) e)) (t [] c)
     (rw suc-add (within-digits n room (λ ds e. t (digitValue c ∷ ds) e) (λ ds e. w (digitValue c ∷ ds) e)))
     (within-more n (suc room + n) (t [] c) (omega arith) (w [] c))
 
 -- Digits, as many as there is room for, are taken with a character behind them that is none.
 pub digits-end : (room : ℕ) (t : List ℕ → ℕ → Checks) (ds s : List ℕ) (c : ℕ) → Digits ds → length ds ≤ room → isDigit c ≡ false
-    → run (digits room t) (ds ++ (c ∷ s)) ≡ behind (suc (length ds)) (run (t (map digitValue ds) c) s)
-unfolding digits
+    → run (hexDigits room t) (ds ++ (c ∷ s)) ≡ behind (suc (length ds)) (run (t (map digitValue ds) c) s)
+unfolding hexDigits
 digits-end zero t [] s c d h e = rw e
 digits-end (suc room) t [] s c d h e = rw e
 digits-end zero t (a ∷ ds) s c d h e = absurd (not-suc-le-zero h)
@@ -77,8 +80,8 @@ digits-end (suc room) t (a ∷ ds) s c d h e =
     ∙ behind-behind 1 (suc (length ds)) v ∙ ap (λ (k : ℕ). behind k v) (one-add (suc (length ds))))
 
 -- Nothing stands behind them: cut.
-pub digits-cut : (room : ℕ) (t : List ℕ → ℕ → Checks) (ds : List ℕ) → Digits ds → length ds ≤ room → run (digits room t) ds ≡ cut
-unfolding digits
+pub digits-cut : (room : ℕ) (t : List ℕ → ℕ → Checks) (ds : List ℕ) → Digits ds → length ds ≤ room → run (hexDigits room t) ds ≡ cut
+unfolding hexDigits
 digits-cut zero t [] d h = refl
 digits-cut (suc room) t [] d h = refl
 digits-cut zero t (a ∷ ds) d h = absurd (not-suc-le-zero h)
@@ -87,8 +90,8 @@ digits-cut (suc room) t (a ∷ ds) d h =
 
 -- One digit more than there is room for is refusal 3.
 pub digits-many : (room : ℕ) (t : List ℕ → ℕ → Checks) (ds s : List ℕ) → Digits ds → room < length ds
-    → run (digits room t) (ds ++ s) ≡ refused (suc room) 3
-unfolding digits
+    → run (hexDigits room t) (ds ++ s) ≡ refused (suc room) 3
+unfolding hexDigits
 digits-many room t [] s d h = absurd (not-suc-le-zero h)
 digits-many zero t (a ∷ ds) s d h = rw (d .0)
 digits-many (suc room) t (a ∷ ds) s d h =
@@ -104,14 +107,14 @@ module _ (ds : List ℕ) (rest : List ℕ → Checks) where
 
   module _ (n : digitCount (length ds) ≡ true) where
     -- A sum that is not 0 modulo 256 is refusal 4.
-    pub after-sum : (sum (pairs ds) % 256 ≡ 0 → ⊥) → afterDigits ds rest ≡ fails 4
+    pub after-sum : (sumOf (pairs ds) % 256 ≡ 0 → ⊥) → afterDigits ds rest ≡ fails 4
     unfolding afterDigits
-    after-sum z = pass-test _ 3 _ n ∙ fail-test _ 4 _ (ne-eqb (sum (pairs ds) % 256) 0 z)
+    after-sum z = pass-test _ 3 _ n ∙ fail-test _ 4 _ (ne-eqb (sumOf (pairs ds) % 256) 0 z)
 
     -- Else what is left for the payload.
-    pub after-end : sum (pairs ds) % 256 ≡ 0 → afterDigits ds rest ≡ rest (dropLast (pairs ds))
+    pub after-end : sumOf (pairs ds) % 256 ≡ 0 → afterDigits ds rest ≡ rest (dropLast (pairs ds))
     unfolding afterDigits
-    after-end z = pass-test _ 3 _ n ∙ pass-test _ 4 _ (eq-eqb (sum (pairs ds) % 256) 0 z)
+    after-end z = pass-test _ 3 _ n ∙ pass-test _ 4 _ (eq-eqb (sumOf (pairs ds) % 256) 0 z)
 
   -- They take no more bytes than what is left.
   after-within : (n : ℕ) → ((p : List ℕ) → Within n (rest p)) → Within n (afterDigits ds rest)
@@ -145,9 +148,9 @@ TookDigits room t s used p =
     (ds : List ℕ) × (c : ℕ) × Digits ds × (length ds ≤ room) × Behind (t (map digitValue ds) c) (ds ++ (c ∷ [])) s used p
 
 -- What a frame's bytes must be where the tree begins by taking digits.
-pub took-digits : (room : ℕ) (t : List ℕ → ℕ → Checks) (s p : List ℕ) (used : ℕ) → run (digits room t) s ≡ frame used p
+pub took-digits : (room : ℕ) (t : List ℕ → ℕ → Checks) (s p : List ℕ) (used : ℕ) → run (hexDigits room t) s ≡ frame used p
     → TookDigits room t s used p
-unfolding digits
+unfolding hexDigits
 took-digits zero t s p used e =
     let h = took-next (λ c. cond (isDigit c) (fails 3) (t [] c)) s p used e in
     last (isDigit (h .0)) (h .0) (h .1)
@@ -156,12 +159,12 @@ took-digits zero t s p used e =
     last true c k = absurd (refused≢frame 0 3 (k .left) p (k .goes))
     last false c k = ([], c, tt, zero-le, k)
 took-digits (suc room) t s p used e =
-    let h = took-next (λ c. cond (isDigit c) (digits room (λ ds x. t (digitValue c ∷ ds) x)) (t [] c)) s p used e in
+    let h = took-next (λ c. cond (isDigit c) (hexDigits room (λ ds x. t (digitValue c ∷ ds) x)) (t [] c)) s p used e in
     by-digit (isDigit (h .0)) (h .0) refl (h .1) (λ r u. took-digits room (λ ds x. t (digitValue (h .0) ∷ ds) x) r p u)
   where
     by-digit : (q : Bool) (c : ℕ) → isDigit c ≡ q
-        → Behind (cond q (digits room (λ ds x. t (digitValue c ∷ ds) x)) (t [] c)) (c ∷ []) s used p
-        → ((r : List ℕ) (u : ℕ) → run (digits room (λ ds x. t (digitValue c ∷ ds) x)) r ≡ frame u p
+        → Behind (cond q (hexDigits room (λ ds x. t (digitValue c ∷ ds) x)) (t [] c)) (c ∷ []) s used p
+        → ((r : List ℕ) (u : ℕ) → run (hexDigits room (λ ds x. t (digitValue c ∷ ds) x)) r ≡ frame u p
         → TookDigits room (λ ds x. t (digitValue c ∷ ds) x) r u p)
         → TookDigits (suc room) t s used p
     by-digit true c e k rest =
@@ -171,7 +174,7 @@ took-digits (suc room) t s p used e =
 
 -- Digits of these values have a right count and sum, and stand for the payload p.
 abbrev pub StandFor : List ℕ → List ℕ → Type 0
-StandFor ds p = (digitCount (length ds) ≡ true) × (sum (pairs ds) % 256 ≡ 0) × (dropLast (pairs ds) ≡ p)
+StandFor ds p = (digitCount (length ds) ≡ true) × (sumOf (pairs ds) % 256 ≡ 0) × (dropLast (pairs ds) ≡ p)
 
 -- What a frame's bytes must be behind digits of the values ds: those stand for its payload.
 took-after : (ds : List ℕ) (rest : List ℕ → Checks) → Keeps rest → (s p : List ℕ) (used : ℕ)
@@ -179,15 +182,15 @@ took-after : (ds : List ℕ) (rest : List ℕ → Checks) → Keeps rest → (s 
 unfolding afterDigits
 took-after ds rest keeps s p used e =
     let n = took-test (digitCount (length ds)) 3 _ s p used e in
-    let z = took-test (eqb (sum (pairs ds) % 256) 0) 4 _ s p used (n .1) in
-    (n .0, eqb-true (sum (pairs ds) % 256) 0 (z .0), keeps (dropLast (pairs ds)) s p used (z .1))
+    let z = took-test (eqb (sumOf (pairs ds) % 256) 0) 4 _ s p used (n .1) in
+    (n .0, eqb-true (sumOf (pairs ds) % 256) 0 (z .0), keeps (dropLast (pairs ds)) s p used (z .1))
 
 -- An ending takes only digits that stand for the payload that it hands on.
 abbrev pub KeepsDigits : (List ℕ → ℕ → Checks) → Type 0
 KeepsDigits end = (ds : List ℕ) (c : ℕ) (s p : List ℕ) (used : ℕ) → run (end ds c) s ≡ frame used p → StandFor ds p
 
 -- Digits of a right count and sum are the characters of a payload and its checksum.
-spelled : (ds p : List ℕ) → Digits ds → 4 ≤ length ds → length ds % 2 ≡ 0 → length ds ≤ 514 → sum (decoded ds) % 256 ≡ 0
+spelled : (ds p : List ℕ) → Digits ds → 4 ≤ length ds → length ds % 2 ≡ 0 → length ds ≤ 514 → sumOf (decoded ds) % 256 ≡ 0
     → dropLast (decoded ds) ≡ p → (ds ≡ hex (p ++ (checksumOf p ∷ []))) × Payload p
 spelled ds p d l n m z e =
     let q : List ℕ = decoded ds in
@@ -211,7 +214,7 @@ module _ (end : List ℕ → ℕ → Checks) where
   -- The colon, at most 514 digits, a character and those of the ending behind it are taken.
   pub ascii-within : (n : ℕ) → ((ds : List ℕ) (c : ℕ) → Within n (end ds c)) → Within (suc (suc (514 + n))) (ascii end)
   unfolding ascii
-  ascii-within n w = within-byte (suc (514 + n)) colon 1 (digits 514 end) (within-digits n 514 end w)
+  ascii-within n w = within-byte (suc (514 + n)) colon 1 (hexDigits 514 end) (within-digits n 514 end w)
 
   -- The front of a frame and a character that is no digit leave the ending.
   pub ascii-front-reads : (p more : List ℕ) (c : ℕ) → Payload p → isDigit c ≡ false
@@ -220,7 +223,7 @@ module _ (end : List ℕ → ℕ → Checks) where
   ascii-front-reads p more c h e =
       let q : List ℕ = p ++ (checksumOf p ∷ []) in
       let v : Verdict = run (end (digitsOf p) c) more in
-      run-byte colon 1 (digits 514 end) (hex q ++ (c ∷ more))
+      run-byte colon 1 (hexDigits 514 end) (hex q ++ (c ∷ more))
       ∙ ap (behind 1) (digits-end 514 end (hex q) more c (hex-digits q (summed-bytes p h)) (omega (arith, summed-size p, h .most)) e)
       ∙ behind-behind 1 (suc (length (hex q))) v
       ∙ ap (λ (k : ℕ). behind k v) (omega arith)
@@ -229,7 +232,7 @@ module _ (end : List ℕ → ℕ → Checks) where
   pub took-ascii : KeepsDigits end → (s p : List ℕ) (used : ℕ) → run (ascii end) s ≡ frame used p → AsciiFront end s used p
   unfolding ascii asciiFront
   took-ascii keeps s p used e =
-      let h = took-byte colon 1 (digits 514 end) s p used e in
+      let h = took-byte colon 1 (hexDigits 514 end) s p used e in
       let (ds, c, d, m, k) = took-digits 514 end (h .rest) p (h .left) (h .goes) in
       let (q, z, l) = keeps (map digitValue ds) c (k .rest) p (k .left) (k .goes) in
       let n : (4 ≤ length ds) × (length ds % 2 ≡ 0) = rw length-map at (digit-count (length (map digitValue ds)) q) in
@@ -285,7 +288,7 @@ pub crlf-keeps : KeepsDigits crLf
 crlf-keeps ds c s p used e = took-after ds lineEnd line-end-keeps s p used (took-crlf ds c s p used e .1)
 
 -- What the layout gives is read as that frame.
-pub ascii-layout-reads : (p more : List ℕ) → Payload p → run (ascii crLf) (asciiLayout p ++ more) ≡ frame (length (asciiLayout p)) p
+pub ascii-layout-reads : (p more : List ℕ) → Payload p → run (ascii crLf) (layout Ascii p ++ more) ≡ frame (length (layout Ascii p)) p
 unfolding isDigit lineEnd
 ascii-layout-reads p more h =
     let n : ℕ = length (asciiFront p) in
@@ -296,9 +299,9 @@ ascii-layout-reads p more h =
     ∙ ap (λ (k : ℕ). frame k p) (omega (arith, length-append (asciiFront p) asciiEnding))
 
 -- What is read as a frame is the layout of its payload.
-pub ascii-one-spelling : (s p : List ℕ) (used : ℕ) → run (ascii crLf) s ≡ frame used p → Spells Ascii s used p
+pub ascii-frame-is-layout : (s p : List ℕ) (used : ℕ) → run (ascii crLf) s ≡ frame used p → IsLayout Ascii s used p
 unfolding lineEnd
-ascii-one-spelling s p used e =
+ascii-frame-is-layout s p used e =
     let h = took-ascii crLf crlf-keeps s p used e in
     let (return, goes) = took-crlf (digitsOf p) (h .char) (h .ends .rest) p (h .ends .left) (h .ends .goes) in
     let last : Behind (byte lineFeed 5 (whole p)) (asciiFront p ++ (h .char ∷ [])) s used p =
@@ -311,7 +314,7 @@ ascii-one-spelling s p used e =
     }
     in
     let l = used-last lineFeed 5 p (asciiFront p ++ (h .char ∷ [])) s used last in
-    let same : (asciiFront p ++ (h .char ∷ [])) ++ (lineFeed ∷ []) ≡ asciiLayout p =
+    let same : (asciiFront p ++ (h .char ∷ [])) ++ (lineFeed ∷ []) ≡ layout Ascii p =
     append-assoc (asciiFront p) (h .char ∷ []) (lineFeed ∷ []) ∙ ap (λ (c : ℕ). asciiFront p ++ (c ∷ lineFeed ∷ [])) return
     in
     record { bytes = l .0 ∙ same; count = l .1 ∙ ap length same; payload = h .payload }

@@ -6,9 +6,9 @@ use mathlib.Core.Path.{_≡_, sym, ap, ap₂, _∙_}
 use mathlib.Core.List.{List, _++_}
 use lib.ListN.{length, take, drop, length-append, length-drop}
 use lib.Seq.{paste, drop-drop, length-take-le, take-all, take-take, take-at, drop-at}
-use Rattle.frame.specs.Hex.{sum, decoded}
+use Rattle.frame.specs.Hex.{sumOf}
 use Rattle.frame.specs.Framing.{inFront}
-use Rattle.frame.specs.Digit.{digitRun}
+use Rattle.frame.specs.DigitRuns.{decoded, digitRun}
 use Rattle.frame.specs.Judged.{Short}
 use Rattle.frame.proofs.Lists.{wrote-part}
 use Rattle.frame.proofs.AsciiJudge.{Summed}
@@ -58,8 +58,8 @@ module _ (ds : List ℕ) (count : ℕ) (l : length ds ≡ count) (e : count % 2 
       ∙ ap (λ (k : ℕ). drop k (decoded ds)) there
 
   -- Their sum is that of all bytes.
-  two-sum : sum (take 16 two) + sum (drop (48 - count / 2) two) ≡ sum (decoded ds)
-  two-sum = ap₂ (λ (x y : List ℕ). sum x + sum y) two-front two-rest ∙ sum-split 16 (decoded ds)
+  two-sum : sumOf (take 16 two) + sumOf (drop (48 - count / 2) two) ≡ sumOf (decoded ds)
+  two-sum = ap₂ (λ (x y : List ℕ). sumOf x + sumOf y) two-front two-rest ∙ sum-split 16 (decoded ds)
 
   -- Put into a buffer, without the very last, they are all bytes but that.
   two-put :
@@ -83,7 +83,7 @@ module _ (s : List ℕ) (count : ℕ) (h : Short s count) (two : List ℕ)
   pub short-long : length two ≡ 32
   short-long = two-long (take count (drop 1 s)) count digits-long (h .even) (h .least) (h .most) two is
 
-  pub short-sum : sum (take 16 two) + sum (drop (48 - count / 2) two) ≡ sum (decoded (take count (drop 1 s)))
+  pub short-sum : sumOf (take 16 two) + sumOf (drop (48 - count / 2) two) ≡ sumOf (decoded (take count (drop 1 s)))
   short-sum = two-sum (take count (drop 1 s)) count digits-long (h .even) (h .least) (h .most) two is
 
   pub short-put :
@@ -102,7 +102,7 @@ module _ (s : List ℕ) (count : ℕ) (h : Short s count) (two : List ℕ)
 
 -- A short frame's sum is made.
 pub short-summed :
-    (s : List ℕ) (count total : ℕ) → count ≡ digitRun 515 (drop 1 s) → Short s count → total ≡ sum (decoded (take count (drop 1 s))) →
+    (s : List ℕ) (count total : ℕ) → count ≡ digitRun 515 (drop 1 s) → Short s count → total ≡ sumOf (decoded (take count (drop 1 s))) →
     Summed s count total
 short-summed s count total r h e =
     record {

@@ -2,7 +2,6 @@
 -- Assumes nothing.
 use Prim.Native.Nat.{ℕ, suc, _+_, _-_, _*_, _≤_, _<_}
 use native.Mathlib.Nat.{add-assoc}
-use native.Mathlib.Numerals.{add-one}
 use native.Mathlib.Omega.{arith}
 use mathlib.Core.Logic.{_⊎_, inl, inr, ⊎-elim}
 use mathlib.Core.Path.{_≡_, sym, ap, _∙_}
@@ -12,8 +11,8 @@ use borrow.Author.Tests.{lt-leb}
 use lib.Dec.{leb}
 use lib.ListN.{length, getD, take, drop, length-drop}
 use lib.Seq.{drop-drop}
-use Rattle.frame.specs.Checks.{Checks, whole, byte, word, Verdict, cut, refused, frame, behind, run}
-use Rattle.frame.specs.Binary.{xorOf, footer, lengthWord, body, binary}
+use Rattle.frame.specs.Checks.{Checks, byte, word, Verdict, cut, refused, behind, run}
+use Rattle.frame.specs.Binary.{xorOf, lengthWord, body, binary}
 use Rattle.frame.proofs.Numbers.{le-or-lt, and-fails}
 use Rattle.frame.proofs.Trees.{behind-behind, pass-byte, fail-byte, cut-byte, pass-word, cut-word, pass-test, fail-test, pass-bytes, cut-bytes}
 use Rattle.frame.proofs.BinaryLaws.{afterWord, is-length-word}
@@ -53,34 +52,6 @@ module _ (end : List ℕ → Checks) (s : List ℕ) (n : ℕ) where
   body-passed h e =
       ap (behind 4)
       (body-run (omega arith) ∙ ap (behind n) (pass-byte (xorOf (take n (drop 4 s))) 4 (end (take n (drop 4 s))) s (4 + n) h e))
-
--- The ending is the footer.
-module _ (s : List ℕ) (n : ℕ) (h : 4 + n < length s) (e : getD s (4 + n) 0 ≡ xorOf (take n (drop 4 s))) where
-  next-byte : getD s (4 + n + 1) 0 ≡ getD s (suc (4 + n)) 0
-  next-byte = ap (λ (k : ℕ). getD s k 0) (add-one (4 + n))
-
-  pub body-no-footer : length s ≤ 4 + n + 1 → behindLength footer s n ≡ cut
-  unfolding footer
-  body-no-footer l =
-      body-passed footer s n h e
-      ∙ ap (λ (v : Verdict). behind 4 (behind n (behind 1 v)))
-      (cut-byte 0x04 5 (whole (take n (drop 4 s))) s (suc (4 + n)) (omega arith))
-
-  pub body-footer : 4 + n + 1 < length s → (getD s (4 + n + 1) 0 ≡ 0x04 → ⊥) → behindLength footer s n ≡ refused (4 + n + 2) 5
-  unfolding footer
-  body-footer l f =
-      body-passed footer s n h e
-      ∙ ap (λ (v : Verdict). behind 4 (behind n (behind 1 v)))
-      (fail-byte 0x04 5 (whole (take n (drop 4 s))) s (suc (4 + n)) (omega arith) (λ g. f (next-byte ∙ g)))
-      ∙ ap (λ (k : ℕ). refused k 5) (sym (add-assoc 4 n 2))
-
-  pub body-frame : 4 + n + 1 < length s → getD s (4 + n + 1) 0 ≡ 0x04 → behindLength footer s n ≡ frame (4 + n + 2) (take n (drop 4 s))
-  unfolding footer
-  body-frame l f =
-      body-passed footer s n h e
-      ∙ ap (λ (v : Verdict). behind 4 (behind n (behind 1 v)))
-      (pass-byte 0x04 5 (whole (take n (drop 4 s))) s (suc (4 + n)) (omega arith) (sym next-byte ∙ f))
-      ∙ ap (λ (k : ℕ). frame k (take n (drop 4 s))) (sym (add-assoc 4 n 2))
 
 -- A word outside 0x8001 to 0x8100 is no length.
 no-length-word : (w : ℕ) → (w < 0x8001) ⊎ (0x8100 < w) → lengthWord w ≡ false

@@ -11,10 +11,12 @@ use lib.Arith.{digits-div, digits-mod}
 use lib.Dec.{leb}
 use lib.ListN.{length, getD, drop, length-append, drop-of-length-le}
 use lib.Bits.{bitXor}
-use Rattle.frame.specs.Checks.{Checks, whole, byte, test, word, bytes, frame, behind, run, Bytes, Payload}
-use Rattle.frame.specs.Binary.{xorFrom, xorOf, bigEndian, binaryFront, binaryEnding, binaryLayout, footer, lengthWord, body, binary}
+use Rattle.frame.specs.Checks.{Checks, whole, byte, test, word, bytes, frame, behind, run}
+use Rattle.frame.specs.Framing.{layout}
+use Rattle.frame.specs.Binary.{xorFrom, xorOf, bigEndian, binaryFront, binaryEnding, footer, lengthWord, body, binary}
+use Rattle.frame.specs.Elements.{Bytes}
 use Rattle.frame.specs.declared.framing.Framing.the-variants.{Binary}
-use Rattle.frame.specs.Claims.{Spells}
+use Rattle.frame.specs.Claims.{IsLayout, Payload}
 use Rattle.frame.proofs.Numbers.{both-true, and-true}
 use Rattle.frame.proofs.Lists.{bytes-left, drop-next}
 use Rattle.frame.proofs.Trees.{
@@ -188,7 +190,7 @@ unfolding footer
 footer-keeps = keeps-byte 0x04 5
 
 -- What the layout gives is read as that frame.
-pub binary-layout-reads : (p more : List ℕ) → Payload p → run (binary footer) (binaryLayout p ++ more) ≡ frame (length (binaryLayout p)) p
+pub binary-layout-reads : (p more : List ℕ) → Payload p → run (binary footer) (layout Binary p ++ more) ≡ frame (length (layout Binary p)) p
 unfolding footer
 binary-layout-reads p more h =
     ap (run (binary footer)) (append-assoc (binaryFront p) binaryEnding more)
@@ -197,9 +199,9 @@ binary-layout-reads p more h =
     ∙ ap (λ (k : ℕ). frame k p) (sym (length-append (binaryFront p) binaryEnding))
 
 -- Of bytes, what is read as a frame is the layout of its payload.
-pub binary-one-spelling : (s p : List ℕ) (used : ℕ) → Bytes s → run (binary footer) s ≡ frame used p → Spells Binary s used p
+pub binary-frame-is-layout : (s p : List ℕ) (used : ℕ) → Bytes s → run (binary footer) s ≡ frame used p → IsLayout Binary s used p
 unfolding footer
-binary-one-spelling s p used b e =
+binary-frame-is-layout s p used b e =
     let (h, payload) = binary-spelled footer footer-keeps s p used b e in
     let l = used-last 0x04 5 p (binaryFront p) s used h in
     record { bytes = l .0; count = l .1; payload = payload }

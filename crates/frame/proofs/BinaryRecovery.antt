@@ -4,10 +4,10 @@ use Prim.Native.Nat.{ℕ, zero, suc, pred, _+_, _-_, _≤_, _<_, zero-le, suc-le
 use native.Mathlib.Nat.{zero-add, add-zero, suc-add, add-suc, add-assoc, le-of-suc-le-suc, not-suc-le-zero, le-refl, le-trans}
 use native.Mathlib.Omega.{arith}
 use mathlib.Core.Path.{_≡_, refl, sym, ap, ap₂, _∙_, subst}
-use mathlib.Core.List.{List, [], _∷_, _++_, List·Memᴰ, List·Memᴰ·head, List·Memᴰ·tail, List·Memᴰ·cases-cons, List·Memᴰ·not-nil, Memᴰ·cast}
+use mathlib.Core.List.{List, [], _∷_, _++_, List·Memᴰ, List·Memᴰ·head, List·Memᴰ·tail, List·Memᴰ·cases-cons, List·Memᴰ·not-nil, Memᴰ·cast, flatten}
 use mathlib.Core.List.{Memᴰ·append-right}
-use mathlib.Core.Bool.{Bool, true, false, cond, not, _&&_, and-true, and-false, and-comm}
-use mathlib.Core.Logic.{⊎-elim}
+use mathlib.Core.Bool.{Bool, true, false, Bool-discrete, not, _&&_, and-true, and-false, and-comm}
+use mathlib.Core.Logic.{⊎-elim, ite}
 use borrow.Author.Tests.{le-leb, lt-leb, le-ltb, lt-ltb}
 use lib.Dec.{leb, ltb}
 use lib.ListN.{length, getD, drop, length-append, length-drop}
@@ -15,7 +15,8 @@ use lib.Seq.{drop-append-le, drop-append-add, getD-append-add, getD-drop}
 use Rattle.frame.specs.Checks.{Verdict, cut, refused, frame}
 use Rattle.frame.specs.Framing.{read}
 use Rattle.frame.specs.Rule.{Output, join, passAfter, Found, foundAt, outAt, rule}
-use Rattle.frame.specs.Recovery.{Stretch, none, another, concat, payloadIn, foundsFrom, starts, PairsBegin, select, All, reaches}
+use Rattle.frame.specs.Elements.{select, All}
+use Rattle.frame.specs.Recovery.{Stretch, none, another, payloadIn, foundsFrom, starts, PairsBegin, reaches}
 use Rattle.frame.specs.Recovery.{inNone, clearOf, earlyOf, Recovered, BinaryRecovers, LateFramesComeBack}
 use Rattle.frame.specs.declared.framing.Framing.{Framing}
 use Rattle.frame.specs.declared.framing.Framing.the-variants.{Binary}
@@ -54,7 +55,7 @@ rule-unpaired place (b ∷ d) more h =
 
 -- The proviso, for a stretch whose first frame begins at `place`.
 abbrev PairsFrom : ℕ → List (List ℕ) → Type 0
-PairsFrom place gs = (i : ℕ) → PairAt (concat gs) i → List·Memᴰ (place + i) (starts place gs)
+PairsFrom place gs = (i : ℕ) → PairAt (flatten gs) i → List·Memᴰ (place + i) (starts place gs)
 
 -- No frame of a stretch begins before its first one.
 starts-late : (place : ℕ) (gs : List (List ℕ)) (i : ℕ) → List·Memᴰ i (starts place gs) → place ≤ i
@@ -68,7 +69,8 @@ starts-late place (g ∷ gs) i m =
 -- The pair does not stand inside the first frame.
 pairs-inside :
     (place : ℕ) (g : List ℕ) (gs : List (List ℕ)) → PairsFrom place (g ∷ gs) →
-    (i : ℕ) → 1 ≤ i → i < length g → PairAt (g ++ concat gs) i → ⊥
+    (i : ℕ) → 1 ≤ i → i < length g → PairAt (g ++ flatten gs) i → ⊥
+unfolding flatten
 pairs-inside place g gs pairs i some l k =
     ⊎-elim
     (λ (e : place + i ≡ place). omega arith)
@@ -93,15 +95,20 @@ pair-in-drop n s i k = (
 
 -- The proviso holds behind the first frame.
 pairs-tail : (place : ℕ) (g : List ℕ) (gs : List (List ℕ)) → 1 ≤ length g → PairsFrom place (g ∷ gs) → PairsFrom (place + length g) gs
+unfolding flatten
 pairs-tail place g gs some pairs i k =
     ⊎-elim
     (λ (e : place + (length g + i) ≡ place). absurd (let z : ⊥ = omega arith in z))
     (λ (m : List·Memᴰ (place + (length g + i)) (starts (place + length g) gs)). Memᴰ·cast (add-assoc place (length g) i) m)
-    (List·Memᴰ·cases-cons (pairs (length g + i) (pair-behind g (concat gs) i k)))
+    (List·Memᴰ·cases-cons (pairs (length g + i) (pair-behind g (flatten gs) i k)))
 
 -- A good frame as the rule hands it out.
 abbrev goodAt : Framing → ℕ → List ℕ → Found
 goodAt f place g = foundAt place (length g) (payloadIn (read f g))
+
+-- A frame before others, where a test selects it.
+abbrev keep : Bool → Found → List Found → List Found
+keep t x xs = ite {C = List Found} (Bool-discrete t true) (x ∷ xs) xs
 
 -- The frames of a stretch that begin at `bound` or later.
 abbrev from : ℕ → List Found → List Found
@@ -114,7 +121,7 @@ select-same :
 select-same f place [] q r h = refl
 select-same f place (g ∷ gs) q r h =
     ap₂
-    (λ (t : Bool) (xs : List Found). cond t (goodAt f place g ∷ xs) xs)
+    (λ (t : Bool) (xs : List Found). keep t (goodAt f place g) xs)
     (h (goodAt f place g) (le-refl place))
     (select-same f (place + length g) gs q r (λ x l. h x (omega arith)))
 
@@ -136,7 +143,7 @@ from-later :
     from bound (foundsFrom f place (g ∷ gs)) ≡ from bound (foundsFrom f (place + length g) gs)
 from-later f place g gs bound l =
     let xs : List Found = from bound (foundsFrom f (place + length g) gs) in
-    ap (λ (t : Bool). cond t (goodAt f place g ∷ xs) xs) (lt-leb bound place l)
+    ap (λ (t : Bool). keep t (goodAt f place g) xs) (lt-leb bound place l)
 
 -- To pass over more bytes than the first frame has is to pass over the rest of them behind it.
 pass-more : (place m : ℕ) (g more : List ℕ) → ruleFrom Binary place (length g + m) (g ++ more) ≡ ruleFrom Binary (place + length g) m more
@@ -148,9 +155,9 @@ pass-more place m g more =
 -- To pass over some bytes of the first frame is to hand out nothing of it.
 pass-some :
     (place pass : ℕ) (g : List ℕ) (gs : List (List ℕ)) → 1 ≤ pass → pass < length g → PairsFrom place (g ∷ gs) →
-    ruleFrom Binary place pass (g ++ concat gs) .frames ≡ ruleFrom Binary (place + length g) 0 (concat gs) .frames
+    ruleFrom Binary place pass (g ++ flatten gs) .frames ≡ ruleFrom Binary (place + length g) 0 (flatten gs) .frames
 pass-some place pass g gs some l pairs =
-    let c : List ℕ = concat gs in
+    let c : List ℕ = flatten gs in
     let behind : place + pass + length (drop pass g) ≡ place + length g = omega (arith, length-drop pass g) in
     let here : drop pass (g ++ c) ≡ drop pass g ++ c = drop-append-le pass g c (omega arith) in
     ap (λ (o : Output Found). o .frames) (rule-pass Binary place pass (g ++ c) ∙ ap (ruleFrom Binary (place + pass) 0) here)
@@ -162,8 +169,8 @@ pass-some place pass g gs some l pairs =
 -- Where the rule comes to a stretch with bytes still to pass over, it hands out the frames that begin behind those.
 rule-into :
     {gs : List (List ℕ)} (place pass : ℕ) → Stretch Binary gs → PairsFrom place gs →
-    ruleFrom Binary place pass (concat gs) .frames ≡ from (place + pass) (foundsFrom Binary place gs)
-unfolding ruleFrom
+    ruleFrom Binary place pass (flatten gs) .frames ≡ from (place + pass) (foundsFrom Binary place gs)
+unfolding ruleFrom flatten
 rule-into place pass none pairs = refl
 rule-into place zero (another {g} {gs} good st) pairs =
     ap (λ (o : Output Found). o .frames) (rule-stretch Binary place (another good st))
@@ -174,8 +181,8 @@ rule-into place (suc pass) (another {g} {gs} good st) pairs =
     (λ (l : length g ≤ suc pass).
     let m : ℕ = suc pass - length g in
     let e : suc pass ≡ length g + m = omega arith in
-    ap (λ (k : ℕ). ruleFrom Binary place k (g ++ concat gs) .frames) e
-    ∙ ap (λ (o : Output Found). o .frames) (pass-more place m g (concat gs))
+    ap (λ (k : ℕ). ruleFrom Binary place k (g ++ flatten gs) .frames) e
+    ∙ ap (λ (o : Output Found). o .frames) (pass-more place m g (flatten gs))
     ∙ rule-into (place + length g) m st (pairs-tail place g gs some pairs)
     ∙ ap (λ (k : ℕ). from k (foundsFrom Binary (place + length g) gs)) (let q : place + length g + m ≡ place + suc pass = omega arith in q))
     (λ (l : suc pass < length g).
@@ -264,7 +271,7 @@ module _ (more : List ℕ) (first : getD more 0 0 ≡ 0x5A → ⊥) (end : ℕ) 
   two-inside b (c ∷ d) p used e = suc-le-suc zero-le
 
   -- Of one frame at most one is selected.
-  at-most-one : (t : Bool) (x : Found) → length (cond t (x ∷ []) []) ≤ 1
+  at-most-one : (t : Bool) (x : Found) → length (keep t x []) ≤ 1
   at-most-one true x = le-refl 1
   at-most-one false x = zero-le
 
@@ -281,7 +288,7 @@ module _ (more : List ℕ) (first : getD more 0 0 ≡ 0x5A → ⊥) (end : ℕ) 
       let two : 1 ≤ length d = two-inside b d p used h in
       let over : List Found = select (reaches end) (w .early) in
       let fewer : place + used ≤ end → length (select (reaches end) (x ∷ w .early)) ≤ 1 =
-      λ l. subst (λ (t : Bool). length (cond t (x ∷ over) over) ≤ 1) (sym (le-ltb end (place + used) l)) (w .one) in
+      λ l. subst (λ (t : Bool). length (keep t x over) ≤ 1) (sym (le-ltb end (place + used) l)) (w .one) in
       let last : end < place + used → length (select (reaches end) (x ∷ w .early)) ≤ 1 =
       λ l.
       subst
@@ -322,11 +329,12 @@ module _ (more : List ℕ) (first : getD more 0 0 ≡ 0x5A → ⊥) (end : ℕ) 
   walk place (suc pass) (b ∷ d) e = early-pass place pass b d (walk (suc place) pass d (omega arith))
 
 -- A stretch does not begin with 5A.
-stretch-first : {gs : List (List ℕ)} → Stretch Binary gs → getD (concat gs) 0 0 ≡ 0x5A → ⊥
+stretch-first : {gs : List (List ℕ)} → Stretch Binary gs → getD (flatten gs) 0 0 ≡ 0x5A → ⊥
+unfolding flatten
 stretch-first none e = let z : _≡_ {A = ℕ} 0 0x5A = e in omega arith
 stretch-first (another {g} {gs} good st) e =
     let h = pair-first g (good .payload) (length g) (good .reads) in
-    let z : _≡_ {A = ℕ} 0xA5 0x5A = ap (λ (l : List ℕ). getD (l ++ concat gs) 0 0) (sym (h .1)) ∙ e in
+    let z : _≡_ {A = ℕ} 0xA5 0x5A = ap (λ (l : List ℕ). getD (l ++ flatten gs) 0 0) (sym (h .1)) ∙ e in
     omega arith
 
 -- The places of a stretch further on are as much further on.
@@ -353,7 +361,7 @@ select-first :
     (q : Found → Bool) (xs ys : List Found) → All (λ x. q x ≡ true) xs → select q ys ≡ [] → select q (xs ++ ys) ≡ xs
 select-first q [] ys h e = e
 select-first q (x ∷ xs) ys h e =
-    ap₂ (λ (t : Bool) (zs : List Found). cond t (x ∷ zs) zs) (h .0) (select-first q xs ys (h .1) e)
+    ap₂ (λ (t : Bool) (zs : List Found). keep t x zs) (h .0) (select-first q xs ys (h .1) e)
 
 -- Frames that begin before a bound pass the test for it.
 before-bound : (bound : ℕ) (xs : List Found) → All (λ x. x .place < bound) xs → All (λ x. ltb (x .place) bound ≡ true) xs
@@ -372,22 +380,22 @@ none-before q place bound (g ∷ gs) l = with-first (q (goodAt Binary place g)) 
 
     with-first :
         (t : Bool) → select (λ x. ltb (x .place) bound) later ≡ [] →
-        select (λ x. ltb (x .place) bound) (cond t (goodAt Binary place g ∷ later) later) ≡ []
-    with-first true e = ap₂ (λ (t : Bool) (zs : List Found). cond t (goodAt Binary place g ∷ zs) zs) (le-ltb place bound l) e
+        select (λ x. ltb (x .place) bound) (keep t (goodAt Binary place g) later) ≡ []
+    with-first true e = ap₂ (λ (t : Bool) (zs : List Found). keep t (goodAt Binary place g) zs) (le-ltb place bound l) e
     with-first false e = e
 
 -- Behind damage: the frames that begin in it, then the good frames whose first byte lies in none of them.
 pub binary-recovers : BinaryRecovers
 binary-recovers damage gs st pairs =
     let end : ℕ = length damage in
-    let w : Early (concat gs) end 0 0 damage = walk (concat gs) (stretch-first st) end 0 0 damage (zero-add end) in
+    let w : Early (flatten gs) end 0 0 damage = walk (flatten gs) (stretch-first st) end 0 0 damage (zero-add end) in
     let same : (x : Found) → end ≤ x .place → leb (end + w .left) (x .place) ≡ inNone (x .place) (w .early) =
     λ x l.
     sym (w .clear (x .place) l)
     ∙ ap (λ (t : Bool). inNone (x .place) (w .early) && t) (le-leb 0 (x .place) zero-le)
     ∙ and-true (inNone (x .place) (w .early)) in
-    let frames : rule Binary (damage ++ concat gs) .frames ≡ w .early ++ clearOf (w .early) damage gs =
-    ap (λ (o : Output Found). o .frames) (rule-walk Binary (damage ++ concat gs))
+    let frames : rule Binary (damage ++ flatten gs) .frames ≡ w .early ++ clearOf (w .early) damage gs =
+    ap (λ (o : Output Found). o .frames) (rule-walk Binary (damage ++ flatten gs))
     ∙ w .frames
     ∙ ap
     (λ (xs : List Found). w .early ++ xs)
@@ -405,13 +413,13 @@ binary-recovers damage gs st pairs =
     }
 
 -- A place behind all that frames reach lies in none of them.
-far : (m at : ℕ) (xs : List Found) → All (λ x. x .place + x .used ≤ m) xs → m ≤ at → inNone at xs ≡ true
-far m at [] h l = refl
-far m at (x ∷ xs) h l =
+behind-all : (m at : ℕ) (xs : List Found) → All (λ x. x .place + x .used ≤ m) xs → m ≤ at → inNone at xs ≡ true
+behind-all m at [] h l = refl
+behind-all m at (x ∷ xs) h l =
     ap₂
     (λ (s t : Bool). not (leb (x .place) at && s) && t)
     (le-ltb at (x .place + x .used) (le-trans (h .0) l))
-    (far m at xs (h .1) l)
+    (behind-all m at xs (h .1) l)
     ∙ ap (λ (t : Bool). not t && true) (and-false (leb (x .place) at))
 
 -- An element that passes the test is selected.
@@ -419,11 +427,11 @@ mem-select : (q : Found → Bool) (xs : List Found) (x : Found) → q x ≡ true
 mem-select q [] x t m = absurd (List·Memᴰ·not-nil m)
 mem-select q (y ∷ ys) x t m =
     ⊎-elim
-    (λ (e : x ≡ y). subst (λ (b : Bool). List·Memᴰ x (cond b (y ∷ select q ys) (select q ys))) (sym (ap q (sym e) ∙ t)) (List·Memᴰ·head e))
+    (λ (e : x ≡ y). subst (λ (b : Bool). List·Memᴰ x (keep b y (select q ys))) (sym (ap q (sym e) ∙ t)) (List·Memᴰ·head e))
     (λ (k : List·Memᴰ x ys). mem-cond (q y) (mem-select q ys x t k))
     (List·Memᴰ·cases-cons m)
   where
-    mem-cond : (b : Bool) → List·Memᴰ x (select q ys) → List·Memᴰ x (cond b (y ∷ select q ys) (select q ys))
+    mem-cond : (b : Bool) → List·Memᴰ x (select q ys) → List·Memᴰ x (keep b y (select q ys))
     mem-cond true k = List·Memᴰ·tail k
     mem-cond false k = k
 
@@ -437,7 +445,7 @@ late-clear damage gs r x m l =
     (λ y. inNone (y .place) early)
     (foundsFrom Binary (length damage) gs)
     x
-    (far (length damage + 260) (x .place) early (r .reach) l)
+    (behind-all (length damage + 260) (x .place) early (r .reach) l)
     m
 
 -- So it is handed out.

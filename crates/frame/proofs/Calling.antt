@@ -8,10 +8,11 @@ use lib.ListN.{drop}
 use Rattle.frame.specs.Rule.{Output, nothing, join}
 use Rattle.frame.specs.Reader.{State, holding, Called, line, quiet, after, stateOf, Holds, Values, feedValuesOf, quietValuesOf, calledValues}
 use Rattle.frame.specs.Reader.{Feeds, AfterQuiet, Quiets, newReader}
+use Rattle.frame.specs.Drain.{ruleAfter}
 use Rattle.frame.specs.Calls.{Answered, WithFrame, WithoutFrame, outOf, Phase, offering, ending, over}
 use Rattle.frame.specs.Calls.{Calls, fed, taken, quieted, emptied, feedRefused, quietRefused, done}
-use Rattle.frame.specs.Draining.{ruleAfter, FeedTells, QuietTells}
-use Rattle.frame.specs.Recovery.{CallsFollowRule}
+use Rattle.frame.specs.Claims.{CallsFollowRule}
+use Rattle.frame.specs.Draining.{FeedReports, QuietReports}
 use Rattle.frame.specs.Driving.{lastState, EndsFresh}
 use Rattle.frame.specs.declared.framing.Framing.{Framing}
 use Rattle.frame.specs.declared.reader.Reader.{Reader}
@@ -22,12 +23,12 @@ use Rattle.frame.proofs.Settling.{line-rule, line-one, quiet-rule, quie
 use Rattle.frame.proofs.Promises.{answered, refusing, hands-out, takes, none-out, says}
 
 -- What the answer of a line call says.
-pub feed-tells : FeedTells
-feed-tells r chunk buf a buf′ p = says (line (stateOf r) chunk) p (line-one (stateOf r) chunk)
+pub feed-reports : FeedReports
+feed-reports r chunk buf a buf′ p = says (line (stateOf r) chunk) p (line-one (stateOf r) chunk)
 
 -- What the answer of a quiet call says.
-pub quiet-tells : QuietTells
-quiet-tells r buf a buf′ p = says (quiet (stateOf r)) p (quiet-one (stateOf r))
+pub quiet-reports : QuietReports
+quiet-reports r buf a buf′ p = says (quiet (stateOf r)) p (quiet-one (stateOf r))
 
 -- What is left to hand out by a list of calls from the reader r with todo still to be taken.
 abbrev Leaves : Phase → Reader → List ℕ → Output (List ℕ) → Type 0

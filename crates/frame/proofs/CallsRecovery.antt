@@ -2,11 +2,11 @@
 -- Assumes nothing.
 use Prim.Native.Nat.{ℕ, _+_}
 use mathlib.Core.Path.{_≡_, refl, ap, _∙_}
-use mathlib.Core.List.{List, [], _∷_, _++_, map}
+use mathlib.Core.List.{List, [], _∷_, _++_, map, flatten}
 use lib.ListN.{length}
 use Rattle.frame.specs.Framing.{read}
 use Rattle.frame.specs.Rule.{Output, output, join, Found, rule, payloads}
-use Rattle.frame.specs.Recovery.{concat, payloadIn, foundsFrom, payloadsOf, AsciiCallsRecover, BinaryCallsRecover, CleanCalls}
+use Rattle.frame.specs.Recovery.{payloadIn, foundsFrom, payloadsOf, AsciiCallsRecover, BinaryCallsRecover, CleanCalls}
 use Rattle.frame.specs.declared.framing.Framing.{Framing}
 use Rattle.frame.specs.declared.framing.Framing.the-variants.{Binary, Ascii}
 use Rattle.frame.proofs.Rules.{payloads-join}
@@ -23,7 +23,7 @@ founds-payloads f place (g ∷ gs) = ap (λ (ps : List (List ℕ)). payloadIn (r
 -- In ASCII framing: what the damage alone gives, then every good frame's payload.
 pub ascii-calls-recover : AsciiCallsRecover
 ascii-calls-recover damage gs out st calls =
-    calls-follow-rule Ascii (damage ++ concat gs) out calls
+    calls-follow-rule Ascii (damage ++ flatten gs) out calls
     ∙ ap payloads (ascii-recovers damage gs st)
     ∙ payloads-join (rule Ascii damage) (output (foundsFrom Ascii (length damage) gs) 0)
     ∙ ap
@@ -33,9 +33,9 @@ ascii-calls-recover damage gs out st calls =
 -- In binary framing: the frames that begin in the damage, then the good ones clear of them.
 pub binary-calls-recover : BinaryCallsRecover
 binary-calls-recover damage gs out st pairs calls =
-    let e : out ≡ payloads (rule Binary (damage ++ concat gs)) = calls-follow-rule Binary (damage ++ concat gs) out calls in
+    let e : out ≡ payloads (rule Binary (damage ++ flatten gs)) = calls-follow-rule Binary (damage ++ flatten gs) out calls in
     let r = binary-recovers damage gs st pairs in
-    let frames : out .frames ≡ map (λ (x : Found). x .payload) (rule Binary (damage ++ concat gs) .frames) =
+    let frames : out .frames ≡ map (λ (x : Found). x .payload) (rule Binary (damage ++ flatten gs) .frames) =
     ap (λ (o : Output (List ℕ)). o .frames) e in
     record {
       found = r;
@@ -47,6 +47,6 @@ binary-calls-recover damage gs out st pairs calls =
 -- With no damage, in either framing: every good frame's payload.
 pub clean-calls : (f : Framing) → CleanCalls f
 clean-calls f gs out st calls =
-    calls-follow-rule f (concat gs) out calls
+    calls-follow-rule f (flatten gs) out calls
     ∙ ap payloads (clean-line f gs st)
     ∙ ap (λ (ps : List (List ℕ)). output ps 0) (founds-payloads f 0 gs)

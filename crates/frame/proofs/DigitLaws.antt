@@ -10,8 +10,8 @@ use borrow.Author.Tests.{le-leb, lt-leb, leb-true, ltb-true, ltb-false}
 use lib.Dec.{leb, ltb}
 use lib.ListN.{length, getD, take, drop, length-drop}
 use lib.Seq.{drop-drop}
-use Rattle.frame.specs.Digit.{within, isDigit, digitValue, digitOf, digitRun, Digits}
-use Rattle.frame.specs.Judged.{every}
+use Rattle.frame.specs.Digit.{within, isDigit, digitValue, digitOf}
+use Rattle.frame.specs.DigitRuns.{digitRun, Digits, allPass}
 use Rattle.frame.proofs.Numbers.{both-true}
 use Rattle.frame.proofs.Lists.{drop-next}
 
@@ -93,18 +93,18 @@ pub run-step : (digit : Bool) (most i : ℕ) (s : List ℕ) → i < most → i <
 run-step digit most i s h k e = let one : most - i ≡ suc (most - (i + 1)) = omega arith in rw (one, drop-next s i k, e)
 
 -- n digits at the front are n more in the count.
-pub run-block : (n most : ℕ) (s : List ℕ) → n ≤ most → n ≤ length s → every isDigit (take n s) ≡ true
+pub run-block : (n most : ℕ) (s : List ℕ) → n ≤ most → n ≤ length s → allPass isDigit (take n s) ≡ true
     → digitRun most s ≡ n + digitRun (most - n) (drop n s)
 run-block zero most s h k e = rw (sub-zero, zero-add)
 run-block (suc n) zero s h k e = absurd (omega arith)
 run-block (suc n) (suc most) [] h k e = absurd (omega arith)
 run-block (suc n) (suc most) (c ∷ s) h k e =
-    let both = both-true (isDigit c) (every isDigit (take n s)) e in
+    let both = both-true (isDigit c) (allPass isDigit (take n s)) e in
     let rest = run-block n most s (omega arith) (omega arith) (both .1) in
     rw (both .0, suc-sub-suc) (omega (arith, rest))
 
 -- 16 digits from i on are 16 more in the count from i on.
-pub run-on : (most i : ℕ) (s : List ℕ) → i + 16 ≤ most → i + 16 ≤ length s → every isDigit (take 16 (drop i s)) ≡ true
+pub run-on : (most i : ℕ) (s : List ℕ) → i + 16 ≤ most → i + 16 ≤ length s → allPass isDigit (take 16 (drop i s)) ≡ true
     → digitRun (most - i) (drop i s) ≡ 16 + digitRun (most - (i + 16)) (drop (i + 16) s)
 run-on most i s h k e =
     let left : most - i - 16 ≡ most - (i + 16) = omega arith in

@@ -4,16 +4,18 @@ use Prim.Native.Nat.{ℕ, zero, suc, pred, _+_, _≤_, zero-le}
 use native.Mathlib.Nat.{le-of-suc-le-suc, not-suc-le-zero, le-trans}
 use native.Mathlib.Omega.{arith}
 use mathlib.Core.Path.{_≡_, refl, sym, ap, _∙_, subst}
-use mathlib.Core.List.{List, [], _∷_, _++_, append-nil, append-assoc}
+use mathlib.Core.List.{List, [], _∷_, _++_, map, append-nil, append-assoc}
 use mathlib.Core.Logic.{⊎-elim}
 use lib.ListN.{length, drop, length-append}
 use lib.Seq.{drop-append-le}
 use Rattle.frame.specs.Checks.{Verdict, cut, refused, frame}
+use Rattle.frame.specs.Hex.{sumOf}
 use Rattle.frame.specs.Framing.{judge, read}
 use Rattle.frame.specs.Judged.{frameLength}
 use Rattle.frame.specs.Rule.{Output, nothing, noiseByte, handed, join, passAfter, outAt, payloads}
 use Rattle.frame.specs.Reader.{Settled, settled, line}
-use Rattle.frame.specs.Draining.{before, drainAs, drainFrom, LineDrains, NeedsMoreIsDrained, DrainFollowsRule, total, DrainIsSized}
+use Rattle.frame.specs.Drain.{before, drainAs, drainFrom}
+use Rattle.frame.specs.Draining.{LineDrains, NeedsMoreIsDrained, DrainFollowsRule, DrainIsSized}
 use Rattle.frame.specs.Draining.{RuleIsSized}
 use Rattle.frame.specs.declared.framing.Framing.{Framing}
 use Rattle.frame.specs.declared.framing.Framing.the-variants.{Binary, Ascii}
@@ -126,7 +128,7 @@ drain-follows-rule s chunk more =
 
 -- The bytes that an output takes at least.
 abbrev size : Output (List ℕ) → ℕ
-size o = total (λ p. length p + 6) (o .frames) + o .noise
+size o = sumOf (map (λ p. length p + 6) (o .frames)) + o .noise
 
 module _ (f : Framing) where
   -- One place of what is drained.
@@ -152,7 +154,7 @@ module _ (f : Framing) where
   drain-sized :
       (s : List ℕ) →
       let d : Settled = drainFrom f 0 s in
-      total (λ p. length p + 6) (d .out .frames) + d .out .noise + length (d .rest) ≤ length s
+      sumOf (map (λ p. length p + 6) (d .out .frames)) + d .out .noise + length (d .rest) ≤ length s
   drain-sized s = omega (arith, drained-size 0 s zero-le)
 
   -- One place of the rule.

@@ -4,7 +4,7 @@ use Prim.Native.Nat.{ℕ, zero, suc, _+_, _-_, _≤_, zero-le}
 use native.Mathlib.Nat.{le-trans}
 use native.Mathlib.Omega.{arith}
 use mathlib.Core.Path.{_≡_, refl, sym, ap, ap₂, _∙_, subst}
-use mathlib.Core.List.{List, [], _∷_, _++_, cons≢nil}
+use mathlib.Core.List.{List, [], _∷_, _++_, cons≢nil, flatten}
 use mathlib.Core.Bool.{Bool, true, false, cond}
 use borrow.Author.Tests.{le-leb}
 use lib.Dec.{leb}
@@ -15,10 +15,10 @@ use Rattle.frame.specs.Rule.{Output, nothing, join, Found, rule}
 use Rattle.frame.specs.Reader.{State, holding, Called, line, quiet, after, stateOf, Holds, newReader, Values}
 use Rattle.frame.specs.Reader.{feedValuesOf, quietValuesOf, calledValues, bufferAt, quietRefusal}
 use Rattle.frame.specs.Reader.{feedRefusal, Gives, Feeds, AfterQuiet, Quiets}
+use Rattle.frame.specs.Drain.{ruleAfter}
+use Rattle.frame.specs.Elements.{All}
 use Rattle.frame.specs.Calls.{WithFrame, outOf, Phase, offering, ending, over}
 use Rattle.frame.specs.Calls.{Calls, fed, taken, quieted, emptied, feedRefused, quietRefused, done}
-use Rattle.frame.specs.Draining.{ruleAfter}
-use Rattle.frame.specs.Recovery.{concat, All}
 use Rattle.frame.specs.Driving.{countOf, chunksAfter, Offers, CanDrive, DrivesAreShort}
 use Rattle.frame.specs.declared.framing.Framing.{Framing}
 use Rattle.frame.specs.declared.reader.Reader.{Reader}
@@ -181,10 +181,10 @@ goes-quiet n r (b ∷ todo) l e z = absurd (cons≢nil e)
 
 -- The first line call of many, with what follows it.
 module _
-    (n : ℕ) (r : Reader) (todo chunk : List ℕ) (chunks : List (List ℕ)) (l : StateFits r) (e : todo ≡ chunk ++ concat chunks)
+    (n : ℕ) (r : Reader) (todo chunk : List ℕ) (chunks : List (List ℕ)) (l : StateFits r) (e : todo ≡ chunk ++ flatten chunks)
     (short : Short (chunk ∷ chunks)) (z : Left r todo (chunk ∷ chunks) (suc n))
     (later :
-    (r′ : Reader) (todo′ : List ℕ) (chunks′ : List (List ℕ)) → StateFits r′ → todo′ ≡ concat chunks′ → Short chunks′ → Left r′ todo′ chunks′ n →
+    (r′ : Reader) (todo′ : List ℕ) (chunks′ : List (List ℕ)) → StateFits r′ → todo′ ≡ flatten chunks′ → Short chunks′ → Left r′ todo′ chunks′ n →
     Goes r′ todo′ chunks′ n)
   where
     -- What the call gives.
@@ -205,10 +205,10 @@ module _
         let s′ : State = after (stateOf r) call in
         ap (payloadsIn (stateOf r)) e
         ∙ join-count
-        (ruleAfter (stateOf r) (chunk ++ concat chunks))
+        (ruleAfter (stateOf r) (chunk ++ flatten chunks))
         (call .out)
-        (ruleAfter s′ (drop (call .taken) (chunk ++ concat chunks)))
-        (line-rule (stateOf r) chunk (concat chunks))
+        (ruleAfter s′ (drop (call .taken) (chunk ++ flatten chunks)))
+        (line-rule (stateOf r) chunk (flatten chunks))
         ∙ ap₂
         (λ (s : State) (t : List ℕ). length (call .out .frames) + payloadsIn s (drop (call .taken) t))
         (sym (reader-holds s′ .state))
@@ -216,18 +216,19 @@ module _
 
     -- The call and those behind it.
     goes-on : (fs : List (List ℕ)) → call .out .frames ≡ fs → Goes r todo (chunk ∷ chunks) (suc n)
+    unfolding flatten
     goes-on [] h =
         let a : Fed = record { reader = next; answer = NeedsMore (call .taken) (call .out .noise) } in
         let q : Feeds r chunk buffer a buffer =
         keeps call [] buffer next (feed-free r chunk l (short .0)) h (reader-holds (after (stateOf r) call)) in
-        let rest : drop (call .taken) todo ≡ concat chunks =
-        ap₂ drop (needs-more-is-true (stateOf r) chunk h .0) e ∙ drop-append-seam chunk (concat chunks) in
+        let rest : drop (call .taken) todo ≡ flatten chunks =
+        ap₂ drop (needs-more-is-true (stateOf r) chunk h .0) e ∙ drop-append-seam chunk (flatten chunks) in
         let none : length (call .out .frames) ≡ 0 = ap length h in
         let k : Goes next (drop (call .taken) todo) chunks n =
         later next (drop (call .taken) todo) chunks next-fits rest (short .1) (omega (arith, next-left)) in
         record {
           out = join (outOf (feedValuesOf (a .answer)) buffer) (k .out);
-          calls = fed chunk (concat chunks) buffer buffer a q refl e (k .calls);
+          calls = fed chunk (flatten chunks) buffer buffer a q refl e (k .calls);
           offers = (refl, k .offers);
           count = ap suc {x = countOf (k .calls)} (k .count);
         }
@@ -236,23 +237,24 @@ module _
         let q : Feeds r chunk buffer a (inFront p buffer) =
         keeps call (p ∷ ps) buffer next (feed-free r chunk l (short .0)) h (reader-holds (after (stateOf r) call)) in
         let again : List (List ℕ) = drop (call .taken) chunk ∷ chunks in
-        let rest : drop (call .taken) todo ≡ concat again =
-        ap (drop (call .taken)) e ∙ drop-append-le (call .taken) chunk (concat chunks) (line-taken (stateOf r) chunk) in
+        let rest : drop (call .taken) todo ≡ flatten again =
+        ap (drop (call .taken)) e ∙ drop-append-le (call .taken) chunk (flatten chunks) (line-taken (stateOf r) chunk) in
         let some : length (call .out .frames) ≡ suc (length ps) = ap length h in
         let size : length (drop (call .taken) chunk) ≤ 65536 = rw length-drop (omega (arith, short .0)) in
         let k : Goes next (drop (call .taken) todo) again n =
         later next (drop (call .taken) todo) again next-fits rest (size, short .1) (omega (arith, next-left, line-one (stateOf r) chunk)) in
         record {
           out = join (outOf (feedValuesOf (a .answer)) (inFront p buffer)) (k .out);
-          calls = fed chunk (concat chunks) buffer (inFront p buffer) a q refl e (k .calls);
+          calls = fed chunk (flatten chunks) buffer (inFront p buffer) a q refl e (k .calls);
           offers = (refl, k .offers);
           count = ap suc {x = countOf (k .calls)} (k .count);
         }
 
 -- All of the calls.
 goes :
-    (n : ℕ) (r : Reader) (todo : List ℕ) (chunks : List (List ℕ)) → StateFits r → todo ≡ concat chunks → Short chunks → Left r todo chunks n →
+    (n : ℕ) (r : Reader) (todo : List ℕ) (chunks : List (List ℕ)) → StateFits r → todo ≡ flatten chunks → Short chunks → Left r todo chunks n →
     Goes r todo chunks n
+unfolding flatten
 goes zero r todo [] l e short z = goes-quiet zero r todo l e z
 goes zero r todo (chunk ∷ chunks) l e short z = absurd (let h : ⊥ = omega arith in h)
 goes (suc n) r todo [] l e short z = goes-quiet (suc n) r todo l e z
@@ -267,9 +269,9 @@ payloads-few f s = rw (length-map (rule f s .frames) (λ (x : Found). x .payload
 -- However a segment is cut into chunks, a caller gets it through a new reader.
 pub can-drive : (f : Framing) → CanDrive f
 can-drive f chunks short =
-    let n : ℕ = payloadsIn (holding f []) (concat chunks) + length chunks in
-    let k : Goes (newReader f) (concat chunks) chunks n = goes n (newReader f) (concat chunks) chunks zero-le refl short refl in
-    record { out = k .out; calls = k .calls; offers = k .offers; few = omega (arith, k .count, payloads-few f (concat chunks)) }
+    let n : ℕ = payloadsIn (holding f []) (flatten chunks) + length chunks in
+    let k : Goes (newReader f) (flatten chunks) chunks n = goes n (newReader f) (flatten chunks) chunks zero-le refl short refl in
+    record { out = k .out; calls = k .calls; offers = k .offers; few = omega (arith, k .count, payloads-few f (flatten chunks)) }
 
 -- The call that says "empty" is still to come, or not.
 abbrev lastCalls : Phase → ℕ
@@ -322,6 +324,6 @@ few-calls done chunks o = zero-le
 -- However a caller offers a segment in chunks, the calls are no more than chunks and bytes, and one.
 pub drives-are-short : (f : Framing) → DrivesAreShort f
 drives-are-short f chunks out calls o =
-    let all : length (out .frames) ≡ payloadsIn (holding f []) (concat chunks) =
-    ap (λ (x : Output (List ℕ)). length (x .frames)) (calls-follow-rule f (concat chunks) out calls) in
-    omega (arith, few-calls calls chunks o, payloads-few f (concat chunks))
+    let all : length (out .frames) ≡ payloadsIn (holding f []) (flatten chunks) =
+    ap (λ (x : Output (List ℕ)). length (x .frames)) (calls-follow-rule f (flatten chunks) out calls) in
+    omega (arith, few-calls calls chunks o, payloads-few f (flatten chunks))

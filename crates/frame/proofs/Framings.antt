@@ -8,19 +8,19 @@ use lib.Dec.{lit≤}
 use lib.ListN.{length, take, drop, length-append, length-take, length-drop}
 use Rattle.frame.specs.Checks.{frame}
 use Rattle.frame.specs.Binary.{footer}
-use Rattle.frame.specs.Hex.{hex, decoded}
+use Rattle.frame.specs.Hex.{hex}
 use Rattle.frame.specs.Ascii.{crLf}
 use Rattle.frame.specs.Framing.{checks, judge, front, endingBytes, layout, limit}
 use Rattle.frame.specs.Claims.{UndecidedIsShort, FrameIsSized}
-use Rattle.frame.specs.Digit.{Digits}
-use Rattle.frame.specs.Judged.{payloadAt, payloadEnd, frameLength, verdictOf, handedOut, Packed}
+use Rattle.frame.specs.DigitRuns.{decoded, Digits}
+use Rattle.frame.specs.Judged.{payloadAt, payloadEnd, frameLength, verdictOf, handedOut, HasPayload}
 use Rattle.frame.specs.declared.framing.Framing.{Framing}
 use Rattle.frame.specs.declared.framing.Framing.the-variants.{Binary, Ascii}
 use Rattle.frame.specs.declared.framing.Judged.{Judged}
 use Rattle.frame.specs.declared.framing.Judged.the-variants.{Undecided, Failed, Frame}
 use Rattle.frame.proofs.Trees.{Within, bounded, Bounded}
 use Rattle.frame.proofs.BinaryLaws.{binary-within, footer-within, footer-keeps, took-binary, binary-used, length-binary-front}
-use Rattle.frame.proofs.AsciiLaws.{ascii-within, crlf-within, crlf-keeps, took-ascii, front-payload, ascii-one-spelling, length-ascii-front}
+use Rattle.frame.proofs.AsciiLaws.{ascii-within, crlf-within, crlf-keeps, took-ascii, front-payload, ascii-frame-is-layout, length-ascii-front}
 use Rattle.frame.proofs.HexLaws.{length-decoded, hex-digits}
 
 -- The length of a layout.
@@ -36,7 +36,7 @@ within-limit Ascii = ascii-within crLf 1 crlf-within
 -- A frame's length goes by its payload's.
 pub used-is : (f : Framing) (s p : List ℕ) (used : ℕ) → judge f s ≡ frame used p → used ≡ frameLength f (length p)
 used-is Binary s p used e = binary-used s p used e
-used-is Ascii s p used e = ascii-one-spelling s p used e .count ∙ length-layout Ascii p
+used-is Ascii s p used e = ascii-frame-is-layout s p used e .count ∙ length-layout Ascii p
 
 -- A frame has no more bytes than there are.
 pub used-there : (f : Framing) (s p : List ℕ) (used : ℕ) → judge f s ≡ frame used p → used ≤ length s
@@ -98,7 +98,7 @@ payload-there Ascii s used len e =
     omega arith
 
 -- So it can be taken out.
-pub payload-packed : (f : Framing) (s : List ℕ) (used len : ℕ) → judge f s ≡ frame used (payloadAt f s len) → Packed f s len
+pub payload-packed : (f : Framing) (s : List ℕ) (used len : ℕ) → judge f s ≡ frame used (payloadAt f s len) → HasPayload f s len
 payload-packed Binary s used len e = payload-there Binary s used len e .0
 payload-packed Ascii s used len e =
     let p : List ℕ = decoded (take (2 * len) (drop 1 s)) in
@@ -109,7 +109,7 @@ payload-packed Ascii s used len e =
 
 -- What a frame that was judged says of the payload that its answer names.
 pub record PayloadNamed (f : Framing) (s : List ℕ) (len : ℕ) : Type 0 where
-  pub packed : Packed f s len
+  pub packed : HasPayload f s len
   pub long : length (payloadAt f s len) ≡ len
   pub most : len ≤ 256
 

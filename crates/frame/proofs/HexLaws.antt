@@ -14,9 +14,10 @@ use Rattle.frame.proofs.Numbers.{both-true, below-at}
 use lib.Arith.{digits-div, digits-mod}
 use lib.ListN.{length, getD, take, drop, set, length-append, length-take, length-drop, take-append-drop, drop-of-length-le}
 use lib.Seq.{paste, getD-take, getD-drop, drop-drop, drop-nil, take-nil, take-suc, take-all, take-length, take-at}
-use Rattle.frame.specs.Checks.{Bytes}
-use Rattle.frame.specs.Digit.{digitValue, digitOf, Digits}
-use Rattle.frame.specs.Hex.{hex, sum, decoded}
+use Rattle.frame.specs.Digit.{digitValue, digitOf}
+use Rattle.frame.specs.Hex.{hex, sumOf}
+use Rattle.frame.specs.Elements.{Bytes}
+use Rattle.frame.specs.DigitRuns.{Digits, decoded}
 use Rattle.frame.proofs.Lists.{drop-next, wrote-two, wrote-part, paste-front}
 use Rattle.frame.proofs.DigitLaws.{digit-small, digit-of-is, digit-of-value, value-digit}
 
@@ -158,13 +159,13 @@ block-over s d b k i e h l m =
     rw (size, same) (wrote-part (decoded s) d k 16 i h l (omega (arith, length-decoded s)))
 
 -- The sum of two lists in a row.
-pub sum-append : (s t : List ℕ) → sum (s ++ t) ≡ sum s + sum t
+pub sum-append : (s t : List ℕ) → sumOf (s ++ t) ≡ sumOf s + sumOf t
 sum-append [] t = omega arith
 sum-append (a ∷ s) t = omega (arith, sum-append s t)
 
 -- A sum is that of a front and that of the rest.
-pub sum-split : (k : ℕ) (s : List ℕ) → sum (take k s) + sum (drop k s) ≡ sum s
-sum-split k s = sym (sum-append (take k s) (drop k s)) ∙ ap sum (take-append-drop k s)
+pub sum-split : (k : ℕ) (s : List ℕ) → sumOf (take k s) + sumOf (drop k s) ≡ sumOf s
+sum-split k s = sym (sum-append (take k s) (drop k s)) ∙ ap sumOf (take-append-drop k s)
 
 -- Two blocks of 16 that are put into an array of 32 are all of it.
 pub two-blocks :
@@ -179,16 +180,16 @@ two-blocks z a b lz la lb =
     ∙ append-nil (a ++ b)
 
 -- The sum of bytes is at most 255 for each.
-pub sum-most : (s : List ℕ) → Bytes s → sum s ≤ 255 * length s
+pub sum-most : (s : List ℕ) → Bytes s → sumOf s ≤ 255 * length s
 sum-most [] h = omega arith
 sum-most (a ∷ s) h = omega (arith, h .0, sum-most s (h .1))
 
 -- The sum of the bytes from i on is that of a block and that of those behind it, and the block's is at most 255 for each byte.
 pub sum-block : (s : List ℕ) (i : ℕ) → i + 32 ≤ length s
-    → (sum (decoded (take 32 (drop i s))) + sum (decoded (drop (i + 32) s)) ≡ sum (decoded (drop i s))) × (sum (decoded (take 32 (drop i s))) ≤ 4080)
+    → (sumOf (decoded (take 32 (drop i s))) + sumOf (decoded (drop (i + 32) s)) ≡ sumOf (decoded (drop i s))) × (sumOf (decoded (take 32 (drop i s))) ≤ 4080)
 sum-block s i h =
     let d : List ℕ = decoded (drop i s) in
     let rest : decoded (drop (i + 32) s) ≡ drop 16 d = ap decoded (sym (drop-drop 32 i s)) ∙ decoded-drop 16 (drop i s) in (
-      ap₂ (λ (x y : List ℕ). sum x + sum y) (decoded-take 16 (drop i s)) rest ∙ sym (sum-append (take 16 d) (drop 16 d)) ∙ ap sum (take-append-drop 16 d),
+      ap₂ (λ (x y : List ℕ). sumOf x + sumOf y) (decoded-take 16 (drop i s)) rest ∙ sym (sum-append (take 16 d) (drop 16 d)) ∙ ap sumOf (take-append-drop 16 d),
       omega (arith, sum-most (decoded (take 32 (drop i s))) (decoded-bytes (take 32 (drop i s))), length-block s i h),
     )

@@ -9,8 +9,8 @@ use native.Mathlib.Numerals.{add-one, add-two}
 use native.Mathlib.Omega.{arith}
 use lib.ListN.{length, getD, take, drop, set, length-append, length-drop}
 use lib.Seq.{paste, take-append-le, take-take, take-add, take-nil, drop-cons, set-at, append-snoc, take-at, take-all, take-length, drop-append-add, drop-drop, take-suc, length-take-le}
-use Rattle.frame.specs.Checks.{Bytes}
-use Rattle.frame.specs.Judged.{every}
+use Rattle.frame.specs.Elements.{Bytes}
+use Rattle.frame.specs.DigitRuns.{allPass}
 
 -- A store just behind what is written makes it one longer.
 pub wrote-one : (w d : List ℕ) (a k : ℕ) → length w ≡ k → k < length d → set (w ++ drop k d) k a ≡ (w ++ (a ∷ [])) ++ drop (suc k) d
@@ -107,10 +107,10 @@ wrote-part s d k n i h l m =
     rw (take-append-le k (take i s) (drop i d) (omega arith), take-take k i s h, take-take n n (drop k s) (le-refl n), ← take-add k n s, rest)
 
 -- One element more of a block is tested: what is found of it and those before with those behind it.
-pub every-next :
+pub all-pass-next :
     (test : ℕ → Bool) (ok : Bool) (n i at : ℕ) (s : List ℕ) → i < n → at + n ≤ length s →
-    (ok && test (getD s (at + i) 0)) && every test (take (n - (i + 1)) (drop (at + (i + 1)) s)) ≡ ok && every test (take (n - i) (drop (at + i) s))
-every-next test ok n i at s h l =
+    (ok && test (getD s (at + i) 0)) && allPass test (take (n - (i + 1)) (drop (at + (i + 1)) s)) ≡ ok && allPass test (take (n - i) (drop (at + i) s))
+all-pass-next test ok n i at s h l =
     let one : n - i ≡ suc (n - (i + 1)) = omega arith in
     let next : at + i + 1 ≡ at + (i + 1) = omega arith in
     rw (one, drop-next s (at + i) (omega arith), next) (and-assoc ok (test (getD s (at + i) 0)) _)

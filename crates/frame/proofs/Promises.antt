@@ -13,7 +13,7 @@ use lib.Seq.{take-append-seam}
 use Rattle.frame.specs.Rule.{output}
 use Rattle.frame.specs.Reader.{Called, Values, refusalValues, calledValues, valuesAt, bufferAt, Promise, Gives}
 use Rattle.frame.specs.Calls.{Refused, Answered, outOf}
-use Rattle.frame.specs.Draining.{Says}
+use Rattle.frame.specs.Draining.{Reports}
 
 module _ {A S : Type 0} {refusal answer : A} {Next : S → Type 0} {filled : List ℕ} {s : S} {buf : List ℕ} where
   -- A refused call: the number, with the state and the buffer as they were.
@@ -97,7 +97,7 @@ module _
     none-out z e = no-frames c (c .out .frames) (ap (λ (x : Values). x .isFrame) (sym (answered z .0)) ∙ e)
 
     -- All that an answer says.
-    pub says : length (c .out .frames) ≤ 1 → Says number c Next s buf v s′ buf′
+    pub says : length (c .out .frames) ≤ 1 → Reports number c Next s buf v s′ buf′
     says l =
         record {
           inside = len-by (eqb number 0) refl;

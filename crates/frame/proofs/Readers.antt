@@ -13,10 +13,11 @@ use Rattle.frame.specs.Framing.{limit}
 use Rattle.frame.specs.Judged.{payloadAt}
 use Rattle.frame.specs.Reader.{State, holding, stateOf, Called, line, frameValues, feedValuesOf, bufferAt, quietRefusal, feedRefusal}
 use Rattle.frame.specs.Reader.{Feeds}
-use Rattle.frame.specs.Scan.{Stop, found, undecided, passed, stopOf, judging, Scanned, scannedTo, scanFrom, beforeScan, calledAs, calledBy}
-use Rattle.frame.specs.Scan.{scanWhole, joined, scanHeld, thenChunk, scanLine, stopBuffer, keptEnd, Usable, Answerable, Keeps, Stores, Leaves}
-use Rattle.frame.specs.Scan.{KeepsCall, QuietAnswered}
+use Rattle.frame.specs.Scan.{Stop, found, undecided, passed, stopOf, judging, Scanned, scannedTo, scanFrom}
+use Rattle.frame.specs.Scan.{stopBuffer}
 use Rattle.frame.specs.View.{part}
+use Rattle.frame.specs.Answer.{beforeScan, calledAs, calledBy, scanWhole, keptEnd, Usable, Answerable, Keeps}
+use Rattle.frame.specs.Feeding.{joined, scanHeld, thenChunk, scanLine, Stores, Leaves, KeepsCall, QuietAnswered}
 use Rattle.frame.specs.declared.framing.Framing.{Framing}
 use Rattle.frame.specs.declared.reader.Reader.{Reader}
 use Rattle.frame.specs.declared.reader.Left.{Left}

@@ -4,7 +4,7 @@ use Prim.Native.Nat.{ℕ, zero, suc, _+_, _<_}
 use native.Mathlib.Nat.{zero-add, add-zero, suc-add, add-suc, le-of-suc-le-suc, not-suc-le-zero}
 use native.Mathlib.Omega.{arith}
 use mathlib.Core.Path.{_≡_, refl, sym, ap, ap₂, _∙_}
-use mathlib.Core.List.{List, [], _∷_, _++_, List·Memᴰ, List·Memᴰ·head, List·Memᴰ·tail, List·Memᴰ·cases-cons, List·Memᴰ·not-nil, Memᴰ·cast}
+use mathlib.Core.List.{List, [], _∷_, _++_, List·Memᴰ, List·Memᴰ·head, List·Memᴰ·tail, List·Memᴰ·cases-cons, List·Memᴰ·not-nil, Memᴰ·cast, flatten}
 use mathlib.Core.Bool.{Bool, true, false, not, _&&_, _||_, and-eq-true-iff, false≢true}
 use mathlib.Core.Logic.{⊎-elim}
 use borrow.Author.Tests.{eq-eqb, eqb-true}
@@ -13,8 +13,9 @@ use lib.ListN.{length, getD, take, drop, replicate}
 use Rattle.frame.specs.Checks.{byte, test, word, bytes}
 use Rattle.frame.specs.Binary.{binary, body, footer}
 use Rattle.frame.specs.Rule.{join, places, outFrom, Found, rule}
-use Rattle.frame.specs.Recovery.{Good, Stretch, none, another, concat, starts, All}
-use Rattle.frame.specs.RecoveryExamples.{response, swallowed, LostAndBack, holdsStart, unguarded, shortStart, lostFrame}
+use Rattle.frame.specs.Elements.{All}
+use Rattle.frame.specs.Recovery.{Good, Stretch, none, another, starts}
+use Rattle.frame.specs.RecoveryExamples.{response, overlapped, LostAndBack, holdsStart, unguarded, shortStart, lostFrame}
 use Rattle.frame.specs.RecoveryExamples.{ProvisoNeeded}
 use Rattle.frame.specs.declared.framing.Framing.{Framing}
 use Rattle.frame.specs.declared.framing.Framing.the-variants.{Binary}
@@ -67,14 +68,14 @@ response-good = record { payload = 0xDB ∷ 0xA1 ∷ 0x80 ∷ 0x01 ∷ []; reads
 
 -- A stray start loses good frames, and later ones come back.
 pub lost-and-back : LostAndBack
-unfolding rule places outFrom join binary body footer byte test word bytes
+unfolding rule places outFrom join binary body footer byte test word bytes flatten
 lost-and-back =
     record {
       good =
           copies 22 response-good
           (another (record { payload = replicate 11 0; reads = refl }) (another (record { payload = replicate 15 0; reads = refl })
           (another response-good (another response-good none))));
-      pairs = λ i l x y. Memᴰ·cast (sym (zero-add i)) (pairs-sound 0 (concat swallowed) (starts 0 swallowed) refl i l x y);
+      pairs = λ i l x y. Memᴰ·cast (sym (zero-add i)) (pairs-sound 0 (flatten overlapped) (starts 0 overlapped) refl i l x y);
       frames = refl;
     }
 
@@ -89,7 +90,7 @@ elsewhere x (y ∷ ys) h m =
 
 -- Without the proviso a good frame far into the stretch is lost.
 pub proviso-needed : ProvisoNeeded
-unfolding rule places outFrom join binary body footer byte test word bytes
+unfolding rule places outFrom join binary body footer byte test word bytes flatten
 proviso-needed =
     record {
       good =
@@ -98,5 +99,5 @@ proviso-needed =
       there = List·Memᴰ·tail (List·Memᴰ·head refl);
       late = omega arith;
       frames = refl;
-      lost = elsewhere lostFrame (rule Binary (shortStart ++ concat unguarded) .frames) (omega arith, (omega arith, (omega arith, tt)));
+      lost = elsewhere lostFrame (rule Binary (shortStart ++ flatten unguarded) .frames) (omega arith, (omega arith, (omega arith, tt)));
     }

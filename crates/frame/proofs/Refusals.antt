@@ -12,9 +12,9 @@ use lib.ListN.{length, length-take}
 use Rattle.frame.specs.Framing.{limit}
 use Rattle.frame.specs.Rule.{Output}
 use Rattle.frame.specs.Reader.{State, Called, line, quiet, stateOf, Holds, Values, feedValuesOf, quietValuesOf, quietRefusal, feedRefusal}
-use Rattle.frame.specs.Reader.{quietNumber, lineNumber, Promise, AfterQuiet}
+use Rattle.frame.specs.Reader.{quietRefusalNumber, lineRefusalNumber, Promise, AfterQuiet}
+use Rattle.frame.specs.Elements.{All}
 use Rattle.frame.specs.Calls.{Phase, Calls, fed, taken, quieted, emptied, feedRefused, quietRefused, done}
-use Rattle.frame.specs.Recovery.{All}
 use Rattle.frame.specs.Driving.{refusalsOf, StateNeverRefused, FeedStaysInLimit, QuietStaysInLimit}
 use Rattle.frame.specs.declared.framing.Framing.{Framing}
 use Rattle.frame.specs.declared.reader.Reader.{Reader}
@@ -57,7 +57,7 @@ feed-other r room size l e =
     other-refusal (leb 256 room) (leb size 65536)
     (sym
     (ap
-    (λ (t : Bool). lineNumber t room size)
+    (λ (t : Bool). lineRefusalNumber t room size)
     (le-leb (r .count) (limit (r .framing)) l))
     ∙ e)
 
@@ -65,7 +65,7 @@ feed-other r room size l e =
 quiet-other : (r : Reader) (room : ℕ) → StateFits r → quietRefusal r room ≡ 16 → ⊥
 quiet-other r room l e =
     other-refusal (leb 256 room) true
-    (sym (ap (λ (t : Bool). quietNumber t room) (le-leb (r .count) (limit (r .framing)) l)) ∙ e)
+    (sym (ap (λ (t : Bool). quietRefusalNumber t room) (le-leb (r .count) (limit (r .framing)) l)) ∙ e)
 
 -- A refused call leaves the state as it was; any other leaves one that follows.
 stays :

@@ -4,13 +4,15 @@ use Prim.Native.Nat.{ℕ, zero, suc, pred, _+_, _≤_, zero-le}
 use native.Mathlib.Nat.{add-assoc, zero-add, add-zero, suc-add, add-suc, le-of-suc-le-suc, not-suc-le-zero, le-trans}
 use native.Mathlib.Omega.{arith}
 use mathlib.Core.Path.{_≡_, refl, sym, ap, _∙_, subst}
-use mathlib.Core.List.{List, [], _∷_, _++_, append-assoc, map-append}
+use mathlib.Core.List.{List, [], _∷_, _++_, map, append-assoc, map-append}
 use lib.ListN.{length, drop}
 use Rattle.frame.specs.Checks.{Verdict, cut, refused, frame}
+use Rattle.frame.specs.Hex.{sumOf}
 use Rattle.frame.specs.Framing.{read}
 use Rattle.frame.specs.Rule.{Output, output, nothing, noiseByte, handed, join, onBy, passAfter, places, Found, foundAt, outAt, outFrom}
 use Rattle.frame.specs.Rule.{rule, payloads}
-use Rattle.frame.specs.Recovery.{All, usedBytes, BytesAddUp}
+use Rattle.frame.specs.Elements.{All}
+use Rattle.frame.specs.Claims.{BytesAddUp}
 use Rattle.frame.specs.declared.framing.Framing.{Framing}
 use Rattle.frame.proofs.Shapes.{NoFrame, judge-stands}
 use Rattle.frame.proofs.Framings.{frame-sized}
@@ -65,7 +67,7 @@ module _ (f : Framing) where
 
 -- The bytes of an output: those of its frames and its noise.
 abbrev bytesOf : Output Found → ℕ
-bytesOf o = usedBytes (o .frames) + o .noise
+bytesOf o = sumOf (map (λ (x : Found). x .used) (o .frames)) + o .noise
 
 -- Every frame that the rule gives uses a byte.
 used-at :
@@ -84,7 +86,7 @@ rule-used f place zero (b ∷ s) = used-at f place b s (read f (b ∷ s)) refl (
 rule-used f place (suc pass) (b ∷ s) = rule-used f (suc place) pass s
 
 -- Frames that use a byte each are no more than their bytes.
-count-used : (xs : List Found) → All (λ x. 1 ≤ x .used) xs → length xs ≤ usedBytes xs
+count-used : (xs : List Found) → All (λ x. 1 ≤ x .used) xs → length xs ≤ sumOf (map (λ (x : Found). x .used) xs)
 count-used [] h = zero-le
 count-used (x ∷ xs) h = omega (arith, count-used xs (h .1), h .0)
 

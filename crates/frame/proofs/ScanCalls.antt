@@ -14,8 +14,9 @@ use Rattle.frame.specs.Rule.{output, join}
 use Rattle.frame.specs.Reader.{holding, settleAs, settle, Called, called, stopped, lineFrom, line, quiet}
 use Rattle.frame.specs.Claims.{Sized}
 use Rattle.frame.specs.Scan.{judging, judgedBytes, Stop, found, undecided, passed, Scanned, scanAs, scanFrom}
-use Rattle.frame.specs.Scan.{beforeScan, calledAs, scanWhole, joined, thenChunk, scanHeld, scanLine}
 use Rattle.frame.specs.View.{part}
+use Rattle.frame.specs.Answer.{beforeScan, calledAs, scanWhole}
+use Rattle.frame.specs.Feeding.{joined, thenChunk, scanHeld, scanLine}
 use Rattle.frame.specs.declared.framing.Framing.{Framing}
 use Rattle.frame.proofs.Lists.{drop-next, drop-take}
 use Rattle.frame.proofs.Framings.{undecided-short}

@@ -11,9 +11,11 @@ use lib.Seq.{drop-append-le}
 use Rattle.frame.specs.Checks.{Verdict, cut, refused, frame}
 use Rattle.frame.specs.Framing.{judge, read, limit}
 use Rattle.frame.specs.Rule.{Output, nothing, noiseByte, handed, join}
-use Rattle.frame.specs.Reader.{State, holding, Settled, settleAs, settle, Called, stopped, oneMore, ifFrame, lineFrom, line, ended, quiet, after}
-use Rattle.frame.specs.Draining.{ruleAfter, QuietFollowsRule, EmptyIsDrained}
-use Rattle.frame.specs.Recovery.{TakenIsInside, NeedsMoreIsTrue}
+use Rattle.frame.specs.Reader.{State, holding, Settled, settleAs, settle, Called, stopped, oneMore, ifFrame, lineFrom, line, ended, quiet}
+use Rattle.frame.specs.Reader.{after}
+use Rattle.frame.specs.Drain.{ruleAfter}
+use Rattle.frame.specs.Claims.{TakenIsInside, NeedsMoreIsTrue}
+use Rattle.frame.specs.Draining.{QuietFollowsRule, EmptyIsDrained}
 use Rattle.frame.specs.declared.framing.Framing.{Framing}
 use Rattle.frame.specs.declared.framing.Framing.the-variants.{Binary, Ascii}
 use Rattle.frame.proofs.Shapes.{NoFrame, judge-stands}

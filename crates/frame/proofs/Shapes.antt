@@ -9,8 +9,8 @@ use lib.ListN.{length}
 use Rattle.frame.specs.Checks.{Checks, next, fails, whole, byte, test, Verdict, cut, refused, frame, behind, run}
 use Rattle.frame.specs.Binary.{binary, footer}
 use Rattle.frame.specs.Digit.{isDigit, digitValue}
-use Rattle.frame.specs.Hex.{pairs, sum}
-use Rattle.frame.specs.Ascii.{colon, carriageReturn, lineFeed, digits, digitCount, afterDigits, ascii, lineEnd, crLf}
+use Rattle.frame.specs.Hex.{pairs, sumOf}
+use Rattle.frame.specs.Ascii.{colon, carriageReturn, lineFeed, hexDigits, digitCount, afterDigits, ascii, lineEnd, crLf}
 use Rattle.frame.specs.Framing.{checks, judge}
 use Rattle.frame.specs.Claims.{Decided}
 use Rattle.frame.specs.declared.framing.Framing.{Framing}
@@ -91,7 +91,7 @@ bars-test c q n t h = by-cond (Bars c) q t (fails n) (λ _. h) tt
 bars-after : (ds : List ℕ) (rest : List ℕ → Checks) → ((p : List ℕ) → Bars colon (rest p)) → Bars colon (afterDigits ds rest)
 unfolding afterDigits
 bars-after ds rest h =
-    bars-test colon (digitCount (length ds)) 3 _ (bars-test colon (eqb (sum (pairs ds) % 256) 0) 4 _ (h (dropLast (pairs ds))))
+    bars-test colon (digitCount (length ds)) 3 _ (bars-test colon (eqb (sumOf (pairs ds) % 256) 0) 4 _ (h (dropLast (pairs ds))))
 
 -- It is no part of the ending CR LF.
 bars-ending : (ds : List ℕ) (c : ℕ) → Bars colon (crLf ds c)
@@ -103,23 +103,23 @@ bars-ending ds c =
 -- Digits before it do not change that.
 bars-digits :
     (room : ℕ) (t : List ℕ → ℕ → Checks) → ((ds : List ℕ) → Fails (t ds colon)) → ((ds : List ℕ) (c : ℕ) → Bars colon (t ds c)) →
-    Bars colon (digits room t)
-unfolding digits isDigit
+    Bars colon (hexDigits room t)
+unfolding hexDigits isDigit
 bars-digits zero t h k = (h [], λ b. by-cond (Bars colon) (isDigit b) (fails 3) (t [] b) (λ _. tt) (k [] b))
 bars-digits (suc room) t h k =
-    let more : (b : ℕ) → Bars colon (digits room (λ ds e. t (digitValue b ∷ ds) e)) =
+    let more : (b : ℕ) → Bars colon (hexDigits room (λ ds e. t (digitValue b ∷ ds) e)) =
     λ b. bars-digits room (λ ds e. t (digitValue b ∷ ds) e) (λ ds. h (digitValue b ∷ ds)) (λ ds e. k (digitValue b ∷ ds) e) in
-    (h [], λ b. by-cond (Bars colon) (isDigit b) (digits room (λ ds e. t (digitValue b ∷ ds) e)) (t [] b) (λ _. more b) (k [] b))
+    (h [], λ b. by-cond (Bars colon) (isDigit b) (hexDigits room (λ ds e. t (digitValue b ∷ ds) e)) (t [] b) (λ _. more b) (k [] b))
 
 -- Whatever the ending of an ASCII frame.
 module _ (end : List ℕ → ℕ → Checks) where
   -- Where the checks behind the first colon fail at any other, no undecided start goes on over a colon.
-  ascii-stops : Bars colon (digits 514 end) → (b : ℕ) (s more : List ℕ) → run (ascii end) (b ∷ s) ≡ cut
+  ascii-stops : Bars colon (hexDigits 514 end) → (b : ℕ) (s more : List ℕ) → run (ascii end) (b ∷ s) ≡ cut
       → IsRefused (run (ascii end) ((b ∷ s) ++ (colon ∷ more)))
   unfolding ascii byte
   ascii-stops bars b s more e =
-      let t : Checks = cond (eqb b colon) (digits 514 end) (fails 1) in
-      let h : Bars colon t = by-cond (Bars colon) (eqb b colon) (digits 514 end) (fails 1) (λ _. bars) tt in
+      let t : Checks = cond (eqb b colon) (hexDigits 514 end) (fails 1) in
+      let h : Bars colon t = by-cond (Bars colon) (eqb b colon) (hexDigits 514 end) (fails 1) (λ _. bars) tt in
       refused-behind 1 (run t (s ++ (colon ∷ more))) (bars-stop colon t s more h (cut-behind 1 (run t s) e))
 
   -- It begins with a colon.
@@ -137,7 +137,7 @@ binary-first end s p used e =
     (k .rest, h .split ∙ ap (λ (l : List ℕ). 0xA5 ∷ l) (k .split))
 
 -- Behind an ASCII frame's first colon the checks fail at any other.
-pub bars-line : Bars colon (digits 514 crLf)
+pub bars-line : Bars colon (hexDigits 514 crLf)
 unfolding crLf test
 bars-line = bars-digits 514 crLf (λ ds. tt) bars-ending
 

@@ -14,10 +14,11 @@ use lib.Seq.{take-add, take-take, drop-drop}
 use Rattle.frame.specs.Checks.{Checks, next, fails, whole, test, Verdict, cut, refused, frame, behind, run}
 use Rattle.frame.specs.Binary.{binary}
 use Rattle.frame.specs.Digit.{isDigit, digitValue}
-use Rattle.frame.specs.Ascii.{ascii, colon, digits, crLf}
+use Rattle.frame.specs.Ascii.{ascii, colon, hexDigits, crLf}
 use Rattle.frame.specs.Framing.{read}
-use Rattle.frame.specs.Judged.{every}
-use Rattle.frame.specs.Scan.{judging, scanFrom, startOf, doubledNumber, other, passedBy, Skips}
+use Rattle.frame.specs.DigitRuns.{allPass}
+use Rattle.frame.specs.Judged.{startOf, doubledNumber, passedBy}
+use Rattle.frame.specs.Scan.{judging, scanFrom, other, Skips}
 use Rattle.frame.specs.declared.framing.Framing.{Framing}
 use Rattle.frame.specs.declared.framing.Framing.the-variants.{Binary, Ascii}
 use Rattle.frame.proofs.Numbers.{both-true, and-true}
@@ -28,17 +29,17 @@ use Rattle.frame.proofs.Prefixes.{refused-sized}
 use Rattle.frame.proofs.Scanning.{step-refused}
 
 -- The elements of two lists in a row.
-every-append : (test : ℕ → Bool) (s t : List ℕ) → every test (s ++ t) ≡ every test s && every test t
-every-append test [] t = refl
-every-append test (c ∷ s) t = rw (every-append test s t, ← and-assoc (test c) (every test s) (every test t))
+all-pass-append : (test : ℕ → Bool) (s t : List ℕ) → allPass test (s ++ t) ≡ allPass test s && allPass test t
+all-pass-append test [] t = refl
+all-pass-append test (c ∷ s) t = rw (all-pass-append test s t, ← and-assoc (test c) (allPass test s) (allPass test t))
 
 -- What holds of every element holds of every one in front.
-every-take : (test : ℕ → Bool) (n : ℕ) (s : List ℕ) → every test s ≡ true → every test (take n s) ≡ true
-every-take test zero s h = refl
-every-take test (suc n) [] h = refl
-every-take test (suc n) (c ∷ s) h =
-    let both = both-true (test c) (every test s) h in
-    and-true (test c) (every test (take n s)) (both .0) (every-take test n s (both .1))
+all-pass-take : (test : ℕ → Bool) (n : ℕ) (s : List ℕ) → allPass test s ≡ true → allPass test (take n s) ≡ true
+all-pass-take test zero s h = refl
+all-pass-take test (suc n) [] h = refl
+all-pass-take test (suc n) (c ∷ s) h =
+    let both = both-true (test c) (allPass test s) h in
+    and-true (test c) (allPass test (take n s)) (both .0) (all-pass-take test n s (both .1))
 
 -- A byte that is not b is another.
 other-byte : (b c : ℕ) → (c ≡ b → ⊥) → other b c ≡ true
@@ -50,7 +51,7 @@ module _ (b : ℕ) (s : List ℕ) (from stop : ℕ) where
   skips-none h = record { onward = le-refl from; inside = h; others = rw sub-self }
 
   -- n bytes more are skipped.
-  pub skips-more : (at n : ℕ) → Skips b s from stop at → at + n ≤ stop → every (other b) (take n (drop at s)) ≡ true → Skips b s from stop (at + n)
+  pub skips-more : (at n : ℕ) → Skips b s from stop at → at + n ≤ stop → allPass (other b) (take n (drop at s)) ≡ true → Skips b s from stop (at + n)
   skips-more at n h l e =
       let size : at + n - from ≡ at - from + n = omega (arith, h .onward) in
       let there : from + (at - from) ≡ at = omega (arith, h .onward) in
@@ -58,8 +59,8 @@ module _ (b : ℕ) (s : List ℕ) (from stop : ℕ) where
         onward = omega (arith, h .onward);
         inside = l;
         others =
-            rw (size, take-add (at - from) n (drop from s), drop-drop, there, every-append)
-            (and-true (every (other b) (take (at - from) (drop from s))) (every (other b) (take n (drop at s))) (h .others) e);
+            rw (size, take-add (at - from) n (drop from s), drop-drop, there, all-pass-append)
+            (and-true (allPass (other b) (take (at - from) (drop from s))) (allPass (other b) (take n (drop at s))) (h .others) e);
       }
 
   -- One byte more is skipped.
@@ -70,7 +71,7 @@ module _ (b : ℕ) (s : List ℕ) (from stop : ℕ) where
 pub start-fails : (f : Framing) (s : List ℕ) (place : ℕ) → place < length s → (getD s place 0 ≡ startOf f → ⊥) → read f (drop place s) ≡ refused 1 1
 unfolding binary ascii
 start-fails Binary s place l e = fail-byte 0xA5 1 _ s place l e
-start-fails Ascii s place l e = fail-byte colon 1 (digits 514 crLf) s place l e
+start-fails Ascii s place l e = fail-byte colon 1 (hexDigits 514 crLf) s place l e
 
 -- What is refused behind one byte is refused with one byte judged fewer.
 refused-left : (v : Verdict) (judged n : ℕ) → behind 1 v ≡ refused judged n → (left : ℕ) × (judged ≡ 1 + left) × (v ≡ refused left n)
@@ -86,15 +87,15 @@ fails-judged (whole p) s judged n h e = absurd h
 
 -- Before the bytes of a refusal goes one that is no c, unless it is the last judged.
 barred-next :
-    (c b : ℕ) (s : List ℕ) (left : ℕ) → (b ≡ c → left ≡ 0) → every (other c) (take (left - 1) s) ≡ true →
-    every (other c) (take left (b ∷ s)) ≡ true
+    (c b : ℕ) (s : List ℕ) (left : ℕ) → (b ≡ c → left ≡ 0) → allPass (other c) (take (left - 1) s) ≡ true →
+    allPass (other c) (take left (b ∷ s)) ≡ true
 barred-next c b s zero h rest = refl
 barred-next c b s (suc left) h rest =
     let back : suc left - 1 ≡ left = omega arith in
-    and-true (other c b) (every (other c) (take left s)) (other-byte c b (λ same. absurd (omega (arith, h same)))) (rw back at rest)
+    and-true (other c b) (allPass (other c) (take left s)) (other-byte c b (λ same. absurd (omega (arith, h same)))) (rw back at rest)
 
 -- Where a tree fails at the byte c wherever it takes one, no byte of a refusal but the last judged is c.
-barred : (c : ℕ) (t : Checks) (s : List ℕ) (judged n : ℕ) → Bars c t → run t s ≡ refused judged n → every (other c) (take (judged - 1) s) ≡ true
+barred : (c : ℕ) (t : Checks) (s : List ℕ) (judged n : ℕ) → Bars c t → run t s ≡ refused judged n → allPass (other c) (take (judged - 1) s) ≡ true
 barred c (fails k) s judged n h e = let none : judged ≡ 0 = cc in rw none
 barred c (whole p) s judged n h e = absurd (refused≢frame judged n 0 p (sym e))
 barred c (next t) [] judged n h e = absurd (cut≢refused judged n e)
@@ -110,20 +111,20 @@ next-judged t [] judged n e = absurd (cut≢refused judged n e)
 next-judged t (b ∷ s) judged n e = omega (arith, refused-left (run (t b) s) judged n e .1)
 
 -- Digits are refused at one byte at least.
-digits-judged : (room : ℕ) (t : List ℕ → ℕ → Checks) (s : List ℕ) (judged n : ℕ) → run (digits room t) s ≡ refused judged n → 1 ≤ judged
-unfolding digits
+digits-judged : (room : ℕ) (t : List ℕ → ℕ → Checks) (s : List ℕ) (judged n : ℕ) → run (hexDigits room t) s ≡ refused judged n → 1 ≤ judged
+unfolding hexDigits
 digits-judged zero t s judged n e = next-judged (λ c. cond (isDigit c) (fails 3) (t [] c)) s judged n e
 digits-judged (suc room) t s judged n e =
-    next-judged (λ c. cond (isDigit c) (digits room (λ ds x. t (digitValue c ∷ ds) x)) (t [] c)) s judged n e
+    next-judged (λ c. cond (isDigit c) (hexDigits room (λ ds x. t (digitValue c ∷ ds) x)) (t [] c)) s judged n e
 
 -- A colon that starts no frame fails behind it, and no byte between it and the failing one is a colon.
 colon-fails :
     (s : List ℕ) (place judged n : ℕ) → place < length s → getD s place 0 ≡ colon → read Ascii (drop place s) ≡ refused judged n →
-    (2 ≤ judged) × (every (other colon) (take (judged - 2) (drop (place + 1) s)) ≡ true)
+    (2 ≤ judged) × (allPass (other colon) (take (judged - 2) (drop (place + 1) s)) ≡ true)
 unfolding ascii
 colon-fails s place judged n l is q =
     let rest : List ℕ = drop (suc place) s in
-    let line : Checks = digits 514 crLf in
+    let line : Checks = hexDigits 514 crLf in
     let v = refused-left (run line rest) judged n (sym (pass-byte colon 1 line s place l is) ∙ q) in
     let size : judged - 2 ≡ v .0 - 1 = omega (arith, v .1) in (
       omega (arith, v .1, digits-judged 514 crLf rest (v .0) n (v .2)),
@@ -146,7 +147,7 @@ fails-over Ascii s stop place judged n m l is q =
         inside = omega arith;
         others =
             rw (take-take (to - (place + 1)) (judged - 2) (drop (place + 1) s) least) at
-            (every-take (other colon) (to - (place + 1)) (take (judged - 2) (drop (place + 1) s)) (h .1));
+            (all-pass-take (other colon) (to - (place + 1)) (take (judged - 2) (drop (place + 1) s)) (h .1));
       },
       omega arith,
     )
@@ -155,15 +156,15 @@ fails-over Ascii s stop place judged n m l is q =
 pub doubled-fails :
     (f : Framing) (s : List ℕ) (place : ℕ) → place + 1 < length s → getD s place 0 ≡ startOf f → getD s (place + 1) 0 ≡ startOf f →
     read f (drop place s) ≡ refused 2 (doubledNumber f)
-unfolding binary ascii digits crLf isDigit test
+unfolding binary ascii hexDigits crLf isDigit test
 doubled-fails Binary s place l e d =
     let second : getD s (suc place) 0 ≡ 0xA5 = ap (λ (k : ℕ). getD s k 0) (sym (add-one place)) ∙ d in
     pass-byte 0xA5 1 _ s place (omega arith) e
     ∙ ap (behind 1) (fail-byte 0x5A 1 _ s (suc place) (omega arith) (λ z. let no : _≡_ {A = ℕ} 0xA5 0x5A = sym second ∙ z in omega arith))
 doubled-fails Ascii s place l e d =
     let second : getD s (suc place) 0 ≡ colon = ap (λ (k : ℕ). getD s k 0) (sym (add-one place)) ∙ d in
-    pass-byte colon 1 (digits 514 crLf) s place (omega arith) e
-    ∙ ap (λ (r : List ℕ). behind 1 (run (digits 514 crLf) r))
+    pass-byte colon 1 (hexDigits 514 crLf) s place (omega arith) e
+    ∙ ap (λ (r : List ℕ). behind 1 (run (hexDigits 514 crLf) r))
     (drop-next s (suc place) (omega arith) ∙ ap (λ (c : ℕ). c ∷ drop (suc place + 1) s) second)
 
 module _ (e : Bool) (f : Framing) (s : List ℕ) (stop : ℕ) (m : stop ≤ length s) where
@@ -176,12 +177,12 @@ module _ (e : Bool) (f : Framing) (s : List ℕ) (stop : ℕ) (m : stop ≤ leng
 
   -- So are several behind it.
   pass-many :
-      (left place far : ℕ) → place + left ≤ stop → place ≤ far → every (other (startOf f)) (take left (drop place s)) ≡ true →
+      (left place far : ℕ) → place + left ≤ stop → place ≤ far → allPass (other (startOf f)) (take left (drop place s)) ≡ true →
       scanFrom (judging e f) (stop - place) place far (drop place s)
       ≡ scanFrom (judging e f) (stop - (place + left)) (place + left) (max far (place + left)) (drop (place + left) s)
   pass-many zero place far l k h = let same : max far (place + 0) ≡ far = omega arith in rw (same, add-zero)
   pass-many (suc left) place far l k h =
-      let both = both-true (other (startOf f) (getD s place 0)) (every (other (startOf f)) (take left (drop (place + 1) s))) (rw (drop-next s place (omega arith)) at h) in
+      let both = both-true (other (startOf f) (getD s place 0)) (allPass (other (startOf f)) (take left (drop (place + 1) s))) (rw (drop-next s place (omega arith)) at h) in
       let next : place + 1 + left ≡ place + suc left = omega arith in
       let far-is : max (max far (place + 1)) (place + suc left) ≡ max far (place + suc left) = omega arith in
       pass-one place far (omega arith) (eqb-false (getD s place 0) (startOf f) (not-true (eqb (getD s place 0) (startOf f)) (both .0)))

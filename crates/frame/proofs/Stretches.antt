@@ -2,13 +2,13 @@
 -- Assumes nothing.
 use Prim.Native.Nat.{ℕ, _+_}
 use mathlib.Core.Path.{_≡_, refl, sym, ap, ap₂, _∙_}
-use mathlib.Core.List.{List, _++_}
+use mathlib.Core.List.{List, _++_, flatten}
 use lib.ListN.{length}
 use lib.Seq.{drop-append-seam}
 use Rattle.frame.specs.Checks.{frame}
 use Rattle.frame.specs.Framing.{read}
 use Rattle.frame.specs.Rule.{output, handed, join, foundAt}
-use Rattle.frame.specs.Recovery.{Good, Stretch, none, another, concat, payloadIn, foundsFrom, CleanLine}
+use Rattle.frame.specs.Recovery.{Good, Stretch, none, another, payloadIn, foundsFrom, CleanLine}
 use Rattle.frame.specs.declared.framing.Framing.{Framing}
 use Rattle.frame.proofs.Shapes.{judge-stands}
 use Rattle.frame.proofs.Rules.{ruleFrom, rule-walk, rule-frame}
@@ -33,13 +33,13 @@ module _ (f : Framing) where
   -- The rule over a stretch: every good frame, in order, and no noise.
   pub rule-stretch :
       {gs : List (List ℕ)} (place : ℕ) → Stretch f gs →
-      ruleFrom f place 0 (concat gs) ≡ output (foundsFrom f place gs) 0
-  unfolding ruleFrom join
+      ruleFrom f place 0 (flatten gs) ≡ output (foundsFrom f place gs) 0
+  unfolding ruleFrom join flatten
   rule-stretch place none = refl
   rule-stretch place (another {g} {gs} good st) =
-      rule-good place (concat gs) good
+      rule-good place (flatten gs) good
       ∙ ap (join (handed (foundAt place (length g) (payloadIn (read f g))))) (rule-stretch (place + length g) st)
 
   -- With no damage: every good frame, in order, and no noise.
   pub clean-line : CleanLine f
-  clean-line gs st = rule-walk f (concat gs) ∙ rule-stretch 0 st
+  clean-line gs st = rule-walk f (flatten gs) ∙ rule-stretch 0 st

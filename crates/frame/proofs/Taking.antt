@@ -5,14 +5,14 @@ use native.Mathlib.Nat.{add-zero, zero-add, add-assoc, not-suc-le-zero, le-refl,
 use native.Mathlib.Numerals.{one-add}
 use native.Mathlib.Omega.{arith}
 use mathlib.Core.Path.{_≡_, refl, sym, ap, ap₂, _∙_}
-use mathlib.Core.List.{List, [], _∷_, _++_}
-use lib.ListN.{length, getD, take, drop, length-append}
-use lib.Seq.{drop-cons, drop-length, take-suc, take-length, take-append-seam, drop-append-seam}
+use mathlib.Core.List.{List, [], _∷_, _++_, append-nil}
+use lib.ListN.{length, getD, take, drop, length-append, take-append-drop}
+use lib.Seq.{drop-cons, drop-length, drop-drop, take-suc, take-length, take-append-seam, drop-append-seam}
 use Rattle.frame.specs.Checks.{Verdict, cut, refused, frame}
 use Rattle.frame.specs.Framing.{checks, judge}
 use Rattle.frame.specs.Rule.{output, nothing, noiseByte, handed, join}
 use Rattle.frame.specs.Reader.{holding, Settled, settled, settleAs, settle, Called, called, stopped, oneMore, ifFrame, lineFrom, line}
-use Rattle.frame.specs.Recovery.{HeldIsHeard}
+use Rattle.frame.specs.Claims.{remaining, TakenIsNeeded, HeldThenChunk}
 use Rattle.frame.specs.Scan.{judgedBytes}
 use Rattle.frame.specs.declared.framing.Framing.{Framing}
 use Rattle.frame.proofs.Lists.{drop-take}
@@ -139,33 +139,88 @@ module _ (f : Framing) where
       let less : suc m - 1 ≡ m = omega arith in
       rw less (line-refused b (take m s) (drop m s) judged n there)
 
-  -- One place of what a call hands out, whichever bytes of s were held.
-  hears-at :
-      (b m : ℕ) (s : List ℕ) (v : Verdict) → judge f (b ∷ s) ≡ v → m ≤ length (b ∷ s) →
-      ((k : ℕ) → k ≤ length s → lineAt s k .out ≡ settle (judge f) s .out) →
-      lineAt (b ∷ s) m .out ≡ settleAs v (b ∷ s) (settle (judge f) s) .out
+  -- What a call over s hands out and leaves, where the first m bytes of s are held: what all of s gives when it is judged at once.
+  abbrev Whole : List ℕ → ℕ → Settled → Type 0
+  Whole s m st = (lineAt s m .out ≡ st .out) × (remaining (lineAt s m) (drop m s) ≡ st .rest)
+
+  -- Undecided bytes.
+  whole-cut : (s : List ℕ) (m : ℕ) → m ≤ length s → judge f s ≡ cut → Whole s m (settled nothing s)
+  whole-cut s m l q =
+      let all : m + (length s - m) ≡ length s = omega arith in
+      rw (line-cut s m l q) (refl, rw (drop-drop, all, drop-length) (append-nil s))
+
+  -- A frame.
+  whole-frame : (s : List ℕ) (m used : ℕ) (p : List ℕ) → m ≤ length s → judge f s ≡ frame used p → Whole s m (settled (handed p) (drop used s))
+  whole-frame s m used p l q =
+      let far : ℕ = max m used in
+      let there : m + (far - m) ≡ used + (far - used) = omega arith in
+      rw (line-found s m used p l q) (refl, rw (drop-drop, there) (rw drop-drop at (take-append-drop (far - used) (drop used s))))
+
+  -- A failed start, and what the bytes behind it give.
+  whole-refused :
+      (b m : ℕ) (s : List ℕ) (judged n : ℕ) (later : Settled) → judge f (b ∷ s) ≡ refused judged n → m ≤ length (b ∷ s) →
+      ((k : ℕ) → k ≤ length s → Whole s k later) → Whole (b ∷ s) m (settled (join noiseByte (later .out)) (later .rest))
   unfolding join
-  hears-at b m s cut q l later = ap (λ (c : Called). c .out) (line-cut (b ∷ s) m l q)
-  hears-at b m s (refused judged n) q l later =
+  whole-refused b m s judged n later q l w =
       let far : ℕ = max m judged in
       let size = refused-sized f (b ∷ s) judged n q in
-      ap (λ (c : Called). c .out) (rw q at (line-decided (b ∷ s) m l))
-      ∙ ap (λ (c : Called). c .out) (line-failed (b ∷ s) far judged n q (omega arith))
-      ∙ ap (join noiseByte) (later (far - 1) (omega (arith, size .there)))
-  hears-at b m s (frame used p) q l later = ap (λ (c : Called). c .out) (line-found (b ∷ s) m used p l q)
+      let k : ℕ = far - 1 in
+      let c : Called = lineAt s k in
+      let step : lineAt (b ∷ s) m ≡ more (far - m) (noisier 1 c) =
+      rw q at (line-decided (b ∷ s) m l) ∙ ap (more (far - m)) (line-failed (b ∷ s) far judged n q (omega arith)) in
+      let rest = w k (omega (arith, size .there)) in
+      let place : m + (far - m + c .taken) ≡ suc (k + c .taken) = omega (arith, size .some) in
+      rw step
+      (ap (join noiseByte) (rest .0), rw (drop-drop, place) (ap (λ (t : List ℕ). c .held ++ t) (sym (drop-drop (c .taken) k s)) ∙ rest .1))
 
-  -- What a call hands out is what all its bytes give when judged at once.
-  hears : (s : List ℕ) (m : ℕ) → m ≤ length s → lineAt s m .out ≡ settle (judge f) s .out
+  -- One place.
+  whole-at :
+      (b m : ℕ) (s : List ℕ) (v : Verdict) → judge f (b ∷ s) ≡ v → m ≤ length (b ∷ s) →
+      ((k : ℕ) → k ≤ length s → Whole s k (settle (judge f) s)) → Whole (b ∷ s) m (settleAs v (b ∷ s) (settle (judge f) s))
+  whole-at b m s cut q l later = whole-cut (b ∷ s) m l q
+  whole-at b m s (refused judged n) q l later = whole-refused b m s judged n (settle (judge f) s) q l later
+  whole-at b m s (frame used p) q l later = whole-frame (b ∷ s) m used p l q
+
+  -- All places.
+  whole : (s : List ℕ) (m : ℕ) → m ≤ length s → Whole s m (settle (judge f) s)
   unfolding line lineFrom settle
-  hears [] zero l = refl
-  hears [] (suc m) l = absurd (not-suc-le-zero l)
-  hears (b ∷ s) m l = hears-at b m s (judge f (b ∷ s)) refl l (hears s)
+  whole [] zero l = (refl, refl)
+  whole [] (suc m) l = absurd (not-suc-le-zero l)
+  whole (b ∷ s) m l = whole-at b m s (judge f (b ∷ s)) refl l (whole s)
 
 -- The held bytes count as if the chunk began with them.
-pub held-is-heard : HeldIsHeard
-held-is-heard state chunk =
+pub held-then-chunk : HeldThenChunk
+held-then-chunk state chunk =
     let f : Framing = state .framing in
     let s : List ℕ = state .held ++ chunk in
-    ap₂ (λ (h c : List ℕ). line (holding f h) c .out) (sym (take-append-seam (state .held) chunk)) (sym (drop-append-seam (state .held) chunk))
-    ∙ hears f s (length (state .held)) (rw length-append (omega arith))
-    ∙ sym (hears f s 0 zero-le)
+    let here : Whole f s (length (state .held)) (settle (judge f) s) = whole f s (length (state .held)) (rw length-append (omega arith)) in
+    let front : Whole f s 0 (settle (judge f) s) = whole f s 0 zero-le in
+    let split = rw (take-append-seam (state .held) chunk, drop-append-seam (state .held) chunk) at here in
+    (split .0 ∙ sym (front .0), split .1 ∙ sym (front .1))
+
+-- A call begun with st that took more than n bytes hands out no frame of the first n.
+needed-step :
+    (st : Settled) (c front : Called) (n : ℕ) (fs : List (List ℕ)) → st .out .frames ≡ fs → (n < c .taken → front .out .frames ≡ []) →
+    suc n < ifFrame fs (stopped st) (oneMore (st .out) c) .taken → ifFrame fs (stopped st) (oneMore (st .out) front) .out .frames ≡ []
+unfolding join
+needed-step st c front n [] e later h =
+    ap₂ (λ (x y : List (List ℕ)). x ++ y) e (later (omega arith))
+needed-step st c front n (p ∷ ps) e later h = absurd (not-suc-le-zero h)
+
+needed-first : (st : Settled) (c : Called) (fs : List (List ℕ)) → 0 < ifFrame fs (stopped st) (oneMore (st .out) c) .taken → fs ≡ []
+needed-first st c [] h = refl
+needed-first st c (p ∷ ps) h = absurd (not-suc-le-zero h)
+
+needed-from : (f : Framing) (st : Settled) (chunk : List ℕ) (n : ℕ) → n < lineFrom f st chunk .taken → lineFrom f st (take n chunk) .out .frames ≡ []
+unfolding lineFrom
+needed-from f st [] n h = absurd (not-suc-le-zero h)
+needed-from f st (b ∷ chunk) zero h =
+    needed-first st (lineFrom f (settle (judge f) (st .rest ++ (b ∷ []))) chunk) (st .out .frames) h
+needed-from f st (b ∷ chunk) (suc n) h =
+    let st′ : Settled = settle (judge f) (st .rest ++ (b ∷ [])) in
+    needed-step st (lineFrom f st′ chunk) (lineFrom f st′ (take n chunk)) n (st .out .frames) refl (needed-from f st′ chunk n) h
+
+-- A line call takes no byte that it can do without.
+pub taken-is-needed : TakenIsNeeded
+unfolding line
+taken-is-needed s chunk n h = needed-from (s .framing) (settle (judge (s .framing)) (s .held)) chunk n h

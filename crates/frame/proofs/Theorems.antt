@@ -2,19 +2,19 @@
 -- Every export has its statement in specs/; a crate above this one names this module alone.
 -- Assumes nothing.
 use Rattle.frame.specs.Framing.{checks}
-use Rattle.frame.specs.Claims.{LayoutReads, OneSpelling, DecisionStands, UndecidedIsShort, FrameIsSized}
-use Rattle.frame.specs.Recovery.{BytesAddUp, TakenIsInside, NeedsMoreIsTrue, HeldIsHeard, CallsFollowRule, CleanLine, AsciiRecovers, BinaryRecovers}
+use Rattle.frame.specs.Claims.{LayoutReads, FrameIsLayout, DecisionStands, UndecidedIsShort, FrameIsSized, BytesAddUp, TakenIsInside}
+use Rattle.frame.specs.Claims.{TakenIsNeeded, NeedsMoreIsTrue, HeldThenChunk, CallsFollowRule, ViewIsFeed, ViewStaysInside}
+use Rattle.frame.specs.Recovery.{CleanLine, AsciiRecovers, BinaryRecovers}
 use Rattle.frame.specs.Recovery.{LateFramesComeBack, AsciiCallsRecover, BinaryCallsRecover, CleanCalls}
 use Rattle.frame.specs.Draining.{LineDrains, NeedsMoreIsDrained, DrainFollowsRule, QuietFollowsRule, EmptyIsDrained}
-use Rattle.frame.specs.Draining.{FeedTells, QuietTells, ViewTells, DrainIsSized, RuleIsSized}
-use Rattle.frame.specs.View.{ViewIsFeed, ViewStaysInside}
+use Rattle.frame.specs.Draining.{FeedReports, QuietReports, ViewReports, DrainIsSized, RuleIsSized}
 use Rattle.frame.specs.Driving.{CanDrive, DrivesAreShort, StateNeverRefused, FeedStaysInLimit, QuietStaysInLimit, EndsFresh}
 use Rattle.frame.specs.RecoveryExamples.{LostAndBack, ProvisoNeeded}
 use Rattle.frame.specs.declared.framing.Framing.{Framing}
 use Rattle.frame.specs.declared.framing.Framing.the-variants.{Binary, Ascii}
 use Rattle.frame.proofs.Trees.{stands}
-use Rattle.frame.proofs.BinaryLaws.{binary-layout-reads, binary-one-spelling}
-use Rattle.frame.proofs.AsciiLaws.{ascii-layout-reads, ascii-one-spelling}
+use Rattle.frame.proofs.BinaryLaws.{binary-layout-reads, binary-frame-is-layout}
+use Rattle.frame.proofs.AsciiLaws.{ascii-layout-reads, ascii-frame-is-layout}
 use Rattle.frame.proofs.Framings.{undecided-short, frame-sized}
 use Rattle.frame.proofs.Rules as rules
 use Rattle.frame.proofs.Settling as settling
@@ -34,9 +34,9 @@ pub layout-reads : (f : Framing) → LayoutReads f
 layout-reads Binary = binary-layout-reads
 layout-reads Ascii = ascii-layout-reads
 
-pub one-spelling : (f : Framing) → OneSpelling f
-one-spelling Binary = binary-one-spelling
-one-spelling Ascii = λ s p used b e. ascii-one-spelling s p used e
+pub frame-is-layout : (f : Framing) → FrameIsLayout f
+frame-is-layout Binary = binary-frame-is-layout
+frame-is-layout Ascii = λ s p used b e. ascii-frame-is-layout s p used e
 
 pub decision-stands : (f : Framing) → DecisionStands f
 decision-stands f = stands (checks f)
@@ -53,11 +53,14 @@ bytes-add-up = rules.bytes-add-up
 pub taken-is-inside : TakenIsInside
 taken-is-inside = settling.line-taken
 
+pub taken-is-needed : TakenIsNeeded
+taken-is-needed = taking.taken-is-needed
+
 pub needs-more-is-true : NeedsMoreIsTrue
 needs-more-is-true = settling.needs-more-is-true
 
-pub held-is-heard : HeldIsHeard
-held-is-heard = taking.held-is-heard
+pub held-then-chunk : HeldThenChunk
+held-then-chunk = taking.held-then-chunk
 
 pub line-drains : LineDrains
 line-drains = draining.line-drains
@@ -74,14 +77,14 @@ quiet-follows-rule = settling.quiet-rule
 pub empty-is-drained : EmptyIsDrained
 empty-is-drained = settling.quiet-left
 
-pub feed-tells : FeedTells
-feed-tells = calling.feed-tells
+pub feed-reports : FeedReports
+feed-reports = calling.feed-reports
 
-pub quiet-tells : QuietTells
-quiet-tells = calling.quiet-tells
+pub quiet-reports : QuietReports
+quiet-reports = calling.quiet-reports
 
-pub view-tells : ViewTells
-view-tells = views.view-tells
+pub view-reports : ViewReports
+view-reports = views.view-reports
 
 pub view-is-feed : ViewIsFeed
 view-is-feed = views.view-is-feed

@@ -10,12 +10,14 @@ use lib.Dec.{leb, eqb}
 use lib.ListN.{length, take, drop, length-drop}
 use lib.Seq.{drop-drop}
 use Rattle.frame.specs.Framing.{limit}
-use Rattle.frame.specs.Reader.{State, holding, Called, line, after, stateOf, Holds, refusalValues, valuesAt, bufferAt, sound, lineNumber, feedRefusal}
+use Rattle.frame.specs.Reader.{State, holding, Called, line, after, stateOf, Holds, refusalValues, valuesAt, bufferAt, sound, lineRefusalNumber}
+use Rattle.frame.specs.Reader.{feedRefusal}
 use Rattle.frame.specs.Reader.{feedValuesOf, Feeds}
 use Rattle.frame.specs.Refusal.{numberOf}
-use Rattle.frame.specs.Scan.{KeepsCall}
-use Rattle.frame.specs.View.{inside, part, viewed, viewCall, Follows, viewRefusal, Views, Stands, ViewIsFeed, ViewStaysInside}
-use Rattle.frame.specs.Draining.{ViewTells}
+use Rattle.frame.specs.View.{inside, part, viewed, viewCall, Follows, viewRefusal, Views, Stands}
+use Rattle.frame.specs.Claims.{ViewIsFeed, ViewStaysInside}
+use Rattle.frame.specs.Draining.{ViewReports}
+use Rattle.frame.specs.Feeding.{KeepsCall}
 use Rattle.frame.specs.declared.reader.Reader.{Reader}
 use Rattle.frame.specs.declared.refusal.Refusal.{Refusal}
 use Rattle.frame.specs.declared.answer.Kept.{Kept}
@@ -27,8 +29,8 @@ use Rattle.frame.proofs.Settling.{line-one, line-taken, line-size}
 use Rattle.frame.proofs.Promises.{refuses, answers, numbered, answered, refusing, says}
 
 -- What the answer of a view's call says.
-pub view-tells : ViewTells
-view-tells v chunk buf a buf′ p = says (viewCall v chunk) p (line-one (viewed v chunk) (drop (v .end) chunk))
+pub view-reports : ViewReports
+view-reports v chunk buf a buf′ p = says (viewCall v chunk) p (line-one (viewed v chunk) (drop (v .end) chunk))
 
 -- Both of two tests hold.
 both : (a b : Bool) → a && b ≡ true → (a ≡ true) × (b ≡ true)
@@ -89,10 +91,10 @@ same-refusal v chunk room r e h =
     let k = is-inside v (length chunk) e in
     let framing : r .framing ≡ v .framing = ap (λ (s : State). s .framing) (h .state) in
     let few : r .count ≤ limit (r .framing) = rw framing (omega (arith, h .count, part-length v chunk k, k .fits)) in
-    ap (λ (q : Bool). lineNumber q room (length chunk)) (e ∙ sym (le-leb (r .count) (limit (r .framing)) few))
+    ap (λ (q : Bool). lineRefusalNumber q room (length chunk)) (e ∙ sym (le-leb (r .count) (limit (r .framing)) few))
 
 -- Where a chunk is not refused, no shorter one is.
-shorter : (q : Bool) (room size less : ℕ) → less ≤ size → lineNumber q room size ≡ 0 → lineNumber q room less ≡ 0
+shorter : (q : Bool) (room size less : ℕ) → less ≤ size → lineRefusalNumber q room size ≡ 0 → lineRefusalNumber q room less ≡ 0
 shorter q room size less l = by q (leb 256 room) (leb size 65536) refl
   where
     by :
@@ -135,16 +137,16 @@ view-is-feed v chunk buf a buf′ r p e h =
 module _ (v : View) (room size : ℕ) where
   -- The refusals of a view's call, in their order.
   pub view-state : inside v size ≡ false → viewRefusal v room size ≡ 16
-  view-state e = ap (λ (q : Bool). lineNumber q room size) e
+  view-state e = ap (λ (q : Bool). lineRefusalNumber q room size) e
 
   pub view-buffer : inside v size ≡ true → room < 256 → viewRefusal v room size ≡ 13
-  view-buffer e h = ap (λ (q : Bool). lineNumber q room size) e ∙ simp (lt-leb 256 room h)
+  view-buffer e h = ap (λ (q : Bool). lineRefusalNumber q room size) e ∙ simp (lt-leb 256 room h)
 
   pub view-chunk : inside v size ≡ true → 256 ≤ room → 65536 < size → viewRefusal v room size ≡ 15
-  view-chunk e h k = ap (λ (q : Bool). lineNumber q room size) e ∙ simp (le-leb 256 room h, lt-leb size 65536 k)
+  view-chunk e h k = ap (λ (q : Bool). lineRefusalNumber q room size) e ∙ simp (le-leb 256 room h, lt-leb size 65536 k)
 
   view-accepted : inside v size ≡ true → 256 ≤ room → size ≤ 65536 → viewRefusal v room size ≡ 0
-  view-accepted e h k = ap (λ (q : Bool). lineNumber q room size) e ∙ simp (le-leb 256 room h, le-leb size 65536 k)
+  view-accepted e h k = ap (λ (q : Bool). lineRefusalNumber q room size) e ∙ simp (le-leb 256 room h, le-leb size 65536 k)
 
 -- A refused call.
 pub refused-views :

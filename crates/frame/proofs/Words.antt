@@ -13,9 +13,9 @@ use lib.Count.{trailingZeros, under, trailing-le}
 use lib.Dec.{eqb}
 use lib.ListN.{length, getD, take, drop, take-append-drop, length-drop}
 use lib.Seq.{length-take-le}
-use Rattle.frame.specs.Checks.{Bytes}
-use Rattle.frame.specs.Digit.{isDigit, digitRun, packed}
-use Rattle.frame.specs.Judged.{every}
+use Rattle.frame.specs.Digit.{isDigit}
+use Rattle.frame.specs.Elements.{Bytes}
+use Rattle.frame.specs.DigitRuns.{digitRun, littleEndian, allPass}
 use Rattle.frame.proofs.DigitLaws.{counted}
 use Rattle.frame.proofs.Lists.{drop-next, bytes-left, bytes-right, take-least}
 use Rattle.frame.proofs.Numbers.{below-at}
@@ -45,12 +45,12 @@ run-part (suc n) (suc most) (c ∷ s) h l = by-digit (isDigit c) (run-part n mos
     by-digit false rest k = refl
 
 -- Where not all of the first n characters are digits, fewer than n digits stand at the front.
-pub run-fewer : (n : ℕ) (s : List ℕ) → every isDigit (take n s) ≡ false → digitRun n s < n
+pub run-fewer : (n : ℕ) (s : List ℕ) → allPass isDigit (take n s) ≡ false → digitRun n s < n
 run-fewer zero s e = absurd (false≢true (sym e))
 run-fewer (suc n) [] e = omega arith
 run-fewer (suc n) (c ∷ s) e = by-digit (isDigit c) (run-fewer n s) e
   where
-    by-digit : (q : Bool) → (every isDigit (take n s) ≡ false → digitRun n s < n) → (q && every isDigit (take n s)) ≡ false
+    by-digit : (q : Bool) → (allPass isDigit (take n s) ≡ false → digitRun n s < n) → (q && allPass isDigit (take n s)) ≡ false
         → cond q (suc (digitRun n s)) 0 < suc n
     by-digit true rest k = omega (arith, rest k)
     by-digit false rest k = omega arith
@@ -84,14 +84,14 @@ run-two-small s at x y e k =
     (first, mul-le-mul one second)
 
 -- The characters from a place on: the one there is the lowest byte.
-packed-next : (n i j : ℕ) (s : List ℕ) → i + 1 ≡ j → i < length s → packed (take (suc n) (drop i s)) ≡ getD s i 0 + 256 * packed (take n (drop j s))
+packed-next : (n i j : ℕ) (s : List ℕ) → i + 1 ≡ j → i < length s → littleEndian (take (suc n) (drop i s)) ≡ getD s i 0 + 256 * littleEndian (take n (drop j s))
 packed-next n i j s e h = rw (drop-next s i h, e)
 
 -- Eight characters, each counting 256 times as much as the one before.
 pub word-packed : (s : List ℕ) (at : ℕ) → at + 8 ≤ length s
     → getD s at 0 + getD s (at + 1) 0 * 0x100 + getD s (at + 2) 0 * 0x10000 + getD s (at + 3) 0 * 0x1000000 + getD s (at + 4) 0 * 0x100000000
     + getD s (at + 5) 0 * 0x10000000000 + getD s (at + 6) 0 * 0x1000000000000 + getD s (at + 7) 0 * 0x100000000000000
-    ≡ packed (take 8 (drop at s))
+    ≡ littleEndian (take 8 (drop at s))
 word-packed s at h =
     omega (
       arith,
@@ -160,10 +160,10 @@ xor-lanes : {s : List ℕ} {f g : ℕ → ℕ} {w v : ℕ} → Bytes s → Lanes
 xor-lanes = both bitXor refl (xor-block 8) (xor-lt 8)
 
 -- The characters themselves.
-self-lanes : (s : List ℕ) → Lanes s (λ (c : ℕ). c) (packed s)
+self-lanes : (s : List ℕ) → Lanes s (λ (c : ℕ). c) (littleEndian s)
 self-lanes s = record { is = same s; small = λ c h. h }
   where
-    same : (t : List ℕ) → packed t ≡ lanes (λ (c : ℕ). c) t
+    same : (t : List ℕ) → littleEndian t ≡ lanes (λ (c : ℕ). c) t
     same [] = refl
     same (c ∷ t) = ap (λ (n : ℕ). c + 256 * n) (same t)
 
@@ -200,12 +200,12 @@ abbrev other : ℕ → ℕ
 other = others (λ (m : ℕ). m)
 
 -- The program computes that of each character, in the character's byte.
-others-lanes : (s : List ℕ) → Bytes s → Lanes s other (others (λ (m : ℕ). repeated m (length s)) (packed s))
+others-lanes : (s : List ℕ) → Bytes s → Lanes s other (others (λ (m : ℕ). repeated m (length s)) (littleEndian s))
 others-lanes s h =
     let self = self-lanes s in
     let top = mask-lanes s 0x80 (omega arith) in
     let low = and-lanes h self (mask-lanes s 0x7F (omega arith)) in
-    let reaches : (m : ℕ) → m ≤ 0x80 → Lanes s (λ (c : ℕ). bitAnd c 0x7F + m) (bitAnd (packed s) (repeated 0x7F (length s)) + repeated m (length s)) =
+    let reaches : (m : ℕ) → m ≤ 0x80 → Lanes s (λ (c : ℕ). bitAnd c 0x7F + m) (bitAnd (littleEndian s) (repeated 0x7F (length s)) + repeated m (length s)) =
     λ m l. add-lanes m (λ c. omega (arith, and-le-r c 0x7F)) low
     in
     let ranges =
@@ -273,12 +273,12 @@ zeros-run (c ∷ s) = by-digit (isDigit c) (zeros-run s)
     by-digit false e = rw (zeros-top (bits (length s)) (lanes mark s))
 
 -- What the program computes of n characters is the count of the digits at their front.
-others-run : (n : ℕ) (s : List ℕ) → Bytes s → length s ≡ n → trailingZeros (bits n) (others (λ (m : ℕ). repeated m n) (packed s)) / 8 ≡ digitRun n s
+others-run : (n : ℕ) (s : List ℕ) → Bytes s → length s ≡ n → trailingZeros (bits n) (others (λ (m : ℕ). repeated m n) (littleEndian s)) / 8 ≡ digitRun n s
 others-run n s h e =
     rw (← e) (ap (λ (w : ℕ). trailingZeros (bits (length s)) w / 8) (others-lanes s h .is ∙ lanes-same other mark other-mark s h) ∙ zeros-run s)
 
 -- What the program computes of the 8 characters from `at` on.
-pub word-digits : (s : List ℕ) (at w : ℕ) → at + 8 ≤ length s → Bytes s → w ≡ packed (take 8 (drop at s))
+pub word-digits : (s : List ℕ) (at w : ℕ) → at + 8 ≤ length s → Bytes s → w ≡ littleEndian (take 8 (drop at s))
     → trailingZeros 64 (others (λ (m : ℕ). repeated m 8) w) / 8 ≡ digitRun 8 (drop at s)
 word-digits s at w h b e =
     let eight : length (take 8 (drop at s)) ≡ 8 = length-take-le 8 (drop at s) (simp length-drop (omega arith)) in

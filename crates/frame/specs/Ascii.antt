@@ -7,7 +7,7 @@ use lib.Dec.{leb, eqb}
 use lib.ListN.{length}
 use Rattle.frame.specs.Checks.{Checks, next, fails, whole, byte, test}
 use Rattle.frame.specs.Digit.{isDigit, digitValue}
-use Rattle.frame.specs.Hex.{hex, pairs, sum}
+use Rattle.frame.specs.Hex.{hex, pairs, sumOf}
 
 -- The character that starts a frame.
 abbrev pub colon : ℕ
@@ -23,9 +23,9 @@ lineFeed = 0x0A
 
 -- The byte that brings the sum of payload and checksum to 0 modulo 256.
 abbrev pub checksumOf : List ℕ → ℕ
-checksumOf p = (256 - sum p % 256) % 256
+checksumOf p = (256 - sumOf p % 256) % 256
 
--- The front of a frame: all characters before the ending.
+-- The published layout, from payload to frame, is a front and an ending. The front: all characters before the ending.
 unfoldable pub asciiFront : List ℕ → List ℕ
 asciiFront p = colon ∷ hex (p ++ (checksumOf p ∷ []))
 
@@ -33,14 +33,10 @@ asciiFront p = colon ∷ hex (p ++ (checksumOf p ∷ []))
 abbrev pub asciiEnding : List ℕ
 asciiEnding = carriageReturn ∷ lineFeed ∷ []
 
--- The published layout, from payload to frame.
-abbrev pub asciiLayout : List ℕ → List ℕ
-asciiLayout p = asciiFront p ++ asciiEnding
-
 -- Up to `room` digits, whose values are handed to t with the first other character; a further digit is refusal 3.
-unfoldable pub digits : ℕ → (List ℕ → ℕ → Checks) → Checks
-digits zero t = next (λ c. cond (isDigit c) (fails 3) (t [] c))
-digits (suc room) t = next (λ c. cond (isDigit c) (digits room (λ ds e. t (digitValue c ∷ ds) e)) (t [] c))
+unfoldable pub hexDigits : ℕ → (List ℕ → ℕ → Checks) → Checks
+hexDigits zero t = next (λ c. cond (isDigit c) (fails 3) (t [] c))
+hexDigits (suc room) t = next (λ c. cond (isDigit c) (hexDigits room (λ ds e. t (digitValue c ∷ ds) e)) (t [] c))
 
 -- As many digits as a payload and its checksum have: an even count, at least four.
 abbrev pub digitCount : ℕ → Bool
@@ -48,11 +44,11 @@ digitCount n = leb 4 n && eqb (n % 2) 0
 
 -- Behind digits of these values: their count (3), then their sum (4), then what is left for the payload that they stand for.
 unfoldable pub afterDigits : List ℕ → (List ℕ → Checks) → Checks
-afterDigits ds rest = test (digitCount (length ds)) 3 (test (eqb (sum (pairs ds) % 256) 0) 4 (rest (dropLast (pairs ds))))
+afterDigits ds rest = test (digitCount (length ds)) 3 (test (eqb (sumOf (pairs ds) % 256) 0) 4 (rest (dropLast (pairs ds))))
 
 -- The checks: the start (1); at most 514 digits (3); the ending, given the digits' values and the first other character.
 unfoldable pub ascii : (List ℕ → ℕ → Checks) → Checks
-ascii end = byte colon 1 (digits 514 end)
+ascii end = byte colon 1 (hexDigits 514 end)
 
 -- The character after CR is LF (5).
 unfoldable pub lineEnd : List ℕ → Checks

@@ -21,17 +21,13 @@ xorOf p = xorFrom 0 p
 abbrev pub bigEndian : ℕ → List ℕ
 bigEndian n = n / 256 ∷ n % 256 ∷ []
 
--- The front of a frame: all bytes before the ending.
+-- The published layout, from payload to frame, is a front and an ending. The front: all bytes before the ending.
 unfoldable pub binaryFront : List ℕ → List ℕ
 binaryFront p = 0xA5 ∷ 0x5A ∷ (bigEndian (0x8000 + length p) ++ (p ++ (xorOf p ∷ [])))
 
 -- The bytes of the ending.
 abbrev pub binaryEnding : List ℕ
 binaryEnding = 0x04 ∷ []
-
--- The published layout, from payload to frame.
-abbrev pub binaryLayout : List ℕ → List ℕ
-binaryLayout p = binaryFront p ++ binaryEnding
 
 -- The number before the payload is 0x8000 plus a length from 1 to 256.
 abbrev pub lengthWord : ℕ → Bool

@@ -1,10 +1,9 @@
 -- The ordered checks of a frame. Document 01, "Two framings": bytes are judged in order, and the first that fails gives the
 -- refusal; if the bytes run out before a failure and before the end, the refusal is 2.
-use Prim.Native.Nat.{ℕ, zero, suc, _+_, _*_, _<_, _≤_}
+use Prim.Native.Nat.{ℕ, zero, suc, _+_, _*_}
 use mathlib.Core.List.{List, [], _∷_}
 use mathlib.Core.Bool.{Bool, cond}
 use lib.Dec.{eqb}
-use lib.ListN.{length}
 
 -- A format as a tree of checks: take the next byte, refuse with a number, or accept a complete frame with its payload.
 pub data Checks : Type 0 where
@@ -48,14 +47,3 @@ run (fails n) s = refused 0 n
 run (whole p) s = frame 0 p
 run (next t) [] = cut
 run (next t) (b ∷ s) = behind 1 (run (t b) s)
-
--- Every element is a byte.
-abbrev pub Bytes : List ℕ → Type 0
-Bytes [] = Unit {0}
-Bytes (b ∷ s) = (b < 256) × Bytes s
-
--- A payload: 1 to 256 bytes.
-pub record Payload (p : List ℕ) : Type 0 where
-  pub bytes : Bytes p
-  pub some : 1 ≤ length p
-  pub most : length p ≤ 256

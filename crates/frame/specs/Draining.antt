@@ -1,52 +1,25 @@
 -- What the calls over one chunk, or of one quiet, give together, said of each call: it gives the first part, and the calls after it the rest.
 -- Document 01, "The leftmost rule and the line reader": the caller calls again with the rest, even an empty rest, until more bytes are needed; a
 -- quiet is repeated until it is empty.
-use Prim.Native.Nat.{ℕ, zero, suc, _+_, _≤_}
+use Prim.Native.Nat.{ℕ, _+_, _≤_}
 use mathlib.Core.Path.{_≡_}
-use mathlib.Core.List.{List, [], _∷_, _++_}
+use mathlib.Core.List.{List, [], _++_, map}
 use mathlib.Core.Bool.{false}
 use lib.Dec.{eqb}
 use lib.ListN.{length, drop}
-use Rattle.frame.specs.Checks.{Verdict, cut, refused, frame}
-use Rattle.frame.specs.Framing.{judge}
-use Rattle.frame.specs.Rule.{Output, nothing, noiseByte, handed, join, passAfter, rule, payloads}
-use Rattle.frame.specs.Reader.{State, holding, Settled, settled, Called, line, quiet, after, stateOf, Holds, Values, feedValuesOf}
+use Rattle.frame.specs.Hex.{sumOf}
+use Rattle.frame.specs.Rule.{nothing, join, rule, payloads}
+use Rattle.frame.specs.Reader.{State, Settled, settled, Called, line, quiet, after, stateOf, Holds, Values, feedValuesOf}
 use Rattle.frame.specs.Reader.{quietValuesOf, feedRefusal, quietRefusal, Feeds, AfterQuiet, Quiets}
-use Rattle.frame.specs.Calls.{Refused, Answered, outOf}
 use Rattle.frame.specs.View.{viewCall, Follows, viewRefusal, Views}
+use Rattle.frame.specs.Drain.{before, drain, afterDrain, ruleAfter}
+use Rattle.frame.specs.Calls.{Refused, Answered, outOf}
+use Rattle.frame.specs.declared.framing.Framing.{Framing}
 use Rattle.frame.specs.declared.reader.Reader.{Reader}
 use Rattle.frame.specs.declared.reader.Fed.{Fed}
 use Rattle.frame.specs.declared.reader.Quieted.{Quieted}
 use Rattle.frame.specs.declared.view.View.{View}
 use Rattle.frame.specs.declared.view.Viewed.{Viewed}
-use Rattle.frame.specs.declared.framing.Framing.{Framing}
-
--- An output, and then what was settled.
-abbrev pub before : Output (List ℕ) → Settled → Settled
-before o st = settled (join o (st .out)) (st .rest)
-
--- The rule at a place of a segment that goes on: undecided bytes stay.
-abbrev pub drainAs : Verdict → List ℕ → Settled → Settled
-drainAs cut s later = settled nothing s
-drainAs (refused judged n) s later = before noiseByte later
-drainAs (frame used p) s later = before (handed p) later
-
--- The leftmost rule over s, with `pass` bytes to pass over first, as far as it is settled: from the first undecided place on the bytes stay.
-unfoldable pub drainFrom : Framing → ℕ → List ℕ → Settled
-drainFrom f pass [] = settled nothing []
-drainFrom f zero (b ∷ s) = drainAs (judge f (b ∷ s)) (b ∷ s) (drainFrom f (passAfter (judge f (b ∷ s))) s)
-drainFrom f (suc pass) (b ∷ s) = drainFrom f pass s
-
--- What the line calls over a chunk give together from a state on, and the state that follows them.
-abbrev pub drain : State → List ℕ → Settled
-drain s chunk = drainFrom (s .framing) 0 (s .held ++ chunk)
-
-abbrev pub afterDrain : State → Settled → State
-afterDrain s d = holding (s .framing) (d .rest)
-
--- What the rule gives from a state on, where these bytes are still to come.
-abbrev pub ruleAfter : State → List ℕ → Output (List ℕ)
-ruleAfter s todo = payloads (rule (s .framing) (s .held ++ todo))
 
 -- A line call gives the first part of what is drained, and the same call again with the rest gives the others.
 abbrev pub LineDrains : Type 0
@@ -74,43 +47,38 @@ EmptyIsDrained = (s : State) → quiet s .out .frames ≡ [] → quiet s .held �
 
 -- What the answer of a call that gives c says. Not refused: what it hands out, the bytes that it takes and the state that follows are those of the
 -- call; refused: the number, and state and buffer stay. A payload is within the buffer as it then is, and no more is taken than the call takes.
-pub record Says {S : Type 0} (number : ℕ) (c : Called) (Next : S → Type 0) (s : S) (buf : List ℕ) (v : Values) (s′ : S) (buf′ : List ℕ) : Type 0 where
+pub record Reports {S : Type 0} (number : ℕ) (c : Called) (Next : S → Type 0) (s : S) (buf : List ℕ) (v : Values) (s′ : S) (buf′ : List ℕ) : Type 0 where
   pub inside : v .len ≤ length buf′
   pub most : v .taken ≤ c .taken
   pub answered : Answered v → (number ≡ 0) × (outOf v buf′ ≡ c .out) × (v .taken ≡ c .taken) × Next s′
   pub refused : Refused v → (eqb number 0 ≡ false) × (v .number ≡ number) × (s′ ≡ s) × (buf′ ≡ buf)
 
 -- Of a line call, of a quiet call, and of a view's call.
-abbrev pub FeedTells : Type 0
-FeedTells =
+abbrev pub FeedReports : Type 0
+FeedReports =
     (r : Reader) (chunk buf : List ℕ) (a : Fed) (buf′ : List ℕ) → Feeds r chunk buf a buf′ →
     let c : Called = line (stateOf r) chunk in
-    Says (feedRefusal r (length buf) (length chunk)) c (Holds (after (stateOf r) c)) r buf (feedValuesOf (a .answer)) (a .reader) buf′
+    Reports (feedRefusal r (length buf) (length chunk)) c (Holds (after (stateOf r) c)) r buf (feedValuesOf (a .answer)) (a .reader) buf′
 
-abbrev pub QuietTells : Type 0
-QuietTells =
+abbrev pub QuietReports : Type 0
+QuietReports =
     (r : Reader) (buf : List ℕ) (a : Quieted) (buf′ : List ℕ) → Quiets r buf a buf′ →
     let c : Called = quiet (stateOf r) in
-    Says (quietRefusal r (length buf)) c (AfterQuiet (stateOf r) c (c .out .frames)) r buf (quietValuesOf (a .answer)) (a .reader) buf′
+    Reports (quietRefusal r (length buf)) c (AfterQuiet (stateOf r) c (c .out .frames)) r buf (quietValuesOf (a .answer)) (a .reader) buf′
 
-abbrev pub ViewTells : Type 0
-ViewTells =
+abbrev pub ViewReports : Type 0
+ViewReports =
     (v : View) (chunk buf : List ℕ) (a : Viewed) (buf′ : List ℕ) → Views v chunk buf a buf′ →
     let c : Called = viewCall v chunk in
-    Says (viewRefusal v (length buf) (length chunk)) c (Follows v chunk c) v buf (feedValuesOf (a .answer)) (a .view) buf′
-
--- The sum of a number over a list.
-abbrev pub total : (List ℕ → ℕ) → List (List ℕ) → ℕ
-total size [] = 0
-total size (p ∷ ps) = size p + total size ps
+    Reports (viewRefusal v (length buf) (length chunk)) c (Follows v chunk c) v buf (feedValuesOf (a .answer)) (a .view) buf′
 
 -- Each payload that is drained takes its length and six bytes or more, and each byte of noise one.
 abbrev pub DrainIsSized : Type 0
 DrainIsSized =
     (s : State) (chunk : List ℕ) →
     let d : Settled = drain s chunk in
-    total (λ p. length p + 6) (d .out .frames) + d .out .noise + length (d .rest) ≤ length (s .held) + length chunk
+    sumOf (map (λ p. length p + 6) (d .out .frames)) + d .out .noise + length (d .rest) ≤ length (s .held) + length chunk
 
 -- So does each payload that the rule gives.
 abbrev pub RuleIsSized : Framing → Type 0
-RuleIsSized f = (s : List ℕ) → total (λ p. length p + 6) (payloads (rule f s) .frames) + payloads (rule f s) .noise ≤ length s
+RuleIsSized f = (s : List ℕ) → sumOf (map (λ p. length p + 6) (payloads (rule f s) .frames)) + payloads (rule f s) .noise ≤ length s

@@ -2,14 +2,14 @@
 -- state. Document 01, "The leftmost rule and the line reader" and last section.
 use Prim.Native.Nat.{ℕ, suc, _+_, _≤_}
 use mathlib.Core.Path.{_≡_}
-use mathlib.Core.List.{List, [], _∷_}
+use mathlib.Core.List.{List, [], _∷_, flatten}
 use mathlib.Core.Bool.{cond}
 use lib.ListN.{length, drop}
 use Rattle.frame.specs.Framing.{limit}
 use Rattle.frame.specs.Rule.{Output}
 use Rattle.frame.specs.Reader.{newReader, Values, feedValuesOf, quietValuesOf, Feeds, Quiets}
+use Rattle.frame.specs.Elements.{All}
 use Rattle.frame.specs.Calls.{Phase, offering, Calls, fed, taken, quieted, emptied, feedRefused, quietRefused, done}
-use Rattle.frame.specs.Recovery.{concat, All}
 use Rattle.frame.specs.declared.framing.Framing.{Framing}
 use Rattle.frame.specs.declared.reader.Reader.{Reader}
 use Rattle.frame.specs.declared.reader.Fed.{Fed}
@@ -65,9 +65,9 @@ Offers done chunks = chunks ≡ []
 -- A caller gets a segment through a new reader in these chunks, with no more calls than the chunks plus the bytes plus one.
 pub record Driven (f : Framing) (chunks : List (List ℕ)) : Type 0 where
   pub out : Output (List ℕ)
-  pub calls : Calls offering (newReader f) (concat chunks) out
+  pub calls : Calls offering (newReader f) (flatten chunks) out
   pub offers : Offers calls chunks
-  pub few : countOf calls ≤ length chunks + length (concat chunks) + 1
+  pub few : countOf calls ≤ length chunks + length (flatten chunks) + 1
 
 abbrev pub CanDrive : Framing → Type 0
 CanDrive f = (chunks : List (List ℕ)) → All (λ chunk. length chunk ≤ 65536) chunks → Driven f chunks
@@ -75,8 +75,8 @@ CanDrive f = (chunks : List (List ℕ)) → All (λ chunk. length chunk ≤ 6553
 -- However a caller offers a segment in chunks, the calls are no more than the chunks plus the bytes plus one.
 abbrev pub DrivesAreShort : Framing → Type 0
 DrivesAreShort f =
-    (chunks : List (List ℕ)) (out : Output (List ℕ)) (calls : Calls offering (newReader f) (concat chunks) out) → Offers calls chunks →
-    countOf calls ≤ length chunks + length (concat chunks) + 1
+    (chunks : List (List ℕ)) (out : Output (List ℕ)) (calls : Calls offering (newReader f) (flatten chunks) out) → Offers calls chunks →
+    countOf calls ≤ length chunks + length (flatten chunks) + 1
 
 -- No call in a list from a new reader refuses the state that it gets.
 abbrev pub StateNeverRefused : Framing → Type 0

@@ -23,7 +23,7 @@ abbrev pub endingBytes : Framing → List ℕ
 endingBytes Binary = binaryEnding
 endingBytes Ascii = asciiEnding
 
--- The layout of a payload in a framing.
+-- The published layout, from payload to frame.
 abbrev pub layout : Framing → List ℕ → List ℕ
 layout f p = front f p ++ endingBytes f
 

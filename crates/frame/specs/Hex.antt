@@ -1,7 +1,7 @@
 -- Bytes as digits. Document 01, "Two framings": each byte as two characters of 0-9 A-F.
 use Prim.Native.Nat.{ℕ, _+_, _*_, _/_, _%_}
-use mathlib.Core.List.{List, [], _∷_, map}
-use Rattle.frame.specs.Digit.{digitValue, digitOf}
+use mathlib.Core.List.{List, [], _∷_}
+use Rattle.frame.specs.Digit.{digitOf}
 
 -- Two characters for each byte.
 abbrev pub hex : List ℕ → List ℕ
@@ -14,11 +14,7 @@ pairs [] = []
 pairs (a ∷ []) = []
 pairs (a ∷ b ∷ s) = (a * 16 + b) ∷ pairs s
 
--- The bytes that the characters of s stand for, two to a byte.
-abbrev pub decoded : List ℕ → List ℕ
-decoded s = pairs (map digitValue s)
-
--- The sum of the bytes.
-abbrev pub sum : List ℕ → ℕ
-sum [] = 0
-sum (b ∷ s) = b + sum s
+-- The sum of numbers.
+abbrev pub sumOf : List ℕ → ℕ
+sumOf [] = 0
+sumOf (n ∷ s) = n + sumOf s

@@ -1,24 +1,18 @@
--- What the functions behind the public calls answer. Only their contracts, and specs/Scan.antt, cite these definitions.
-use Prim.Native.Nat.{ℕ, _+_, _*_, _%_, _≤_, _<_}
-use mathlib.Core.List.{List, [], _∷_}
+-- Behind the public calls: what the functions of binary.rt, ascii.rt and framing.rt answer.
+use Prim.Native.Nat.{ℕ, _+_, _-_, _*_, _%_, _≤_, _<_}
+use mathlib.Core.List.{List}
 use mathlib.Core.Path.{_≡_}
-use mathlib.Core.Bool.{Bool, true, _&&_}
+use mathlib.Core.Bool.{Bool}
 use lib.ListN.{length, getD, take, drop}
-use Rattle.frame.specs.Checks.{Verdict, cut, refused, frame}
+use Rattle.frame.specs.Checks.{Checks, whole, byte, test, Verdict, cut, refused, frame, behind, run}
 use Rattle.frame.specs.Ascii.{colon, carriageReturn}
-use Rattle.frame.specs.Digit.{Digits}
-use Rattle.frame.specs.Hex.{decoded}
+use Rattle.frame.specs.DigitRuns.{Digits, decoded}
 use Rattle.frame.specs.Framing.{inFront}
 use Rattle.frame.specs.Refusal.{numberOf}
 use Rattle.frame.specs.declared.framing.Framing.{Framing}
 use Rattle.frame.specs.declared.framing.Framing.the-variants.{Binary, Ascii}
 use Rattle.frame.specs.declared.framing.Judged.{Judged}
 use Rattle.frame.specs.declared.framing.Judged.the-variants.{Undecided, Failed, Frame}
-
--- Every element passes the test.
-abbrev pub every : (ℕ → Bool) → List ℕ → Bool
-every test [] = true
-every test (c ∷ s) = test c && every test s
 
 -- The payload of n bytes of the frame at the front of s.
 abbrev pub payloadAt : Framing → List ℕ → ℕ → List ℕ
@@ -31,9 +25,9 @@ payloadEnd Binary n = 4 + n
 payloadEnd Ascii n = 1 + 2 * n
 
 -- A payload of n bytes can be taken out of s: it is there, and in digits where they are decoded.
-abbrev pub Packed : Framing → List ℕ → ℕ → Type 0
-Packed Binary s n = payloadEnd Binary n ≤ length s
-Packed Ascii s n = (payloadEnd Ascii n ≤ length s) × Digits (take (2 * n) (drop 1 s))
+abbrev pub HasPayload : Framing → List ℕ → ℕ → Type 0
+HasPayload Binary s n = payloadEnd Binary n ≤ length s
+HasPayload Ascii s n = (payloadEnd Ascii n ≤ length s) × Digits (take (2 * n) (drop 1 s))
 
 -- The length of a frame with a payload of n bytes.
 abbrev pub frameLength : Framing → ℕ → ℕ
@@ -61,3 +55,28 @@ pub record Short (s : List ℕ) (count : ℕ) : Type 0 where
   pub start : getD s 0 0 ≡ colon
   pub inside : 1 + count < length s
   pub ends : getD s (1 + count) 0 ≡ carriageReturn
+
+-- The first byte of every frame.
+abbrev pub startOf : Framing → ℕ
+startOf Binary = 0xA5
+startOf Ascii = colon
+
+-- The refusal of a start that another start follows, which fails there.
+abbrev pub doubledNumber : Framing → ℕ
+doubledNumber Binary = 1
+doubledNumber Ascii = 6
+
+-- The places that a failed start passes over, its own the first: in ASCII framing the bytes before the failing one are digits or a CR, which
+-- start no frame.
+abbrev pub passedBy : Framing → ℕ → ℕ
+passedBy Binary judged = 1
+passedBy Ascii judged = judged - 1
+
+-- The checks of a frame's ending, whose payload is p: its checksum is right (4), and its last byte is there (5).
+abbrev pub endChecks : Bool → ℕ → List ℕ → Checks
+endChecks right last p = test right 4 (byte last 5 (whole p))
+
+-- The answer on the ending, in either framing, where the checksum is complete with the byte at `end`.
+abbrev pub Ended : List ℕ → ℕ → Bool → ℕ → ℕ → Judged → Type 0
+Ended s end right last len r =
+    (f : Framing) → behind (end + 1) (run (endChecks right last (payloadAt f s len)) (drop (end + 1) s)) ≡ verdictOf f s r

@@ -1,5 +1,6 @@
--- What a reader of the frame crate has to believe: the definitions in document 01's order, the promises of the public calls, and the claims. Document 01's
--- "piece" is called chunk here, and its "wants more" needs more.
+-- What the frame crate is about, in three parts. Document 01's "piece" is called chunk here, and its "wants more" needs more.
+--
+-- First, what must be believed: the formats and the rule in document 01's order, and what each public call promises.
 pub mod Checks
 pub mod Binary
 pub mod Digit
@@ -8,15 +9,21 @@ pub mod Ascii
 pub mod Framing
 pub mod Refusal
 pub mod Single
-pub mod Claims
 pub mod Rule
 pub mod Reader
-pub mod Calls
 pub mod View
-pub mod Draining
+pub mod Drain
+-- Second, what follows from it and is proved: lists of calls and the claims on them, demand 3 among them.
+pub mod Elements
+pub mod Calls
+pub mod Claims
 pub mod Recovery
-pub mod Driving
 pub mod RecoveryExamples
--- Behind the public calls: what the functions that they are made of answer. Nothing here has to be believed.
+pub mod Driving
+pub mod Draining
+-- Third, what only functions behind the public calls cite: nobody has to believe it.
+pub mod DigitRuns
 pub mod Judged
 pub mod Scan
+pub mod Answer
+pub mod Feeding

@@ -1,4 +1,5 @@
--- The line reader's calls. Document 01, "The leftmost rule and the line reader" and "Refusal numbers".
+-- The line reader's calls. Document 01, "The leftmost rule and the line reader" and "Refusal numbers". A line call offers a chunk; a quiet call, document
+-- 01's term, says that the line was silent and the segment has ended.
 use Prim.Native.Nat.{ℕ, suc}
 use mathlib.Core.Path.{_≡_}
 use mathlib.Core.List.{List, [], _∷_, _++_}
@@ -145,21 +146,21 @@ bufferAt [] buf = buf
 bufferAt (p ∷ ps) buf = inFront p buf
 
 -- The refusals of a quiet call: 16, unless the state is sound, then 13; of a line call: 16, 13, 15. 0: none.
-abbrev pub quietNumber : Bool → ℕ → ℕ
-quietNumber sound room = cond sound (cond (leb 256 room) 0 13) 16
+abbrev pub quietRefusalNumber : Bool → ℕ → ℕ
+quietRefusalNumber sound room = cond sound (cond (leb 256 room) 0 13) 16
 
-abbrev pub lineNumber : Bool → ℕ → ℕ → ℕ
-lineNumber sound room size = cond sound (cond (leb 256 room) (cond (leb size 65536) 0 15) 13) 16
+abbrev pub lineRefusalNumber : Bool → ℕ → ℕ → ℕ
+lineRefusalNumber sound room size = cond sound (cond (leb 256 room) (cond (leb size 65536) 0 15) 13) 16
 
 -- A state is sound where it holds no more bytes than the longest frame has.
 abbrev pub sound : Reader → Bool
 sound r = leb (r .count) (limit (r .framing))
 
 abbrev pub quietRefusal : Reader → ℕ → ℕ
-quietRefusal r room = quietNumber (sound r) room
+quietRefusal r room = quietRefusalNumber (sound r) room
 
 abbrev pub feedRefusal : Reader → ℕ → ℕ → ℕ
-feedRefusal r room size = lineNumber (sound r) room size
+feedRefusal r room size = lineRefusalNumber (sound r) room size
 
 -- What any call with a state and a buffer promises, by its refusal's number, 0 for none. Refused, it answers `refusal`, and state and buffer stay.
 -- Otherwise it answers `answer`, the state that follows has the property Next, and the buffer holds `filled`.

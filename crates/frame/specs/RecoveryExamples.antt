@@ -2,10 +2,10 @@
 -- into the stretch may be lost.
 use Prim.Native.Nat.{ℕ, _+_, _≤_}
 use mathlib.Core.Path.{_≡_}
-use mathlib.Core.List.{List, [], _∷_, _++_, List·Memᴰ}
+use mathlib.Core.List.{List, [], _∷_, _++_, flatten, List·Memᴰ}
 use lib.ListN.{length, take, drop, replicate}
 use Rattle.frame.specs.Rule.{output, Found, foundAt, rule}
-use Rattle.frame.specs.Recovery.{Stretch, concat, foundsFrom, PairsBegin}
+use Rattle.frame.specs.Recovery.{Stretch, foundsFrom, PairsBegin}
 use Rattle.frame.specs.declared.framing.Framing.the-variants.{Binary}
 
 -- A response: 80, success.
@@ -25,16 +25,16 @@ abbrev pub strayStart : List ℕ
 strayStart = 0xA5 ∷ 0x5A ∷ 0x81 ∷ 0x00 ∷ []
 
 -- 258 bytes of good frames that happen to complete it, then two more.
-abbrev pub swallowed : List (List ℕ)
-swallowed = replicate 22 response ++ (blank 11 ∷ blank 15 ∷ response ∷ response ∷ [])
+abbrev pub overlapped : List (List ℕ)
+overlapped = replicate 22 response ++ (blank 11 ∷ blank 15 ∷ response ∷ response ∷ [])
 
 -- The stray start takes 24 good frames with it, and the two behind them come back.
 pub record LostAndBack : Type 0 where
-  pub good : Stretch Binary swallowed
-  pub pairs : PairsBegin swallowed
+  pub good : Stretch Binary overlapped
+  pub pairs : PairsBegin overlapped
   pub frames :
-      rule Binary (strayStart ++ concat swallowed)
-      ≡ output (foundAt 0 262 (take 256 (concat swallowed)) ∷ responseAt 262 ∷ responseAt 272 ∷ []) 0
+      rule Binary (strayStart ++ flatten overlapped)
+      ≡ output (foundAt 0 262 (take 256 (flatten overlapped)) ∷ responseAt 262 ∷ responseAt 272 ∷ []) 0
 
 -- A good frame of 262 bytes whose payload holds another frame's start, and one that happens to complete that start.
 abbrev pub holdsStart : List ℕ
@@ -60,6 +60,6 @@ pub record ProvisoNeeded : Type 0 where
   pub there : List·Memᴰ lostFrame (foundsFrom Binary (length shortStart) unguarded)
   pub late : length shortStart + 260 ≤ lostFrame .place
   pub frames :
-      rule Binary (shortStart ++ concat unguarded)
-      ≡ output (foundAt 0 10 strayStart ∷ foundAt 10 262 (take 256 (drop 10 (concat unguarded))) ∷ responseAt 276 ∷ []) 4
-  pub lost : List·Memᴰ lostFrame (rule Binary (shortStart ++ concat unguarded) .frames) → ⊥
+      rule Binary (shortStart ++ flatten unguarded)
+      ≡ output (foundAt 0 10 strayStart ∷ foundAt 10 262 (take 256 (drop 10 (flatten unguarded))) ∷ responseAt 276 ∷ []) 4
+  pub lost : List·Memᴰ lostFrame (rule Binary (shortStart ++ flatten unguarded) .frames) → ⊥

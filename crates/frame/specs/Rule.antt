@@ -1,4 +1,6 @@
--- The leftmost rule (document 01's own term, "The leftmost rule and the line reader") over a segment: what arrives between two quiets.
+-- The leftmost rule over a segment. Document 01, "The leftmost rule and the line reader"; the rule's name is its own, and so are these terms: a segment
+-- is what arrives between two quiets, a quiet is a silence on the line that the caller reports, and noise are the bytes of a segment that lie in no frame
+-- of the rule.
 use Prim.Native.Nat.{ℕ, zero, suc, pred, _+_}
 use mathlib.Core.List.{List, [], _∷_, _++_, map}
 use Rattle.frame.specs.Checks.{Verdict, cut, refused, frame}

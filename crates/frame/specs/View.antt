@@ -2,12 +2,11 @@
 use Prim.Native.Nat.{ℕ, _+_, _-_}
 use mathlib.Core.Path.{_≡_}
 use mathlib.Core.List.{List, []}
-use mathlib.Core.Bool.{Bool, true, cond, _&&_}
+use mathlib.Core.Bool.{Bool, cond, _&&_}
 use lib.Dec.{leb}
 use lib.ListN.{length, take, drop}
 use Rattle.frame.specs.Framing.{limit}
-use Rattle.frame.specs.Reader.{State, holding, Called, line, after, Holds, feedValuesOf, lineNumber, Gives, Feeds}
-use Rattle.frame.specs.Calls.{Refused, Answered}
+use Rattle.frame.specs.Reader.{State, holding, Called, line, after, Holds, feedValuesOf, lineRefusalNumber, Gives}
 use Rattle.frame.specs.declared.reader.Reader.{Reader}
 use Rattle.frame.specs.declared.view.View.{View}
 use Rattle.frame.specs.declared.view.Viewed.{Viewed}
@@ -36,7 +35,7 @@ pub record Follows (v : View) (chunk : List ℕ) (c : Called) (v′ : View) : Ty
 
 -- The refusals of a view's call: 16, also where its bytes do not lie in the chunk; 13; 15, for a chunk over 65,536 bytes.
 abbrev pub viewRefusal : View → ℕ → ℕ → ℕ
-viewRefusal v room size = lineNumber (inside v size) room size
+viewRefusal v room size = lineRefusalNumber (inside v size) room size
 
 -- The promise of a view's call with a chunk and a buffer.
 abbrev pub Views : View → List ℕ → List ℕ → Viewed → List ℕ → Type 0
@@ -47,22 +46,3 @@ Views v chunk buf a buf′ =
 -- The reader that a view stands for; one that holds nothing where `inside` fails, so that a call of the view is refused.
 abbrev pub Stands : View → List ℕ → Reader → Type 0
 Stands v chunk r = Holds (cond (inside v (length chunk)) (viewed v chunk) (holding (v .framing) [])) r
-
--- Where the view is inside the chunk, its call is the line call of the reader that it stands for, offered what stands behind the view in the chunk, and the
--- view that follows stands for the reader that follows; where it is refused, that reader is refused so with the chunk. So lists of calls admit it.
-pub record IsFeed (v : View) (chunk buf : List ℕ) (a : Viewed) (buf′ : List ℕ) (r : Reader) : Type 0 where
-  pub answered :
-      Answered (feedValuesOf (a .answer)) → (r′ : Reader) → Stands (a .view) chunk r′ →
-      Feeds r (drop (v .end) chunk) buf (record { reader = r′; answer = a .answer }) buf′
-  pub refused : Refused (feedValuesOf (a .answer)) → Feeds r chunk buf (record { reader = r; answer = a .answer }) buf′
-
-abbrev pub ViewIsFeed : Type 0
-ViewIsFeed =
-    (v : View) (chunk buf : List ℕ) (a : Viewed) (buf′ : List ℕ) (r : Reader) → Views v chunk buf a buf′ → inside v (length chunk) ≡ true →
-    Stands v chunk r → IsFeed v chunk buf a buf′ r
-
--- The view that follows a call lies in the chunk.
-abbrev pub ViewStaysInside : Type 0
-ViewStaysInside =
-    (v : View) (chunk buf : List ℕ) (a : Viewed) (buf′ : List ℕ) → Views v chunk buf a buf′ → inside v (length chunk) ≡ true →
-    inside (a .view) (length chunk) ≡ true

@@ -3,7 +3,8 @@ use crate::framing::Framing;
 use crate::refusal::Refusal;
 use crate::scan::ScanEnd;
 use crate::scan::ScanResult;
-ghost use Rattle.frame.specs.Scan.{scanned, Answerable, Keeps};
+ghost use Rattle.frame.specs.Scan.{scanned};
+ghost use Rattle.frame.specs.Answer.{Answerable, Keeps};
 
 pub enum FeedAnswer {
     // A frame: `taken` bytes of the chunk were taken, `noise` bytes were settled as noise, and the payload of `len` bytes is in the buffer's front.

@@ -1,7 +1,7 @@
 // ASCII framing.
-use crate::copy;
 use crate::digit;
 use crate::framing::Judged;
+use crate::framing::judge_ending;
 use crate::hex;
 use crate::refusal::Refusal;
 ghost use mathlib.Core.Path.{_≡_};
@@ -10,11 +10,11 @@ ghost use Prim.Native.Nat.{_≤_, _<_, _+_, _*_, _%_};
 ghost use lib.ListN.{length, getD, take, drop};
 ghost use Rattle.frame.specs.declared.framing.Framing.the-variants.{Ascii};
 ghost use Rattle.frame.specs.Checks.{run, behind};
-ghost use Rattle.frame.specs.Digit.{digitRun};
-ghost use Rattle.frame.specs.Hex.{sum, decoded};
-ghost use Rattle.frame.specs.Ascii.{carriageReturn, digits, crLf, asciiLayout};
-ghost use Rattle.frame.specs.Framing.{judge, inFront};
-ghost use Rattle.frame.specs.Judged.{payloadAt, Packed, verdictOf, handedOut, Short};
+ghost use Rattle.frame.specs.Hex.{sumOf};
+ghost use Rattle.frame.specs.Ascii.{carriageReturn, hexDigits, crLf};
+ghost use Rattle.frame.specs.Framing.{judge, inFront, layout};
+ghost use Rattle.frame.specs.DigitRuns.{digitRun, decoded};
+ghost use Rattle.frame.specs.Judged.{payloadAt, HasPayload, verdictOf, handedOut, Short};
 
 // Judges the sum of the bytes that the `count` digits behind the colon stand for, and what stands behind their CR.
 fn judge_end(s: &[u8], count: usize, total: u32) -> Judged
@@ -24,37 +24,17 @@ fn judge_end(s: &[u8], count: usize, total: u32) -> Judged
     requires { ⌜ count % 2 ≡ 0 ⌝ }
     requires { ⌜ 1 + count < length (now s) ⌝ }
     requires { ⌜ getD (now s) (1 + count) 0 ≡ carriageReturn ⌝ }
-    requires { ⌜ total ≡ sum (decoded (take count (drop 1 (now s)))) ⌝ }
-    ensures { λ r. ⌜ behind 1 (run (digits 514 crLf) (drop 1 (now (s .entry)))) ≡ verdictOf Ascii (now (s .entry)) r ⌝ }
+    requires { ⌜ total ≡ sumOf (decoded (take count (drop 1 (now s)))) ⌝ }
+    ensures { λ r. ⌜ behind 1 (run (hexDigits 514 crLf) (drop 1 (now (s .entry)))) ≡ verdictOf Ascii (now (s .entry)) r ⌝ }
 {
-    let n = s.len();
-    let end = 1 + count;
-    if total % 256 != 0 {
-        return Judged::Failed {
-            refusal: Refusal::Checksum,
-            judged: end + 1,
-        };
-    }
-    if n <= end + 1 {
-        return Judged::Undecided;
-    }
-    if s[end + 1] != 0x0A {
-        return Judged::Failed {
-            refusal: Refusal::Footer,
-            judged: end + 2,
-        };
-    }
-    Judged::Frame {
-        used: end + 2,
-        len: count / 2 - 1,
-    }
+    judge_ending(s, 1 + count, total % 256 == 0, 0x0A, count / 2 - 1)
 }
 
 // Judges what stands behind the colon, where `count` digits do.
 fn judge_digits(s: &[u8], count: usize) -> Judged
     requires { ⌜ 1 ≤ length (now s) ⌝ }
     requires { ⌜ count ≡ digitRun 515 (drop 1 (now s)) ⌝ }
-    ensures { λ r. ⌜ behind 1 (run (digits 514 crLf) (drop 1 (now (s .entry)))) ≡ verdictOf Ascii (now (s .entry)) r ⌝ }
+    ensures { λ r. ⌜ behind 1 (run (hexDigits 514 crLf) (drop 1 (now (s .entry)))) ≡ verdictOf Ascii (now (s .entry)) r ⌝ }
 {
     let n = s.len();
     let end = 1 + count;
@@ -159,15 +139,15 @@ fn extract_short(s: &[u8], count: usize, buf: &mut [u8]) -> Judged
     let whole = &two[..];
     let verdict = judge_end(s, count, hex::sum_of_two(whole, 48 - n));
     if let Judged::Frame { used: _, len: _ } = verdict {
-        copy::put(buf, 0, &whole[..16]);
-        copy::put(buf, n - 16, &whole[16..31]);
+        bytes::copy(&whole[..16], buf);
+        bytes::copy(&whole[16..31], &mut buf[n - 16..]);
     }
     verdict
 }
 
 // Puts the payload of `len` bytes of the frame at the front of s into the front of buf.
 pub(crate) fn unpack(s: &[u8], len: usize, buf: &mut [u8])
-    requires { ⌜ Packed Ascii (now s) len ⌝ }
+    requires { ⌜ HasPayload Ascii (now s) len ⌝ }
     requires { ⌜ len ≤ length (now buf) ⌝ }
     ensures { λ _. ⌜ now (buf .exit) ≡ inFront (payloadAt Ascii (now (s .entry)) len) (now (buf .entry)) ⌝ }
 {
@@ -195,7 +175,7 @@ pub(crate) fn extract(s: &[u8], buf: &mut [u8]) -> Judged
 pub(crate) fn pack(p: &[u8], buf: &mut [u8])
     requires { ⌜ length (now p) ≤ 256 ⌝ }
     requires { ⌜ 2 * length (now p) + 5 ≤ length (now buf) ⌝ }
-    ensures { λ _. ⌜ now (buf .exit) ≡ inFront (asciiLayout (now (p .entry))) (now (buf .entry)) ⌝ }
+    ensures { λ _. ⌜ now (buf .exit) ≡ inFront (layout Ascii (now (p .entry))) (now (buf .entry)) ⌝ }
 {
     let len = p.len();
     let end = 1 + 2 * len;

@@ -1,15 +1,15 @@
 // Binary framing.
-use crate::copy;
 use crate::framing::Judged;
+use crate::framing::judge_ending;
 use crate::refusal::Refusal;
 ghost use mathlib.Core.Path.{_≡_};
 ghost use Prim.Native.Nat.{_≤_, _<_, _+_};
 ghost use lib.ListN.{length, drop};
 ghost use Rattle.frame.specs.declared.framing.Framing.the-variants.{Binary};
-ghost use Rattle.frame.specs.Binary.{xorOf, body, footer, binaryLayout};
+ghost use Rattle.frame.specs.Binary.{xorOf, body, footer};
 ghost use Rattle.frame.specs.Checks.{run, behind};
-ghost use Rattle.frame.specs.Framing.{judge, inFront};
-ghost use Rattle.frame.specs.Judged.{payloadAt, Packed, verdictOf, handedOut};
+ghost use Rattle.frame.specs.Framing.{judge, inFront, layout};
+ghost use Rattle.frame.specs.Judged.{payloadAt, HasPayload, verdictOf, handedOut};
 
 // The XOR of all bytes.
 pub(crate) fn xor_of(s: &[u8]) -> u8
@@ -38,30 +38,11 @@ fn judge_body(s: &[u8], len: usize) -> Judged
     requires { ⌜ len ≤ 256 ⌝ }
     ensures { λ r. ⌜ behind 4 (run (body footer len) (drop 4 (now (s .entry)))) ≡ verdictOf Binary (now (s .entry)) r ⌝ }
 {
-    let n = s.len();
     let end = 4 + len;
-    if n <= end {
+    if s.len() <= end {
         return Judged::Undecided;
     }
-    if xor_of(&s[4..end]) != s[end] {
-        return Judged::Failed {
-            refusal: Refusal::Checksum,
-            judged: end + 1,
-        };
-    }
-    if n <= end + 1 {
-        return Judged::Undecided;
-    }
-    if s[end + 1] != 0x04 {
-        return Judged::Failed {
-            refusal: Refusal::Footer,
-            judged: end + 2,
-        };
-    }
-    Judged::Frame {
-        used: end + 2,
-        len: len,
-    }
+    judge_ending(s, end, xor_of(&s[4..end]) == s[end], 0x04, len)
 }
 
 // Judges the front of s: the start bytes, the length, and what stands behind them.
@@ -104,11 +85,11 @@ pub(crate) fn judge(s: &[u8]) -> Judged
 
 // Puts the payload of `len` bytes of the frame at the front of s into the front of buf.
 pub(crate) fn unpack(s: &[u8], len: usize, buf: &mut [u8])
-    requires { ⌜ Packed Binary (now s) len ⌝ }
+    requires { ⌜ HasPayload Binary (now s) len ⌝ }
     requires { ⌜ len ≤ length (now buf) ⌝ }
     ensures { λ _. ⌜ now (buf .exit) ≡ inFront (payloadAt Binary (now (s .entry)) len) (now (buf .entry)) ⌝ }
 {
-    copy::put(buf, 0, &s[4..4 + len]);
+    bytes::copy(&s[4..4 + len], buf);
 }
 
 // Judges the front of s, and puts the payload of a frame into the front of buf.
@@ -128,7 +109,7 @@ pub(crate) fn extract(s: &[u8], buf: &mut [u8]) -> Judged
 pub(crate) fn pack(p: &[u8], buf: &mut [u8])
     requires { ⌜ length (now p) ≤ 256 ⌝ }
     requires { ⌜ length (now p) + 6 ≤ length (now buf) ⌝ }
-    ensures { λ _. ⌜ now (buf .exit) ≡ inFront (binaryLayout (now (p .entry))) (now (buf .entry)) ⌝ }
+    ensures { λ _. ⌜ now (buf .exit) ≡ inFront (layout Binary (now (p .entry))) (now (buf .entry)) ⌝ }
 {
     let len = p.len();
     let end = 4 + len;
@@ -136,7 +117,7 @@ pub(crate) fn pack(p: &[u8], buf: &mut [u8])
     buf[1] = 0x5A;
     buf[2] = ((0x8000 + len) / 256 % 256) as u8;
     buf[3] = ((0x8000 + len) % 256) as u8;
-    copy::put(buf, 4, p);
+    bytes::copy(p, &mut buf[4..]);
     buf[end] = xor_of(p);
     buf[end + 1] = 0x04;
 }

@@ -3,8 +3,8 @@ ghost use mathlib.Core.Path.{_≡_};
 ghost use mathlib.Core.Bool.{true, false};
 ghost use Prim.Native.Nat.{_≤_, _<_, _+_, _-_};
 ghost use lib.ListN.{length, take, drop};
-ghost use Rattle.frame.specs.Digit.{isDigit, digitValue, digitRun, packed};
-ghost use Rattle.frame.specs.Judged.{every};
+ghost use Rattle.frame.specs.Digit.{isDigit, digitValue};
+ghost use Rattle.frame.specs.DigitRuns.{digitRun, littleEndian, allPass};
 
 // Whether c is one of 0-9 A-F. Without a branch, so that a block of characters is tested at once.
 fn is_digit(c: u8) -> bool
@@ -25,7 +25,7 @@ pub(crate) fn digit_value(c: u8) -> u8
 // Whether the 16 characters from `at` on are digits. All are looked at, in a loop of fixed length: that is made vector code.
 fn block_is_digits(s: &[u8], at: usize) -> bool
     requires { ⌜ at + 16 ≤ length (now s) ⌝ }
-    ensures { λ r. ⌜ r ≡ every isDigit (take 16 (drop at (now (s .entry)))) ⌝ }
+    ensures { λ r. ⌜ r ≡ allPass isDigit (take 16 (drop at (now (s .entry)))) ⌝ }
 {
     let mut ok = true;
     let mut i = 0;
@@ -41,7 +41,7 @@ fn block_run(s: &[u8]) -> usize
     requires { ⌜ length (now s) ≤ 515 ⌝ }
     ensures { λ r. ⌜ r ≤ length (now (s .entry)) ⌝ }
     ensures { λ r. ⌜ r + digitRun (515 - r) (drop r (now (s .entry))) ≡ digitRun 515 (now (s .entry)) ⌝ }
-    ensures { λ r. ⌜ (r + 16 ≤ length (now (s .entry)) → every isDigit (take 16 (drop r (now (s .entry)))) ≡ false) ⌝ }
+    ensures { λ r. ⌜ (r + 16 ≤ length (now (s .entry)) → allPass isDigit (take 16 (drop r (now (s .entry)))) ≡ false) ⌝ }
 {
     let mut i = 0;
     while i + 16 <= s.len() {
@@ -56,7 +56,7 @@ fn block_run(s: &[u8]) -> usize
 // The 8 characters from `at` on as one number, the first in its lowest byte.
 fn word(s: &[u8], at: usize) -> u64
     requires { ⌜ at + 8 ≤ length (now s) ⌝ }
-    ensures { λ r. ⌜ r ≡ packed (take 8 (drop at (now (s .entry)))) ⌝ }
+    ensures { λ r. ⌜ r ≡ littleEndian (take 8 (drop at (now (s .entry)))) ⌝ }
 {
     s[at] as u64
         + s[at + 1] as u64 * 0x100

@@ -1,14 +1,14 @@
 // Bytes as two digits each, the upper half first.
-use crate::copy;
 use crate::digit::digit_value;
 ghost use mathlib.Core.Path.{_≡_};
 ghost use mathlib.Core.List.{[], _∷_, _++_};
 ghost use Prim.Native.Nat.{_≤_, _<_, _+_, _*_, _/_, _%_};
 ghost use lib.ListN.{length, getD, take, drop, set};
 ghost use lib.Seq.{paste};
-ghost use Rattle.frame.specs.Digit.{digitValue, digitOf, Digits};
-ghost use Rattle.frame.specs.Hex.{hex, sum, decoded};
+ghost use Rattle.frame.specs.Digit.{digitValue, digitOf};
+ghost use Rattle.frame.specs.Hex.{hex, sumOf};
 ghost use Rattle.frame.specs.Framing.{inFront};
+ghost use Rattle.frame.specs.DigitRuns.{Digits, decoded};
 
 // The byte that two digits stand for.
 fn byte_at(s: &[u8], i: usize) -> u8
@@ -37,7 +37,7 @@ fn decode_block(s: &[u8], at: usize) -> [u8; 16]
 // The sum of the bytes.
 pub(crate) fn byte_sum(s: &[u8]) -> u32
     requires { ⌜ length (now s) ≤ 256 ⌝ }
-    ensures { λ r. ⌜ r ≡ sum (now (s .entry)) ⌝ }
+    ensures { λ r. ⌜ r ≡ sumOf (now (s .entry)) ⌝ }
 {
     let mut sum: u32 = 0;
     let mut i = 0;
@@ -52,7 +52,7 @@ pub(crate) fn byte_sum(s: &[u8]) -> u32
 fn block_sum(s: &[u8], at: usize) -> u32
     requires { ⌜ at + 16 ≤ length (now s) ⌝ }
     requires { ⌜ Digits (now s) ⌝ }
-    ensures { λ r. ⌜ r + sum (decoded (drop (at + 16) (now (s .entry)))) ≡ sum (decoded (drop at (now (s .entry)))) ⌝ }
+    ensures { λ r. ⌜ r + sumOf (decoded (drop (at + 16) (now (s .entry)))) ≡ sumOf (decoded (drop at (now (s .entry)))) ⌝ }
     ensures { λ r. ⌜ r ≤ 2040 ⌝ }
 {
     let mut sum: u32 = 0;
@@ -69,7 +69,7 @@ fn tail_sum(s: &[u8], from: usize) -> u32
     requires { ⌜ from ≤ length (now s) ⌝ }
     requires { ⌜ length (now s) ≤ 514 ⌝ }
     requires { ⌜ Digits (now s) ⌝ }
-    ensures { λ r. ⌜ r ≡ sum (decoded (drop from (now (s .entry)))) ⌝ }
+    ensures { λ r. ⌜ r ≡ sumOf (decoded (drop from (now (s .entry)))) ⌝ }
     ensures { λ r. ⌜ r + 255 * from ≤ 255 * length (now (s .entry)) ⌝ }
 {
     let mut sum: u32 = 0;
@@ -86,7 +86,7 @@ fn rest_sum(s: &[u8], from: usize) -> u32
     requires { ⌜ from ≤ length (now s) ⌝ }
     requires { ⌜ length (now s) ≤ 514 ⌝ }
     requires { ⌜ Digits (now s) ⌝ }
-    ensures { λ r. ⌜ r ≡ sum (decoded (drop from (now (s .entry)))) ⌝ }
+    ensures { λ r. ⌜ r ≡ sumOf (decoded (drop from (now (s .entry)))) ⌝ }
     ensures { λ r. ⌜ r + 255 * from ≤ 255 * length (now (s .entry)) ⌝ }
 {
     if from + 16 <= s.len() {
@@ -100,7 +100,7 @@ fn rest_sum(s: &[u8], from: usize) -> u32
 pub(crate) fn pair_sum(s: &[u8]) -> u32
     requires { ⌜ length (now s) ≤ 514 ⌝ }
     requires { ⌜ Digits (now s) ⌝ }
-    ensures { λ r. ⌜ r ≡ sum (decoded (now (s .entry))) ⌝ }
+    ensures { λ r. ⌜ r ≡ sumOf (decoded (now (s .entry))) ⌝ }
 {
     let mut sum: u32 = 0;
     let mut i = 0;
@@ -137,12 +137,12 @@ fn decode_blocks(src: &[u8], dst: &mut [u8])
     let mut i = 0;
     while i + 16 < n {
         let block = decode_block(src, 2 * i);
-        copy::put(dst, i, &block);
+        bytes::copy(&block, &mut dst[i..]);
         i += 16;
     }
     let last = n - 16;
     let block = decode_block(src, 2 * last);
-    copy::put(dst, last, &block);
+    bytes::copy(&block, &mut dst[last..]);
 }
 
 // Puts the bytes that the digits of src stand for into the front of dst.
@@ -167,9 +167,9 @@ pub(crate) fn decode_two(s: &[u8], first: usize, last: usize) -> [u8; 32]
 {
     let mut two = [0u8; 32];
     let block = decode_block(s, first);
-    copy::put(&mut two, 0, &block);
+    bytes::copy(&block, &mut two);
     let block = decode_block(s, last);
-    copy::put(&mut two, 16, &block);
+    bytes::copy(&block, &mut two[16..]);
     two
 }
 
@@ -178,7 +178,7 @@ pub(crate) fn sum_of_two(two: &[u8], from: usize) -> u32
     requires { ⌜ length (now two) ≡ 32 ⌝ }
     requires { ⌜ 16 ≤ from ⌝ }
     requires { ⌜ from ≤ 32 ⌝ }
-    ensures { λ r. ⌜ r ≡ sum (take 16 (now (two .entry))) + sum (drop from (now (two .entry))) ⌝ }
+    ensures { λ r. ⌜ r ≡ sumOf (take 16 (now (two .entry))) + sumOf (drop from (now (two .entry))) ⌝ }
 {
     byte_sum(&two[..16]) + byte_sum(&two[from..])
 }

@@ -2,7 +2,6 @@
 mod answer;
 mod ascii;
 mod binary;
-mod copy;
 mod digit;
 mod framing;
 mod hex;

@@ -4,8 +4,8 @@ use crate::answer::FeedAnswer;
 use crate::answer::Kept;
 use crate::answer::QuietAnswer;
 use crate::answer::answer;
-use crate::copy::put;
 use crate::framing::Framing;
+use crate::framing::limit_of;
 use crate::refusal::Refusal;
 use crate::scan::ScanEnd;
 use crate::scan::find;
@@ -15,8 +15,9 @@ ghost use Prim.Native.Nat.{_+_, _≤_};
 ghost use lib.ListN.{length, take, drop};
 ghost use Rattle.frame.specs.Framing.{limit};
 ghost use Rattle.frame.specs.Reader.{holding, quiet, newReader, Holds, Feeds, Quiets};
-ghost use Rattle.frame.specs.Scan.{scanWhole, Joins, Stores, Leaves, LeavesLine, QuietAnswered, ChunkFed, HeldFed};
 ghost use Rattle.frame.specs.View.{part};
+ghost use Rattle.frame.specs.Answer.{scanWhole};
+ghost use Rattle.frame.specs.Feeding.{Joins, Stores, Leaves, LeavesLine, QuietAnswered, ChunkFed, HeldFed};
 
 // A reader's state, by value: its framing and the bytes that it holds, the first `count` of `held`.
 pub struct Reader {
@@ -49,23 +50,13 @@ struct Left {
     count: usize,
 }
 
-// The longest frame of a framing.
-pub(crate) fn limit_of(framing: Framing) -> usize
-    ensures { λ r. ⌜ r ≡ limit framing ⌝ }
-{
-    match framing {
-        Framing::Binary => Reader::MAX_BINARY,
-        Framing::Ascii => Reader::MAX_ASCII,
-    }
-}
-
 // A state that holds the bytes of s.
 pub(crate) fn hold(framing: Framing, s: &[u8]) -> Reader
     requires { ⌜ length (now s) ≤ 517 ⌝ }
     ensures { λ r. ⌜ Holds (holding framing (now (s .entry))) r ⌝ }
 {
     let mut held = [0u8; 517];
-    put(&mut held, 0, s);
+    bytes::copy(s, &mut held);
     let count = s.len();
     Reader {
         framing,
@@ -82,21 +73,23 @@ fn join(framing: Framing, held: &[u8], chunk: &[u8]) -> Joined
     let count = held.len();
     let more = smaller(chunk.len(), limit_of(framing));
     let mut bytes = [0u8; 1034];
-    put(&mut bytes, 0, held);
-    put(&mut bytes, count, &chunk[..more]);
+    bytes::copy(held, &mut bytes);
+    bytes::copy(&chunk[..more], &mut bytes[count..]);
     let size = count + more;
     Joined { bytes, size }
 }
 
 // Puts the kept part of w into the front of held.
 fn keep(held: &mut [u8], w: &[u8], kept: Kept) -> Left
-    requires { ⌜ (kept .from ≤ kept .end) × (kept .end ≤ length (now w)) × (kept .end ≤ kept .from + length (now held)) ⌝ }
+    requires { ⌜ kept .from ≤ kept .end ⌝ }
+    requires { ⌜ kept .end ≤ length (now w) ⌝ }
+    requires { ⌜ kept .end ≤ kept .from + length (now held) ⌝ }
     ensures { λ r. ⌜ Stores (part (kept .from) (kept .end) (now (w .entry))) kept (now (held .exit)) r ⌝ }
 {
     let from = kept.from;
     let end = kept.end;
     let answer = kept.answer;
-    put(held, 0, &w[from..end]);
+    bytes::copy(&w[from..end], held);
     Left {
         answer: answer,
         count: end - from,
@@ -105,7 +98,8 @@ fn keep(held: &mut [u8], w: &[u8], kept: Kept) -> Left
 
 // Moves the kept part of held to its front.
 fn shift(held: &mut [u8], kept: Kept) -> Left
-    requires { ⌜ (kept .from ≤ kept .end) × (kept .end ≤ length (now held)) ⌝ }
+    requires { ⌜ kept .from ≤ kept .end ⌝ }
+    requires { ⌜ kept .end ≤ length (now held) ⌝ }
     ensures { λ r. ⌜ Stores (part (kept .from) (kept .end) (now (held .entry))) kept (now (held .exit)) r ⌝ }
 {
     let from = kept.from;
@@ -178,11 +172,12 @@ fn feed_long(framing: Framing, held: &mut [u8], count: usize, chunk: &[u8], buf:
 
 // Finds the next frame where the first `count` bytes of held are held and the chunk fits behind them: it is put there.
 fn feed_short(framing: Framing, held: &mut [u8], count: usize, chunk: &[u8], buf: &mut [u8]) -> Left
-    requires { ⌜ HeldFed framing (now held) count (now buf) × (count + length (now chunk) ≤ limit framing) ⌝ }
+    requires { ⌜ HeldFed framing (now held) count (now buf) ⌝ }
+    requires { ⌜ count + length (now chunk) ≤ limit framing ⌝ }
     ensures { λ r. ⌜ LeavesLine framing (now (held .entry)) count (now (chunk .entry)) (now (buf .entry)) r (now (held .exit)) (now (buf .exit)) ⌝ }
 {
     let size = count + chunk.len();
-    put(held, count, chunk);
+    bytes::copy(chunk, &mut held[count..]);
     let w = &held[..size];
     let found = find(framing, w, 0, size, count, false, buf);
     let before = Before {
@@ -216,7 +211,8 @@ fn feed_on(
 
 // The next frame in the bytes that end a segment.
 fn quiet_held(framing: Framing, s: &[u8], buf: &mut [u8]) -> Quieted
-    requires { ⌜ (length (now s) ≤ limit framing) × (256 ≤ length (now buf)) ⌝ }
+    requires { ⌜ length (now s) ≤ limit framing ⌝ }
+    requires { ⌜ 256 ≤ length (now buf) ⌝ }
     ensures { λ r. ⌜ QuietAnswered (holding framing (now (s .entry))) (quiet (holding framing (now (s .entry)))) (now (buf .entry)) r (now (buf .exit)) ⌝ }
 {
     let found = find(framing, s, 0, s.len(), 0, true, buf);

@@ -1,18 +1,20 @@
 // Finding the first frame of a slice by the leftmost rule.
 use crate::framing::Framing;
 use crate::framing::Judged;
+use crate::framing::doubled_refusal;
 use crate::framing::extract;
 use crate::framing::judge;
+use crate::framing::passed_by;
+use crate::framing::start_of;
 use crate::framing::unpack;
-use crate::refusal::Refusal;
 ghost use mathlib.Core.Path.{_≡_};
 ghost use mathlib.Core.Bool.{true, false};
 ghost use Prim.Native.Nat.{_+_, _-_, _≤_, _<_, max, min};
 ghost use lib.ListN.{length, getD, take, drop};
 ghost use Rattle.frame.specs.Framing.{judge};
-ghost use Rattle.frame.specs.Refusal.{numberOf};
-ghost use Rattle.frame.specs.Judged.{every, verdictOf};
-ghost use Rattle.frame.specs.Scan.{judging, scanFrom, scanned, startOf, doubledNumber, other, stoppedAt, stopBuffer, passedBy, Skips};
+ghost use Rattle.frame.specs.DigitRuns.{allPass};
+ghost use Rattle.frame.specs.Judged.{verdictOf, startOf};
+ghost use Rattle.frame.specs.Scan.{judging, scanFrom, scanned, other, stoppedAt, stopBuffer, Skips};
 
 // Where a scan stopped.
 pub(crate) enum ScanEnd {
@@ -48,7 +50,7 @@ pub(crate) fn smaller(a: usize, b: usize) -> usize
 // Whether none of the 16 bytes from `at` on is b. All are looked at, in a loop of fixed length: that is made vector code.
 fn block_lacks(s: &[u8], at: usize, b: u8) -> bool
     requires { ⌜ at + 16 ≤ length (now s) ⌝ }
-    ensures { λ r. ⌜ r ≡ every (other b) (take 16 (drop at (now (s .entry)))) ⌝ }
+    ensures { λ r. ⌜ r ≡ allPass (other b) (take 16 (drop at (now (s .entry)))) ⌝ }
 {
     let mut ok = true;
     let mut i = 0;
@@ -61,7 +63,8 @@ fn block_lacks(s: &[u8], at: usize, b: u8) -> bool
 
 // The place behind the blocks of 16 bytes from `from` on that lack b, up to `stop`.
 fn skip_blocks(s: &[u8], b: u8, from: usize, stop: usize) -> usize
-    requires { ⌜ (from ≤ stop) × (stop ≤ length (now s)) ⌝ }
+    requires { ⌜ from ≤ stop ⌝ }
+    requires { ⌜ stop ≤ length (now s) ⌝ }
     ensures { λ r. ⌜ Skips b (now (s .entry)) from stop r ⌝ }
 {
     let mut at = from;
@@ -79,7 +82,8 @@ fn skip_blocks(s: &[u8], b: u8, from: usize, stop: usize) -> usize
 
 // The place of the first b from `from` on, or `stop` where there is none before it.
 fn skip(s: &[u8], b: u8, from: usize, stop: usize) -> usize
-    requires { ⌜ (from ≤ stop) × (stop ≤ length (now s)) ⌝ }
+    requires { ⌜ from ≤ stop ⌝ }
+    requires { ⌜ stop ≤ length (now s) ⌝ }
     ensures { λ r. ⌜ Skips b (now (s .entry)) from stop r ⌝ }
 {
     let mut at = skip_blocks(s, b, from, stop);
@@ -92,21 +96,12 @@ fn skip(s: &[u8], b: u8, from: usize, stop: usize) -> usize
     at
 }
 
-// The first byte of every frame.
-fn start_of(framing: Framing) -> u8
-    ensures { λ r. ⌜ r ≡ startOf framing ⌝ }
-{
-    match framing {
-        Framing::Binary => 0xA5,
-        Framing::Ascii => 0x3A,
-    }
-}
-
 // Whether the byte at `place` is followed by the same byte. In either framing a start that another start follows fails at that one, so that runs of
 // start bytes are passed without a call.
 fn is_doubled(s: &[u8], place: usize) -> bool
     requires { ⌜ place < length (now s) ⌝ }
-    ensures { λ r. ⌜ ((r ≡ true) → (place + 1 < length (now (s .entry))) × (getD (now (s .entry)) (place + 1) 0 ≡ getD (now (s .entry)) place 0)) ⌝ }
+    ensures { λ r. ⌜ ((r ≡ true) → place + 1 < length (now (s .entry))) ⌝ }
+    ensures { λ r. ⌜ ((r ≡ true) → getD (now (s .entry)) (place + 1) 0 ≡ getD (now (s .entry)) place 0) ⌝ }
 {
     if s.len() <= place + 1 {
         return false;
@@ -114,30 +109,10 @@ fn is_doubled(s: &[u8], place: usize) -> bool
     s[place + 1] == s[place]
 }
 
-// How many places a failed start passes over, where `judged` bytes were judged.
-fn passed_by(framing: Framing, judged: usize) -> usize
-    requires { ⌜ 1 ≤ judged ⌝ }
-    ensures { λ r. ⌜ r ≡ passedBy framing judged ⌝ }
-{
-    match framing {
-        Framing::Binary => 1,
-        Framing::Ascii => judged - 1,
-    }
-}
-
-// The refusal of a start that another start follows.
-fn doubled_refusal(framing: Framing) -> Refusal
-    ensures { λ r. ⌜ numberOf r ≡ doubledNumber framing ⌝ }
-{
-    match framing {
-        Framing::Binary => Refusal::Start,
-        Framing::Ascii => Refusal::Character,
-    }
-}
-
 // Judges s from the start at `place` on.
 fn judge_place(framing: Framing, s: &[u8], place: usize) -> Judged
-    requires { ⌜ (place < length (now s)) × (getD (now s) place 0 ≡ startOf framing) ⌝ }
+    requires { ⌜ place < length (now s) ⌝ }
+    requires { ⌜ getD (now s) place 0 ≡ startOf framing ⌝ }
     ensures { λ r. ⌜ judge framing (drop place (now (s .entry))) ≡ verdictOf framing (drop place (now (s .entry))) r ⌝ }
 {
     if is_doubled(s, place) {
@@ -165,7 +140,9 @@ pub(crate) fn scan(
     reach: usize,
     ended: bool,
 ) -> ScanResult
-    requires { ⌜ (from ≤ stop) × (stop ≤ length (now s)) × (reach ≤ length (now s)) ⌝ }
+    requires { ⌜ from ≤ stop ⌝ }
+    requires { ⌜ stop ≤ length (now s) ⌝ }
+    requires { ⌜ reach ≤ length (now s) ⌝ }
     ensures { λ r. ⌜ scanned framing (now (s .entry)) r ≡ scanFrom (judging ended framing) (stop - from) from reach (drop from (now (s .entry))) ⌝ }
 {
     let start = start_of(framing);
@@ -208,7 +185,10 @@ pub(crate) fn find(
     ended: bool,
     buf: &mut [u8],
 ) -> ScanResult
-    requires { ⌜ (from ≤ stop) × (stop ≤ length (now s)) × (reach ≤ length (now s)) × (256 ≤ length (now buf)) ⌝ }
+    requires { ⌜ from ≤ stop ⌝ }
+    requires { ⌜ stop ≤ length (now s) ⌝ }
+    requires { ⌜ reach ≤ length (now s) ⌝ }
+    requires { ⌜ 256 ≤ length (now buf) ⌝ }
     ensures { λ r. ⌜ scanned framing (now (s .entry)) r ≡ scanFrom (judging ended framing) (stop - from) from reach (drop from (now (s .entry))) ⌝ }
     ensures { λ r. ⌜ now (buf .exit) ≡ stopBuffer (scanned framing (now (s .entry)) r .stop) (now (buf .entry)) ⌝ }
 {
@@ -224,7 +204,8 @@ pub(crate) fn find(
 // The same over all places of a segment that goes on. On a clean line each frame stands at the front, so that place is judged before the loop, whose
 // set-up then costs nothing, and judged and handed out at once.
 pub(crate) fn find_first(framing: Framing, s: &[u8], reach: usize, buf: &mut [u8]) -> ScanResult
-    requires { ⌜ (reach ≤ length (now s)) × (256 ≤ length (now buf)) ⌝ }
+    requires { ⌜ reach ≤ length (now s) ⌝ }
+    requires { ⌜ 256 ≤ length (now buf) ⌝ }
     ensures { λ r. ⌜ scanned framing (now (s .entry)) r ≡ scanFrom (judging false framing) (length (now (s .entry))) 0 reach (now (s .entry)) ⌝ }
     ensures { λ r. ⌜ now (buf .exit) ≡ stopBuffer (scanned framing (now (s .entry)) r .stop) (now (buf .entry)) ⌝ }
 {

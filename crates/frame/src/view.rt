@@ -4,17 +4,17 @@ use crate::answer::FeedAnswer;
 use crate::answer::Kept;
 use crate::answer::answer;
 use crate::framing::Framing;
+use crate::framing::limit_of;
 use crate::reader::Reader;
 use crate::reader::hold;
-use crate::reader::limit_of;
 use crate::refusal::Refusal;
 use crate::scan::find_first;
 ghost use mathlib.Core.Path.{_≡_};
 ghost use Prim.Native.Nat.{_≤_};
 ghost use lib.ListN.{length};
 ghost use Rattle.frame.specs.Framing.{limit};
-ghost use Rattle.frame.specs.Scan.{lineOver, KeepsCall};
 ghost use Rattle.frame.specs.View.{inside, Views, Stands};
+ghost use Rattle.frame.specs.Feeding.{lineOver, KeepsCall};
 
 // A reader's state, by value, whose held bytes are those of a chunk from index `from` up to `end`, which is behind them.
 pub struct View {
@@ -30,7 +30,8 @@ pub struct Viewed {
 }
 
 fn refused(view: View, refusal: Refusal) -> Viewed
-    ensures { λ r. ⌜ (r .view ≡ view) × (r .answer ≡ FeedAnswer.Refused refusal) ⌝ }
+    ensures { λ r. ⌜ r .view ≡ view ⌝ }
+    ensures { λ r. ⌜ r .answer ≡ FeedAnswer.Refused refusal ⌝ }
 {
     Viewed {
         view: view,
@@ -54,7 +55,9 @@ fn is_inside(view: View, size: usize) -> bool
 
 // Finds the next frame where the first `count` bytes of w are held and the others are offered.
 fn feed_view(framing: Framing, w: &[u8], count: usize, buf: &mut [u8]) -> Kept
-    requires { ⌜ (count ≤ length (now w)) × (count ≤ limit framing) × (256 ≤ length (now buf)) ⌝ }
+    requires { ⌜ count ≤ length (now w) ⌝ }
+    requires { ⌜ count ≤ limit framing ⌝ }
+    requires { ⌜ 256 ≤ length (now buf) ⌝ }
     ensures { λ r. ⌜ KeepsCall (lineOver framing count (now (w .entry))) count (now (w .entry)) r (now (buf .entry)) (now (buf .exit)) ⌝ }
 {
     let found = find_first(framing, w, count, buf);
@@ -76,7 +79,8 @@ impl View {
         let framing = self.framing;
         let from = self.from;
         let end = self.end;
-        if !is_inside(self, chunk.len()) {
+        let sound = is_inside(self, chunk.len());
+        if !sound {
             return refused(self, Refusal::State);
         }
         if buf.len() < Reader::MAX_PAYLOAD {

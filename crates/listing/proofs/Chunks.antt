@@ -4,7 +4,7 @@ use Prim.Native.Nat.{ℕ, _+_, _*_, _≤_, _<_, zero-le}
 use native.Mathlib.Nat.{add-zero, zero-add, le-refl, sub-self}
 use native.Mathlib.Omega.{arith}
 use mathlib.Core.Path.{_≡_, refl, sym, ap, ap₂, _∙_, subst, subst₂}
-use mathlib.Core.List.{List, [], _∷_, _++_, append-nil}
+use mathlib.Core.List.{List, [], _∷_, _++_, append-nil, map}
 use mathlib.Core.Bool.{Bool, true, false, cond, true≢false}
 use borrow.Author.Tests.{le-leb, lt-leb, leb-true}
 use lib.Dec.{eqb}
@@ -13,28 +13,30 @@ use lib.Seq.{take-length, drop-length, drop-drop}
 use Rattle.frame.specs.Framing.{limit, inFront}
 use Rattle.frame.specs.Rule.{Output, output, join, places, outFrom, rule}
 use Rattle.frame.specs.Reader.{State, holding, Settled, settled, Called, line, quiet, after, stateOf, Holds, newReader, Values, frameValues}
-use Rattle.frame.specs.Reader.{noFrameValues, refusalValues as refusalsValues, feedRefusal, quietRefusal, sound, AfterQuiet}
+use Rattle.frame.specs.Reader.{noFrameValues, refusalValues, feedRefusal, quietRefusal, sound, AfterQuiet}
 use Rattle.frame.specs.Calls.{Answered, outOf}
 use Rattle.frame.specs.View.{inside, viewed, viewCall, Follows, viewRefusal, Stands}
-use Rattle.frame.specs.Draining.{before, drain, afterDrain, ruleAfter, total, Says}
+use Rattle.frame.specs.Hex.{sumOf}
+use Rattle.frame.specs.Draining.{Reports}
 use Rattle.frame.specs.declared.framing.Framing.{Framing}
 use Rattle.frame.specs.declared.framing.Framing.the-variants.{Binary, Ascii}
 use Rattle.frame.specs.declared.reader.Reader.{Reader}
 use Rattle.frame.specs.declared.view.View.{View}
 use Rattle.frame.specs.Refusal.{numberOf}
+use Rattle.frame.specs.Drain.{before, drain, afterDrain, ruleAfter}
 use Rattle.frame.specs.declared.refusal.Refusal.{Refusal}
 use Rattle.frame.specs.declared.refusal.Refusal.the-variants.{Start, Cut, Length, Checksum, Footer, Character, Buffer, Payload, Chunk}
 use Rattle.frame.specs.declared.refusal.Refusal.the-variants.{State as BadState}
 use Rattle.frame.proofs.Theorems.{line-drains, needs-more-is-drained, needs-more-is-true}
 use Rattle.frame.proofs.Theorems.{quiet-follows-rule, empty-is-drained}
 use Rattle.frame.proofs.Theorems.{drain-is-sized, rule-is-sized}
-use Rattle.message.specs.Parts.{Puts}
+use Rattle.message.specs.Put.{Puts}
 use Rattle.listing.specs.Line.{lineOf, linesOf}
-use Rattle.listing.specs.Listing.{textValues, refusalValues, valuesOf, Lists, chunkRefusal, endRefusal, ListsQuiet}
-use Rattle.listing.specs.Parts.{Going, Progress, Midway, Room, ListsRest}
+use Rattle.listing.specs.Listing.{textValues, noTextValues, valuesOf, Lists, chunkRefusal, endRefusal, ListsQuiet}
+use Rattle.listing.specs.Parts.{PartlyPut, Progress, PartlyDrained, Room, ListsRest}
 use Rattle.listing.specs.declared.list.Listed.{Listed}
 use Rattle.listing.specs.declared.list.ListAnswer.the-variants.{Lines, Refused}
-use Rattle.listing.proofs.Texts.{going, going-room, going-next, going-part, going-done, going-last}
+use Rattle.listing.proofs.Texts.{partly-put, partly-put-room, partly-put-next, partly-put-part, partly-put-done, partly-put-last}
 use Rattle.listing.proofs.Fits.{lines-short}
 
 -- A frame, after noise.
@@ -47,19 +49,19 @@ none n = output [] n
 
 -- All is left.
 pub progress : (whole : Output (List ℕ)) (out : List ℕ) (at base : ℕ) → Progress whole whole out at base at base out
-progress whole out at base = record { text = going out at refl; noises = refl }
+progress whole out at base = record { text = partly-put out at refl; noises = refl }
 
 module _ {whole left : Output (List ℕ)} {out₀ out : List ℕ} {at base end noise : ℕ} (g : Progress whole left out₀ at base end noise out) where
   -- A frame's line is to be put next.
   text-next : (p : List ℕ) (n : ℕ) (later : Output (List ℕ)) → left ≡ join (one p n) later →
-      Going out₀ at (linesOf (whole .frames)) (lineOf p ++ linesOf (later .frames)) end out
+      PartlyPut out₀ at (linesOf (whole .frames)) (lineOf p ++ linesOf (later .frames)) end out
   unfolding join
   text-next p n later e = rw e at (g .text)
 
   module _ (room : at + length (linesOf (whole .frames)) ≤ length out₀) where
     -- There is room for it.
     pub progress-room : (p : List ℕ) (n : ℕ) (later : Output (List ℕ)) → left ≡ join (one p n) later → end + length (lineOf p) ≤ length out
-    progress-room p n later e = going-part (lineOf p) (linesOf (later .frames)) room (text-next p n later e)
+    progress-room p n later e = partly-put-part (lineOf p) (linesOf (later .frames)) room (text-next p n later e)
 
     -- It is put.
     pub progress-frame :
@@ -68,13 +70,13 @@ module _ {whole left : Output (List ℕ)} {out₀ out : List ℕ} {at base end n
     unfolding join
     progress-frame p n later e q =
         record {
-          text = going-next room (text-next p n later e) q;
+          text = partly-put-next room (text-next p n later e) q;
           noises = omega (arith, g .noises, ap (λ (o : Output (List ℕ)). o .noise) e);
         }
 
     -- Noise is all that was left.
     progress-end : (n : ℕ) → left ≡ none n → Puts out₀ at (linesOf (whole .frames)) end out × (noise + n ≡ base + whole .noise)
-    progress-end n e = (going-done room (rw e at (g .text)), omega (arith, g .noises, ap (λ (o : Output (List ℕ)). o .noise) e))
+    progress-end n e = (partly-put-done room (rw e at (g .text)), omega (arith, g .noises, ap (λ (o : Output (List ℕ)). o .noise) e))
 
   -- The noise so far is no more than all of it.
   pub progress-noise : (n : ℕ) → n ≤ left .noise → noise + n ≤ base + whole .noise
@@ -86,7 +88,7 @@ puts-front out text after end p =
     (p .ends ∙ zero-add (length text), p .bytes ∙ rw (take-length text, zero-add (length text)))
 
 -- What is listed fits its buffer.
-pub room-for : (o : Output (List ℕ)) (size most room : ℕ) → total (λ p. length p + 6) (o .frames) + o .noise ≤ size → size ≤ most → 2 * most ≤ room →
+pub room-for : (o : Output (List ℕ)) (size most room : ℕ) → sumOf (map (λ p. length p + 6) (o .frames)) + o .noise ≤ size → size ≤ most → 2 * most ≤ room →
     0 + length (linesOf (o .frames)) ≤ room
 room-for o size most room s l h = omega (arith, lines-short (o .frames))
 
@@ -123,10 +125,10 @@ quiet-room r out l h =
     (room-for (ruleAfter (stateOf r) []) (length (stateOf r .held ++ [])) 517 (length out) size few h, omega arith)
 
 -- The first call is still to come.
-pub midway : (s : State) (chunk out : List ℕ) (at base : ℕ) → Midway (drain s chunk) s chunk out at base at base out
-midway s chunk out at base = record { same = refl; progress = progress (drain s chunk .out) out at base }
+pub partly-drained : (s : State) (chunk out : List ℕ) (at base : ℕ) → PartlyDrained (drain s chunk) s chunk out at base at base out
+partly-drained s chunk out at base = record { same = refl; progress = progress (drain s chunk .out) out at base }
 
-module _ {whole : Settled} {s : State} {rest out₀ : List ℕ} {at base end noise : ℕ} {out : List ℕ} (g : Midway whole s rest out₀ at base end noise out)
+module _ {whole : Settled} {s : State} {rest out₀ : List ℕ} {at base end noise : ℕ} {out : List ℕ} (g : PartlyDrained whole s rest out₀ at base end noise out)
     (fits : Room whole at base out₀) where
   -- What is left begins with what the call gives.
   left-is : (o : Output (List ℕ)) → line s rest .out ≡ o →
@@ -148,7 +150,7 @@ module _ {whole : Settled} {s : State} {rest out₀ : List ℕ} {at base end noi
 
     pub frame-step :
         {next : ℕ} {out′ : List ℕ} → Puts out end (lineOf p) next out′ →
-        Midway whole (after s (line s rest)) (drop (line s rest .taken) rest) out₀ at base next (noise + more) out′
+        PartlyDrained whole (after s (line s rest)) (drop (line s rest .taken) rest) out₀ at base next (noise + more) out′
     frame-step q =
         record {
           same = sym (ap (λ (st : Settled). st .rest) (line-drains s rest)) ∙ g .same;
@@ -207,7 +209,7 @@ number-some BadState e = true≢false (sym e)
 
 -- What the values of a call's answer say where its number is 0.
 module _ {S : Type 0} {number : ℕ} (c : Called) {Next : S → Type 0} {s : S} {buf : List ℕ} {v : Values} {s′ : S} {buf′ : List ℕ}
-    (h : Says number c Next s buf v s′ buf′) (z : number ≡ 0) where
+    (h : Reports number c Next s buf v s′ buf′) (z : number ≡ 0) where
   said : Answered v
   said = by (eqb (v .number) 0) refl
     where
@@ -230,7 +232,7 @@ module _ {S : Type 0} {number : ℕ} (c : Called) {Next : S → Type 0} {s : S} 
   pub says-next : Next s′
   says-next = h .answered said .3
 
-  pub says-refused : (r : Refusal) → v ≡ refusalsValues (numberOf r) → ⊥
+  pub says-refused : (r : Refusal) → v ≡ refusalValues (numberOf r) → ⊥
   says-refused r e = number-some r (ap (λ (x : Values). eqb (x .number) 0) (sym e) ∙ said)
 
 -- A view's call over a chunk that is not too long is not refused.
@@ -240,11 +242,11 @@ view-free v chunk buf e full small = rw (e, full, le-leb (length chunk) 65536 sm
 
 -- Calls that go on from an equal state with an equal rest.
 moved : {whole : Settled} {s s′ : State} {t t′ out₀ : List ℕ} {at base end noise : ℕ} {out : List ℕ} → s′ ≡ s → t′ ≡ t →
-    Midway whole s t out₀ at base end noise out → Midway whole s′ t′ out₀ at base end noise out
+    PartlyDrained whole s t out₀ at base end noise out → PartlyDrained whole s′ t′ out₀ at base end noise out
 moved {whole} {out₀ = out₀} {at} {base} {end} {noise} {out} e f m =
-    subst₂ (λ (s : State) (t : List ℕ). Midway whole s t out₀ at base end noise out) (sym e) (sym f) m
+    subst₂ (λ (s : State) (t : List ℕ). PartlyDrained whole s t out₀ at base end noise out) (sym e) (sym f) m
 
--- What stands behind the bytes that a view's call took.
+-- The bytes after those that a view's call took.
 view-rest : (v : View) (chunk : List ℕ) (v′ : View) → Follows v chunk (viewCall v chunk) v′ →
     drop (v′ .end) chunk ≡ drop (viewCall v chunk .taken) (drop (v .end) chunk)
 view-rest v chunk v′ f = ap (λ (n : ℕ). drop n chunk) (f .end) ∙ sym (drop-drop (viewCall v chunk .taken) (v .end) chunk)
@@ -253,11 +255,11 @@ view-rest v chunk v′ f = ap (λ (n : ℕ). drop n chunk) (f .end) ∙ sym (dro
 pub view-next :
     {whole : Settled} {out₀ : List ℕ} {at base end noise : ℕ} {out : List ℕ} (v : View) (chunk : List ℕ) (v′ : View) →
     Follows v chunk (viewCall v chunk) v′ →
-    Midway whole (after (viewed v chunk) (viewCall v chunk)) (drop (viewCall v chunk .taken) (drop (v .end) chunk)) out₀ at base end noise out →
-    Midway whole (viewed v′ chunk) (drop (v′ .end) chunk) out₀ at base end noise out
+    PartlyDrained whole (after (viewed v chunk) (viewCall v chunk)) (drop (viewCall v chunk .taken) (drop (v .end) chunk)) out₀ at base end noise out →
+    PartlyDrained whole (viewed v′ chunk) (drop (v′ .end) chunk) out₀ at base end noise out
 view-next v chunk v′ f m = moved (f .state) (view-rest v chunk v′ f) m
 
--- What is left behind it is the same.
+-- What is left after it is the same.
 pub view-left : (v : View) (chunk : List ℕ) (v′ : View) → Follows v chunk (viewCall v chunk) v′ →
     drain (viewed v′ chunk) (drop (v′ .end) chunk) ≡ drain (after (viewed v chunk) (viewCall v chunk)) (drop (viewCall v chunk .taken) (drop (v .end) chunk))
 view-left v chunk v′ f = ap₂ drain (f .state) (view-rest v chunk v′ f)
@@ -284,8 +286,8 @@ module _ (r : Reader) (chunk : List ℕ) (done taken : ℕ) (r′ : Reader) (h :
 
   pub feed-next :
       {whole : Settled} {out₀ : List ℕ} {at base end noise : ℕ} {out : List ℕ} →
-      Midway whole (after (stateOf r) (line (stateOf r) (drop done chunk))) (drop (line (stateOf r) (drop done chunk) .taken) (drop done chunk)) out₀ at base end noise out →
-      Midway whole (stateOf r′) (drop (done + taken) chunk) out₀ at base end noise out
+      PartlyDrained whole (after (stateOf r) (line (stateOf r) (drop done chunk))) (drop (line (stateOf r) (drop done chunk) .taken) (drop done chunk)) out₀ at base end noise out →
+      PartlyDrained whole (stateOf r′) (drop (done + taken) chunk) out₀ at base end noise out
   feed-next m = moved (h .state) feed-rest m
 
   pub feed-left :
@@ -313,45 +315,73 @@ module _ (r : Reader) (r′ : Reader) (h : AfterQuiet (stateOf r) (quiet (stateO
         subst (λ (fs : List (List ℕ)). AfterQuiet (stateOf r) c fs r′) frames h,
       )
 
+-- The refusals of a chunk, in their order.
+module _ (r : Reader) (room size : ℕ) where
+  pub chunk-state : sound r ≡ false → chunkRefusal r room size ≡ 16
+  chunk-state e = rw e
+
+  pub chunk-buffer : sound r ≡ true → room < 132106 → chunkRefusal r room size ≡ 13
+  chunk-buffer e h = rw (e, lt-leb 132106 room h)
+
+  pub chunk-long : sound r ≡ true → 132106 ≤ room → 65536 < size → chunkRefusal r room size ≡ 15
+  chunk-long e h k = rw (e, le-leb 132106 room h, lt-leb size 65536 k)
+
+  pub chunk-free : sound r ≡ true → 132106 ≤ room → size ≤ 65536 → chunkRefusal r room size ≡ 0
+  chunk-free e h k = rw (e, le-leb 132106 room h, le-leb size 65536 k)
+
+-- Those of a quiet.
+module _ (r : Reader) (room : ℕ) where
+  pub end-state : sound r ≡ false → endRefusal r room ≡ 16
+  end-state e = rw e
+
+  pub end-buffer : sound r ≡ true → room < 1034 → endRefusal r room ≡ 13
+  end-buffer e h = rw (e, lt-leb 1034 room h)
+
+  pub end-free : sound r ≡ true → 1034 ≤ room → endRefusal r room ≡ 0
+  end-free e h = rw (e, le-leb 1034 room h)
+
 -- A refused call.
 pub refused-lists :
     {number : ℕ} (o : Output (List ℕ)) {Next : Reader → Type 0} (r : Reader) (out : List ℕ) (a : Listed) (refusal : Refusal) → number ≡ numberOf refusal →
     a .reader ≡ r → a .answer ≡ Refused refusal → Lists number o Next r out a out
 refused-lists o r out a refusal n er ea =
     record {
-      refuses = λ z. (ap valuesOf ea ∙ ap refusalValues (sym n), er, refl);
+      refuses = λ z. (ap valuesOf ea ∙ ap noTextValues (sym n), er, refl);
       answers = λ z. absurd (number-some refusal (ap (λ (k : ℕ). eqb k 0) (sym n) ∙ z));
     }
+
+-- A call that is not refused.
+pub answered-lists :
+    {number : ℕ} (o : Output (List ℕ)) {Next : Reader → Type 0} (r : Reader) (out : List ℕ) (a : Listed) {out′ : List ℕ} → number ≡ 0 →
+    valuesOf (a .answer) ≡ textValues (length (linesOf (o .frames))) (o .noise) → Next (a .reader) → out′ ≡ inFront (linesOf (o .frames)) out →
+    Lists number o Next r out a out′
+answered-lists o r out a z values next left =
+    record { refuses = λ t. absurd (true≢false (ap (λ (n : ℕ). eqb n 0) (sym z) ∙ t)); answers = λ t. (values, next, left) }
 
 -- What is listed from the front of a buffer on is what the call promises.
 pub rest-lists :
     {number : ℕ} {s : State} (whole : Settled) (r : Reader) (out : List ℕ) (a : Listed) (out′ : List ℕ) → number ≡ 0 →
     ListsRest s whole out 0 0 a out′ → Lists number (whole .out) (Holds (afterDrain s whole)) r out a out′
 rest-lists whole r out a out′ z h =
-    let front = puts-front out (linesOf (whole .out .frames)) out′ (0 + length (linesOf (whole .out .frames))) (h .puts) in
-    record {
-      refuses = λ t. absurd (true≢false (ap (λ (n : ℕ). eqb n 0) (sym z) ∙ t));
-      answers = λ t. (
-        h .values ∙ ap₂ textValues (zero-add (length (linesOf (whole .out .frames)))) (zero-add (whole .out .noise)),
-        h .state,
-        front .1,
-      );
-    }
+    answered-lists (whole .out) r out a z
+    (h .values ∙ ap₂ textValues (zero-add (length (linesOf (whole .out .frames)))) (zero-add (whole .out .noise)))
+    (h .state)
+    (puts-front out (linesOf (whole .out .frames)) out′ (0 + length (linesOf (whole .out .frames))) (h .puts) .1)
 
--- Where calls are on their way, all that is left has room.
-pub midway-room : {whole : Settled} {s : State} {rest out₀ : List ℕ} {at base end noise : ℕ} {out : List ℕ} →
-    Midway whole s rest out₀ at base end noise out → Room whole at base out₀ → Room (drain s rest) end noise out
-midway-room g fits =
-    record { room = going-room (fits .room) (g .progress .text); few = omega (arith, g .progress .noises, fits .few) }
+-- Where some of the calls are made, all that is left has room.
+pub partly-drained-room : {whole : Settled} {s : State} {rest out₀ : List ℕ} {at base end noise : ℕ} {out : List ℕ} →
+    PartlyDrained whole s rest out₀ at base end noise out → Room whole at base out₀ → Room (drain s rest) end noise out
+partly-drained-room g fits =
+    record { room = partly-put-room (fits .room) (g .progress .text); few = omega (arith, g .progress .noises, fits .few) }
 
 -- What is left is listed, and so all is.
-pub midway-lists :
+pub partly-drained-lists :
     {whole : Settled} {s : State} {rest out₀ : List ℕ} {at base end noise : ℕ} {out : List ℕ} (s₀ : State) (a : Listed) (out′ : List ℕ) →
-    Midway whole s rest out₀ at base end noise out → Room whole at base out₀ → s .framing ≡ s₀ .framing → ListsRest s (drain s rest) out end noise a out′ →
+    PartlyDrained whole s rest out₀ at base end noise out → Room whole at base out₀ → s .framing ≡ s₀ .framing → ListsRest s (drain s rest) out end noise a out′ →
     ListsRest s₀ whole out₀ at base a out′
-midway-lists {whole} {s} {rest} {out₀} {at} {base} {end} {noise} {out} s₀ a out′ g fits ef h =
+partly-drained-lists {whole} {s} {rest} {out₀} {at} {base} {end} {noise} {out} s₀ a out′ g fits ef h =
     let text : List ℕ = linesOf (drain s rest .out .frames) in
-    let all : Puts out₀ at (linesOf (whole .out .frames)) (end + length text) out′ = going-last (fits .room) (g .progress .text) (h .puts) in
+    let all : Puts out₀ at (linesOf (whole .out .frames)) (end + length text) out′ = partly-put-last (fits .room) (g .progress .text) (h .puts) in
     record {
       values = h .values ∙ ap₂ textValues (all .ends) (g .progress .noises);
       state = subst (λ (x : State). Holds x (a .reader)) (ap₂ holding ef (g .same)) (h .state);
@@ -366,11 +396,10 @@ pub quiet-lists :
 quiet-lists r out₀ {left} {end} {noise} {out} a more g l h e er ea =
     let all = progress-end g (quiet-room r out₀ l h .0) more e in
     let front = puts-front out₀ (linesOf (ruleAfter (stateOf r) [] .frames)) out end (all .0) in
-    let number : endRefusal r (length out₀) ≡ 0 = rw (le-leb (r .count) (limit (r .framing)) l, le-leb 1034 (length out₀) h) in
-    record {
-      refuses = λ t. absurd (true≢false (ap (λ (n : ℕ). eqb n 0) (sym number) ∙ t));
-      answers = λ t. (ap valuesOf ea ∙ ap₂ textValues (front .0) (all .1 ∙ zero-add (ruleAfter (stateOf r) [] .noise)), er, front .1);
-    }
+    answered-lists (ruleAfter (stateOf r) []) r out₀ a (end-free r (length out₀) (le-leb (r .count) (limit (r .framing)) l) h)
+    (ap valuesOf ea ∙ ap₂ textValues (front .0) (all .1 ∙ zero-add (ruleAfter (stateOf r) [] .noise)))
+    er
+    (front .1)
 
 -- A reader that holds nothing is a view of no bytes.
 pub none-viewed : (r : Reader) (chunk : List ℕ) (done : ℕ) → r .count ≡ 0 →
@@ -382,24 +411,3 @@ pub none-inside : (r : Reader) (chunk : List ℕ) (done : ℕ) → done ≤ leng
     inside (record { framing = r .framing; from = done; end = done }) (length chunk) ≡ true
 none-inside r chunk done l =
     simp (le-leb done done (le-refl done), le-leb done (length chunk) l, sub-self done, le-leb 0 (limit (r .framing)) zero-le)
-
-module _ (r : Reader) (room size : ℕ) where
-  -- The refusals of a chunk, in their order.
-  pub chunk-state : sound r ≡ false → chunkRefusal r room size ≡ 16
-  chunk-state e = rw e
-
-  pub chunk-buffer : sound r ≡ true → room < 132106 → chunkRefusal r room size ≡ 13
-  chunk-buffer e h = rw (e, lt-leb 132106 room h)
-
-  pub chunk-long : sound r ≡ true → 132106 ≤ room → 65536 < size → chunkRefusal r room size ≡ 15
-  chunk-long e h k = rw (e, le-leb 132106 room h, lt-leb size 65536 k)
-
-  pub chunk-free : sound r ≡ true → 132106 ≤ room → size ≤ 65536 → chunkRefusal r room size ≡ 0
-  chunk-free e h k = rw (e, le-leb 132106 room h, le-leb size 65536 k)
-
-  -- Those of a quiet.
-  pub end-state : sound r ≡ false → endRefusal r room ≡ 16
-  end-state e = rw e
-
-  pub end-buffer : sound r ≡ true → room < 1034 → endRefusal r room ≡ 13
-  end-buffer e h = rw (e, lt-leb 1034 room h)

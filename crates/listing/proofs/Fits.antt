@@ -3,15 +3,15 @@
 use Prim.Native.Nat.{ℕ, _+_, _-_, _*_, _≤_}
 use native.Mathlib.Omega.{arith}
 use mathlib.Core.Path.{_≡_, refl, sym, subst}
-use mathlib.Core.List.{List, [], _∷_, _++_}
+use mathlib.Core.List.{List, [], _∷_, _++_, map}
 use mathlib.Core.Bool.{Bool, true, false, cond, _&&_}
 use borrow.Author.Tests.{eqb-true, leb-true}
 use lib.Dec.{leb, ltb, eqb}
 use lib.ListN.{length, take, drop, length-append, length-drop}
 use lib.Seq.{take-length}
-use Rattle.frame.specs.Hex.{hex}
+use Rattle.frame.specs.Hex.{hex, sumOf}
 use Rattle.frame.specs.Ascii.{lineFeed}
-use Rattle.message.specs.Field.{isPlain}
+use Rattle.message.specs.Address.{isPlain}
 use Rattle.message.specs.Number.{byteAt, wordAt}
 use Rattle.message.specs.FromModule.{readFromModule, responseMeaning, receptionMeaning, standardMeaning, remoteMeaning, statusMeaning, senderMeaning}
 use Rattle.message.specs.Meaning.{Meaning, refused, carrying, bare}
@@ -28,7 +28,6 @@ use Rattle.message.specs.declared.from_module.Notice.{Notice}
 use Rattle.message.specs.declared.from_module.Notice.the-variants.{Response as IsResponse, Standard, Remote}
 use Rattle.listing.specs.Line.{dataField, decimal, simpleLine, receptionLine, responseLine, standardLine, remoteLine, refusalLine, meaningLine}
 use Rattle.listing.specs.Line.{deliveryLine, lineOf, linesOf}
-use Rattle.frame.specs.Draining.{total}
 
 -- Two characters for each byte.
 length-hex : (s : List ℕ) → length (hex s) ≡ 2 * length s
@@ -160,7 +159,7 @@ unfolding lineOf
 line-short p = simp length-append (omega (arith, fits p .short))
 
 -- So have all lines together.
-pub lines-short : (ps : List (List ℕ)) → length (linesOf ps) ≤ 2 * total (λ p. length p + 6) ps
+pub lines-short : (ps : List (List ℕ)) → length (linesOf ps) ≤ 2 * sumOf (map (λ p. length p + 6) ps)
 lines-short [] = omega arith
 lines-short (p ∷ ps) = simp length-append (omega (arith, line-short p, lines-short ps))
 

@@ -8,12 +8,12 @@ use mathlib.Core.List.{List, [], _∷_, _++_}
 use mathlib.Core.Bool.{Bool, true, false, cond}
 use borrow.Author.Tests.{lt-ltb, le-ltb}
 use lib.Dec.{ltb}
-use lib.ListN.{length, length-append}
+use lib.ListN.{length, take, length-append}
 use Rattle.frame.specs.Hex.{hex}
 use Rattle.frame.specs.Ascii.{lineFeed}
 use Rattle.io.specs.Digits.{digits, glyph, Fewest}
-use Rattle.message.specs.Examples.{text}
-use Rattle.message.specs.Number.{bytes2, bytes4}
+use Rattle.message.specs.Number.{bytes4}
+use Rattle.message.specs.Text.{text}
 use Rattle.message.specs.declared.simple.Simple.{Simple}
 use Rattle.message.specs.declared.from_module.Reception.{Reception}
 use Rattle.message.specs.declared.from_module.Outcome.{Outcome}
@@ -22,7 +22,7 @@ use Rattle.message.specs.declared.status.StandardStatus.{StandardStatus}
 use Rattle.message.specs.declared.status.RemoteStatus.{RemoteStatus}
 use Rattle.listing.specs.Line.{dataField, digitsOf, decimal, simpleLine, receptionLine, outcomeText, responseLine, standardLine, remoteLine}
 use Rattle.listing.specs.Line.{refusalLine, noiseLine}
-use Rattle.listing.specs.Parts.{fields}
+use Rattle.listing.specs.Parts.{fields, statusBytes}
 
 -- The end of a line.
 abbrev pub newline : List ℕ
@@ -39,11 +39,11 @@ receptionRow m =
 abbrev pub responseRow : Response → List ℕ
 responseRow m = text "response" ++ fields 1 (m .id ∷ [])
 
-abbrev pub standardRow : StandardStatus → List ℕ
-standardRow m = text "standard" ++ fields 355 (m .sender ∷ (bytes4 (m .serial) ++ (m .lqi ∷ (bytes2 (m .supply) ++ (m .di ∷ [])))))
+abbrev pub standardRow : List ℕ → List ℕ
+standardRow bytes = text "standard" ++ fields 355 bytes
 
-abbrev pub remoteRow : RemoteStatus → List ℕ
-remoteRow m = text "remote" ++ fields 99 (m .sender ∷ (bytes4 (m .serial) ++ (m .lqi ∷ bytes2 (m .signals))))
+abbrev pub remoteRow : List ℕ → List ℕ
+remoteRow bytes = text "remote" ++ fields 99 (take 8 bytes)
 
 -- A line is its word and fields, then what ends it.
 pub simple-parts : (m : Simple) (dat : List ℕ) → simpleRow m ++ (dataField dat ++ newline) ≡ simpleLine m dat ++ newline
@@ -58,13 +58,17 @@ pub response-parts : (m : Response) {o : Outcome} → m .outcome ≡ o → respo
 unfolding responseLine
 response-parts m e = rw e
 
-pub standard-parts : (m : StandardStatus) → standardRow m ++ newline ≡ standardLine m ++ newline
+pub standard-parts :
+    (m : StandardStatus) {bytes : List ℕ} → bytes ≡ statusBytes (m .sender) (m .serial) (m .lqi) (m .supply) (m .di) →
+    standardRow bytes ++ newline ≡ standardLine m ++ newline
 unfolding standardLine
-standard-parts m = refl
+standard-parts m e = rw e
 
-pub remote-parts : (m : RemoteStatus) → remoteRow m ++ newline ≡ remoteLine m ++ newline
+pub remote-parts :
+    (m : RemoteStatus) {bytes : List ℕ} → bytes ≡ statusBytes (m .sender) (m .serial) (m .lqi) (m .signals) 0 →
+    remoteRow bytes ++ newline ≡ remoteLine m ++ newline
 unfolding remoteLine
-remote-parts m = refl
+remote-parts m e = rw e
 
 pub refusal-parts : (n : ℕ) → text "refused " ++ (decimal n ++ newline) ≡ refusalLine n ++ newline
 unfolding refusalLine

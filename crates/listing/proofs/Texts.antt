@@ -1,32 +1,33 @@
 -- Laws on text that is put into a buffer part by part, and on the digits of bytes.
 -- Assumes nothing.
-use Prim.Native.Nat.{ℕ, _+_, _/_, _%_, _≤_, _<_}
+use Prim.Native.Nat.{ℕ, _+_, _-_, _/_, _%_, _≤_, _<_}
 use native.Mathlib.Numerals.{add-one}
 use native.Mathlib.Omega.{arith}
 use mathlib.Core.Path.{_≡_, refl, sym, ap, _∙_, subst}
 use mathlib.Core.List.{List, [], _∷_, _++_, append-assoc, append-nil}
 use lib.Dec.{eqb}
-use lib.ListN.{length, getD, drop, length-append, length-drop}
-use lib.Seq.{drop-cons}
+use lib.ListN.{length, getD, take, drop, length-append, length-drop}
+use lib.Seq.{paste, drop-cons, drop-drop, take-length}
+use borrow.Rule.Slice.PartMut.{putMid}
 use Rattle.frame.specs.Hex.{hex}
-use Rattle.message.specs.Parts.{Puts}
+use Rattle.message.specs.Put.{Puts}
 use Rattle.message.proofs.Putting.{puts-none, puts-append, puts-length}
-use Rattle.listing.specs.Parts.{spaceIf, fields, Going}
+use Rattle.listing.specs.Parts.{spaceIf, fields, PartlyPut}
 
 -- Nothing is put yet.
-pub going : (out : List ℕ) (at : ℕ) {whole rest : List ℕ} → rest ≡ whole → Going out at whole rest at out
-going out at e = record { done = []; puts = puts-none out at; all = e; long = refl }
+pub partly-put : (out : List ℕ) (at : ℕ) {whole rest : List ℕ} → rest ≡ whole → PartlyPut out at whole rest at out
+partly-put out at e = record { done = []; puts = puts-none out at; all = e; long = refl }
 
 module _ {out₀ whole out : List ℕ} {at end : ℕ} (room : at + length whole ≤ length out₀) where
   -- What is put ends where what is left begins, and there is room for it.
-  pub going-room : {rest : List ℕ} → Going out₀ at whole rest end out → end + length rest ≤ length out
-  going-room {rest} g =
+  pub partly-put-room : {rest : List ℕ} → PartlyPut out₀ at whole rest end out → end + length rest ≤ length out
+  partly-put-room {rest} g =
       omega (arith, g .puts .ends, g .long, simp length-append at (ap length (g .all)))
 
   -- One part more.
-  pub going-next : {part rest : List ℕ} {next : ℕ} {after : List ℕ} → Going out₀ at whole (part ++ rest) end out → Puts out end part next after →
-      Going out₀ at whole rest next after
-  going-next {part} {rest} g p =
+  pub partly-put-next : {part rest : List ℕ} {next : ℕ} {after : List ℕ} → PartlyPut out₀ at whole (part ++ rest) end out → Puts out end part next after →
+      PartlyPut out₀ at whole rest next after
+  partly-put-next {part} {rest} g p =
       let size = simp length-append at (ap length (g .all)) in
       record {
         done = g .done ++ part;
@@ -36,16 +37,39 @@ module _ {out₀ whole out : List ℕ} {at end : ℕ} (room : at + length whole 
       }
 
   -- All is put.
-  pub going-done : Going out₀ at whole [] end out → Puts out₀ at whole end out
-  going-done g = subst (λ (s : List ℕ). Puts out₀ at s end out) (sym (append-nil (g .done)) ∙ g .all) (g .puts)
+  pub partly-put-done : PartlyPut out₀ at whole [] end out → Puts out₀ at whole end out
+  partly-put-done g = subst (λ (s : List ℕ). Puts out₀ at s end out) (sym (append-nil (g .done)) ∙ g .all) (g .puts)
 
 -- The last part is put.
-pub going-last :
-    {out₀ whole out part after : List ℕ} {at end next : ℕ} → at + length whole ≤ length out₀ → Going out₀ at whole part end out → Puts out end part next after →
+pub partly-put-last :
+    {out₀ whole out part after : List ℕ} {at end next : ℕ} → at + length whole ≤ length out₀ → PartlyPut out₀ at whole part end out → Puts out end part next after →
     Puts out₀ at whole next after
-going-last {out₀} {whole} {out} {part} {after} {at} {end} {next} room g p =
-    let h : Going out₀ at whole (part ++ []) end out = subst (λ (s : List ℕ). Going out₀ at whole s end out) (sym (append-nil part)) g in
-    going-done room (going-next room h p)
+partly-put-last {out₀} {whole} {out} {part} {after} {at} {end} {next} room g p =
+    let h : PartlyPut out₀ at whole (part ++ []) end out = subst (λ (s : List ℕ). PartlyPut out₀ at whole s end out) (sym (append-nil part)) g in
+    partly-put-done room (partly-put-next room h p)
+
+-- Behind the last place nothing is left.
+pub drop-all : (s : List ℕ) (i : ℕ) → length s ≤ i → drop i s ≡ []
+drop-all s i h = none (drop i s) (length-drop i s ∙ omega arith)
+  where
+    none : (l : List ℕ) → length l ≡ 0 → l ≡ []
+    none [] e = refl
+    none (x ∷ l) e = absurd (omega arith)
+
+-- Text copied into the part of a buffer from a place on is put there.
+pub copy-puts :
+    (out text : List ℕ) (at : ℕ) {part : List ℕ} → at + length text ≤ length out →
+    part ≡ take (length text) text ++ drop (length text) (take (length out - at) (drop at out)) →
+    putMid at (length out - at) out part ≡ paste out at text (length text)
+copy-puts out text at h e =
+    let all : take (length out - at) (drop at out) ≡ drop at out = rw (← length-drop at out) (take-length (drop at out)) in
+    let none : drop (length out - at) (drop at out) ≡ [] = drop-all (drop at out) (length out - at) (omega (arith, length-drop at out)) in
+    let text′ : List ℕ = take (length text) text in
+    ap (λ (l : List ℕ). take at out ++ (l ++ drop (length out - at) (drop at out))) (e ∙ ap (λ (l : List ℕ). text′ ++ drop (length text) l) all)
+    ∙ ap (λ (l : List ℕ). take at out ++ ((text′ ++ drop (length text) (drop at out)) ++ l)) none
+    ∙ ap (λ (l : List ℕ). take at out ++ l) (append-nil (text′ ++ drop (length text) (drop at out)))
+    ∙ ap (λ (l : List ℕ). take at out ++ (text′ ++ l)) (drop-drop (length text) at out)
+    ∙ sym (append-assoc (take at out) text′ (drop (at + length text) out))
 
 -- The digits from place i on begin with those of the byte there.
 pub hex-next : (s : List ℕ) (i : ℕ) → i < length s → hex (drop i s) ≡ hex (getD s i 0 ∷ []) ++ hex (drop (i + 1) s)
@@ -57,25 +81,17 @@ pub fields-next :
     fields starts (drop i s) ≡ spaceIf (eqb (starts % 2) 1) ++ (hex (getD s i 0 ∷ []) ++ fields (starts / 2) (drop (i + 1) s))
 fields-next starts s i h = rw (add-one, drop-cons s i 0)
 
--- Behind the last place nothing is left.
-pub drop-all : (s : List ℕ) (i : ℕ) → length s ≤ i → drop i s ≡ []
-drop-all s i h = none (drop i s) (length-drop i s ∙ omega arith)
-  where
-    none : (l : List ℕ) → length l ≡ 0 → l ≡ []
-    none [] e = refl
-    none (x ∷ l) e = absurd (omega arith)
-
 -- There is room for the next part.
-pub going-part :
-    {out₀ whole out : List ℕ} {at end : ℕ} (part rest : List ℕ) → at + length whole ≤ length out₀ → Going out₀ at whole (part ++ rest) end out →
+pub partly-put-part :
+    {out₀ whole out : List ℕ} {at end : ℕ} (part rest : List ℕ) → at + length whole ≤ length out₀ → PartlyPut out₀ at whole (part ++ rest) end out →
     end + length part ≤ length out
-going-part part rest room g = omega (arith, simp length-append at (going-room room g))
+partly-put-part part rest room g = omega (arith, simp length-append at (partly-put-room room g))
 
 -- Some parts, and then others.
-pub going-on :
-    {out₀ out after whole rest left : List ℕ} {at end next : ℕ} → at + length whole ≤ length out₀ → Going out₀ at whole rest end out →
-    Going out end rest left next after → Going out₀ at whole left next after
-going-on {out₀} {out} {after} {whole} {rest} {left} room g h =
+pub partly-put-on :
+    {out₀ out after whole rest left : List ℕ} {at end next : ℕ} → at + length whole ≤ length out₀ → PartlyPut out₀ at whole rest end out →
+    PartlyPut out end rest left next after → PartlyPut out₀ at whole left next after
+partly-put-on {out₀} {out} {after} {whole} {rest} {left} room g h =
     record {
       done = g .done ++ h .done;
       puts = puts-append (omega arith) (g .puts) (h .puts);

@@ -1,5 +1,7 @@
--- What a reader of the listing crate has to believe: the text of a line, what the calls promise, and the claim on the whole listing.
+-- What a reader of the listing crate has to believe: the text of a line, and what the calls promise.
 pub mod Line
 pub mod Listing
--- Behind the public calls: what the functions that they are made of answer. Nothing here has to be believed.
+-- What follows from it; each claim is proved in proofs/Theorems.antt.
+pub mod Claims
+-- Cited only by functions that are not public: what they answer.
 pub mod Parts

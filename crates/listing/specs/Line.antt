@@ -9,7 +9,7 @@ use Rattle.frame.specs.Hex.{hex}
 use Rattle.frame.specs.Ascii.{lineFeed}
 use Rattle.frame.specs.Rule.{Output, rule, payloads}
 use Rattle.frame.specs.declared.framing.Framing.{Framing}
-use Rattle.message.specs.Examples.{text}
+use Rattle.message.specs.Text.{text}
 use Rattle.message.specs.FromModule.{readFromModule}
 use Rattle.message.specs.Meaning.{Meaning, refused, carrying, bare}
 use Rattle.message.specs.Number.{bytes2, bytes4}

@@ -6,14 +6,15 @@ use mathlib.Core.Bool.{Bool, true, false, cond}
 use lib.Dec.{eqb}
 use lib.ListN.{length, drop}
 use Rattle.frame.specs.Hex.{hex}
-use Rattle.frame.specs.Draining.{drain, afterDrain}
 use Rattle.frame.specs.Framing.{limit}
 use Rattle.frame.specs.Reader.{State, Settled, stateOf, Holds}
 use Rattle.frame.specs.Rule.{Output}
 use Rattle.frame.specs.View.{inside, viewed}
+use Rattle.frame.specs.Drain.{drain, afterDrain}
 use Rattle.frame.specs.declared.reader.Reader.{Reader}
 use Rattle.frame.specs.declared.view.View.{View}
-use Rattle.message.specs.Parts.{Puts}
+use Rattle.message.specs.Number.{bytes2, bytes4}
+use Rattle.message.specs.Put.{Puts}
 use Rattle.listing.specs.Line.{linesOf}
 use Rattle.listing.specs.Listing.{textValues, valuesOf}
 use Rattle.listing.specs.declared.list.Listed.{Listed}
@@ -29,21 +30,25 @@ abbrev pub fields : ℕ → List ℕ → List ℕ
 fields starts [] = []
 fields starts (b ∷ s) = spaceIf (eqb (starts % 2) 1) ++ (hex (b ∷ []) ++ fields (starts / 2) s)
 
+-- The bytes of a status's fields.
+abbrev pub statusBytes : ℕ → ℕ → ℕ → ℕ → ℕ → List ℕ
+statusBytes sender serial lqi word inputs = sender ∷ (bytes4 serial ++ (lqi ∷ (bytes2 word ++ (inputs ∷ []))))
+
 -- Part of a text is put into a buffer, and the rest is to follow.
-pub record Going (out₀ : List ℕ) (at : ℕ) (whole rest : List ℕ) (end : ℕ) (out : List ℕ) : Type 0 where
+pub record PartlyPut (out₀ : List ℕ) (at : ℕ) (whole rest : List ℕ) (end : ℕ) (out : List ℕ) : Type 0 where
   pub done : List ℕ
   pub puts : Puts out₀ at done end out
   pub all : done ++ rest ≡ whole
   pub long : length out ≡ length out₀
 
--- Of `whole`, `left` is still to be listed: the lines before it are put from `at` on and end at `end`, and behind `base` bytes of noise there were
--- `noise` with theirs.
+-- Of `whole`, `left` is still to be listed: the lines before it are put from `at` on and end at `end`, and `noise` counts `base` bytes of earlier noise
+-- and that of the part that is listed.
 pub record Progress (whole left : Output (List ℕ)) (out₀ : List ℕ) (at base end noise : ℕ) (out : List ℕ) : Type 0 where
-  pub text : Going out₀ at (linesOf (whole .frames)) (linesOf (left .frames)) end out
+  pub text : PartlyPut out₀ at (linesOf (whole .frames)) (linesOf (left .frames)) end out
   pub noises : noise + left .noise ≡ base + whole .noise
 
--- Calls over a chunk are on their way: from the state s on, `rest` is still offered, and what they give together is what `whole` still lacks.
-pub record Midway (whole : Settled) (s : State) (rest out₀ : List ℕ) (at base end noise : ℕ) (out : List ℕ) : Type 0 where
+-- Some of the calls over a chunk are made: from the state s on, `rest` is still to be offered, and what the other calls give is what is left of `whole`.
+pub record PartlyDrained (whole : Settled) (s : State) (rest out₀ : List ℕ) (at base end noise : ℕ) (out : List ℕ) : Type 0 where
   pub same : drain s rest .rest ≡ whole .rest
   pub progress : Progress (whole .out) (drain s rest .out) out₀ at base end noise out
 
@@ -52,7 +57,7 @@ pub record Room (whole : Settled) (at base : ℕ) (out : List ℕ) : Type 0 wher
   pub room : at + length (linesOf (whole .out .frames)) ≤ length out
   pub few : base + whole .out .noise ≤ 66053
 
--- It is listed: the lines are put from `at` on, behind `base` bytes of noise, and the reader has the state that follows s.
+-- It is listed: the lines are put from `at` on, the noise is added to `base`, and the reader has the state that follows s.
 pub record ListsRest (s : State) (whole : Settled) (out : List ℕ) (at base : ℕ) (a : Listed) (out′ : List ℕ) : Type 0 where
   pub values : valuesOf (a .answer) ≡ textValues (at + length (linesOf (whole .out .frames))) (base + whole .out .noise)
   pub state : Holds (afterDrain s whole) (a .reader)
@@ -66,7 +71,7 @@ abbrev pub ListsView : View → List ℕ → List ℕ → ℕ → ℕ → Listed
 ListsView v chunk out at base a out′ = ListsRest (viewed v chunk) (viewDrain v chunk) out at base a out′
 
 pub record CanView (v : View) (chunk : List ℕ) (at base : ℕ) (out : List ℕ) : Type 0 where
-  pub lies : inside v (length chunk) ≡ true
+  pub within : inside v (length chunk) ≡ true
   pub small : length chunk ≤ 65536
   pub fits : Room (viewDrain v chunk) at base out
 
@@ -79,7 +84,7 @@ pub record CanFeed (r : Reader) (chunk out : List ℕ) : Type 0 where
   pub small : length chunk ≤ 65536
   pub fits : Room (drain (stateOf r) chunk) 0 0 out
 
--- Where it stands afterwards: all is listed, or nothing is held and the rest of the chunk is still to be listed.
+-- Its result: all is listed, or nothing is held and the rest of the chunk is still to be listed.
 pub record HeldListed (r : Reader) (chunk out : List ℕ) (p : Part) (out′ : List ℕ) : Type 0 where
   pub inside : p .done ≤ length chunk
   pub framing : p .reader .framing ≡ r .framing
@@ -88,4 +93,4 @@ pub record HeldListed (r : Reader) (chunk out : List ℕ) (p : Part) (out′ : L
       ListsRest (stateOf r) (drain (stateOf r) chunk) out 0 0 (record { reader = p .reader; answer = Lines (p .end) (p .noise) }) out′
   pub some :
       (p .over ≡ false) →
-      (p .reader .count ≡ 0) × Midway (drain (stateOf r) chunk) (stateOf (p .reader)) (drop (p .done) chunk) out 0 0 (p .end) (p .noise) out′
+      (p .reader .count ≡ 0) × PartlyDrained (drain (stateOf r) chunk) (stateOf (p .reader)) (drop (p .done) chunk) out 0 0 (p .end) (p .noise) out′

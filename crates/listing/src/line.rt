@@ -2,6 +2,7 @@
 use crate::put::put_data;
 use crate::put::put_decimal;
 use crate::put::put_row;
+use crate::put::put_row_line;
 use crate::put::put_text;
 use message::Delivery;
 use message::FromModule;
@@ -17,9 +18,11 @@ ghost use mathlib.Core.List.{_++_, _∷_, []};
 ghost use Prim.Native.Nat.{_≤_, _+_};
 ghost use lib.ListN.{length};
 ghost use Rattle.frame.specs.Ascii.{lineFeed};
-ghost use Rattle.message.specs.Parts.{Puts};
+ghost use Rattle.message.specs.Put.{Puts};
 ghost use Rattle.message.specs.Refusal.{numberOf};
 ghost use Rattle.listing.specs.Line.{simpleLine, receptionLine, responseLine, standardLine, remoteLine, refusalLine, lineOf};
+ghost use mathlib.Core.Path.{_≡_};
+ghost use Rattle.listing.specs.Parts.{statusBytes};
 
 fn put_simple(message: Simple, data: &[u8], out: &mut [u8], at: usize) -> usize
     requires { ⌜ at + length (simpleLine message (now «data») ++ (lineFeed ∷ [])) ≤ length (now out) ⌝ }
@@ -66,45 +69,43 @@ fn put_response(response: Response, out: &mut [u8], at: usize) -> usize
     }
 }
 
-fn put_standard(status: StandardStatus, out: &mut [u8], at: usize) -> usize
-    requires { ⌜ at + length (standardLine status ++ (lineFeed ∷ [])) ≤ length (now out) ⌝ }
-    ensures { λ r. ⌜ Puts (now (out .entry)) at (standardLine status ++ (lineFeed ∷ [])) r (now (out .exit)) ⌝ }
+// The fields of a status: its sender, its serial number, its LQI, its supply voltage or its signals, and its inputs.
+fn status_bytes(sender: u8, serial: u32, lqi: u8, word: u16, inputs: u8) -> [u8; 9]
+    ensures { λ r. ⌜ r ≡ statusBytes sender serial lqi word inputs ⌝ }
 {
-    let serial = status.serial;
-    let supply = status.supply;
-    let bytes = [
-        status.sender,
+    [
+        sender,
         (serial / 16777216 % 256) as u8,
         (serial / 65536 % 256) as u8,
         (serial / 256 % 256) as u8,
         (serial % 256) as u8,
+        lqi,
+        (word / 256 % 256) as u8,
+        (word % 256) as u8,
+        inputs,
+    ]
+}
+
+fn put_standard(status: StandardStatus, out: &mut [u8], at: usize) -> usize
+    requires { ⌜ at + length (standardLine status ++ (lineFeed ∷ [])) ≤ length (now out) ⌝ }
+    ensures { λ r. ⌜ Puts (now (out .entry)) at (standardLine status ++ (lineFeed ∷ [])) r (now (out .exit)) ⌝ }
+{
+    let bytes = status_bytes(
+        status.sender,
+        status.serial,
         status.lqi,
-        (supply / 256 % 256) as u8,
-        (supply % 256) as u8,
+        status.supply,
         status.di,
-    ];
-    let end = put_row(out, at, b"standard", &bytes, 0b101100011);
-    put_text(out, end, b"\n")
+    );
+    put_row_line(out, at, b"standard", &bytes, 0b101100011)
 }
 
 fn put_remote(status: RemoteStatus, out: &mut [u8], at: usize) -> usize
     requires { ⌜ at + length (remoteLine status ++ (lineFeed ∷ [])) ≤ length (now out) ⌝ }
     ensures { λ r. ⌜ Puts (now (out .entry)) at (remoteLine status ++ (lineFeed ∷ [])) r (now (out .exit)) ⌝ }
 {
-    let serial = status.serial;
-    let signals = status.signals;
-    let bytes = [
-        status.sender,
-        (serial / 16777216 % 256) as u8,
-        (serial / 65536 % 256) as u8,
-        (serial / 256 % 256) as u8,
-        (serial % 256) as u8,
-        status.lqi,
-        (signals / 256 % 256) as u8,
-        (signals % 256) as u8,
-    ];
-    let end = put_row(out, at, b"remote", &bytes, 0b1100011);
-    put_text(out, end, b"\n")
+    let bytes = status_bytes(status.sender, status.serial, status.lqi, status.signals, 0);
+    put_row_line(out, at, b"remote", &bytes[..8], 0b1100011)
 }
 
 fn put_refusal(refusal: Refusal, out: &mut [u8], at: usize) -> usize

@@ -33,7 +33,7 @@ pub struct Listed {
     pub answer: ListAnswer,
 }
 
-// Where the listing of a chunk stands: the reader, the bytes of the chunk that are taken, the end of the text, the bytes of noise, and whether all is listed.
+// A chunk that is listed in part: the reader, the bytes of the chunk that are taken, the end of the text, the bytes of noise, and whether all is listed.
 struct Part {
     reader: Reader,
     done: usize,
@@ -43,7 +43,8 @@ struct Part {
 }
 
 fn lines(reader: Reader, len: usize, noise: usize) -> Listed
-    ensures { λ r. ⌜ (r .reader ≡ reader) × (r .answer ≡ ListAnswer.Lines len noise) ⌝ }
+    ensures { λ r. ⌜ r .reader ≡ reader ⌝ }
+    ensures { λ r. ⌜ r .answer ≡ ListAnswer.Lines len noise ⌝ }
 {
     Listed {
         reader: reader,
@@ -52,7 +53,8 @@ fn lines(reader: Reader, len: usize, noise: usize) -> Listed
 }
 
 fn refused(reader: Reader, refusal: Refusal) -> Listed
-    ensures { λ r. ⌜ (r .reader ≡ reader) × (r .answer ≡ ListAnswer.Refused refusal) ⌝ }
+    ensures { λ r. ⌜ r .reader ≡ reader ⌝ }
+    ensures { λ r. ⌜ r .answer ≡ ListAnswer.Refused refusal ⌝ }
 {
     Listed {
         reader: reader,

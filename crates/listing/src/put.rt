@@ -1,10 +1,10 @@
-// Putting text into a buffer, piece behind piece.
+// Putting text into a buffer, part after part.
 ghost use mathlib.Core.List.{_++_, _∷_, []};
 ghost use Prim.Native.Nat.{_≤_, _<_, _+_};
 ghost use lib.ListN.{length};
 ghost use Rattle.frame.specs.Ascii.{lineFeed};
 ghost use Rattle.frame.specs.Hex.{hex};
-ghost use Rattle.message.specs.Parts.{Puts};
+ghost use Rattle.message.specs.Put.{Puts};
 ghost use Rattle.listing.specs.Line.{decimal, dataField};
 ghost use Rattle.listing.specs.Parts.{spaceIf, fields};
 
@@ -13,12 +13,7 @@ pub(crate) fn put_text(out: &mut [u8], at: usize, text: &[u8]) -> usize
     requires { ⌜ at + length (now text) ≤ length (now out) ⌝ }
     ensures { λ r. ⌜ Puts (now (out .entry)) at (now (text .entry)) r (now (out .exit)) ⌝ }
 {
-    let mut i = 0;
-    while i < text.len() {
-        out[at + i] = text[i];
-        i += 1;
-    }
-    at + i
+    at + bytes::copy(text, &mut out[at..])
 }
 
 // Puts a space into out where one is wanted.
@@ -68,6 +63,21 @@ pub(crate) fn put_row(out: &mut [u8], at: usize, word: &[u8], bytes: &[u8], star
 {
     let end = put_text(out, at, word);
     put_fields(out, end, bytes, starts)
+}
+
+// Puts a line of a word and fields into out.
+pub(crate) fn put_row_line(
+    out: &mut [u8],
+    at: usize,
+    word: &[u8],
+    bytes: &[u8],
+    starts: u32,
+) -> usize
+    requires { ⌜ at + length ((now word ++ fields starts (now bytes)) ++ (lineFeed ∷ [])) ≤ length (now out) ⌝ }
+    ensures { λ r. ⌜ Puts (now (out .entry)) at ((now (word .entry) ++ fields starts (now (bytes .entry))) ++ (lineFeed ∷ [])) r (now (out .exit)) ⌝ }
+{
+    let end = put_row(out, at, word, bytes, starts);
+    put_text(out, end, b"\n")
 }
 
 // Puts the digits of data into out.

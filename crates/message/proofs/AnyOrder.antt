@@ -8,9 +8,9 @@ use mathlib.Core.List.{List·Permᴰ·trans as trans, Permᴰ·symm, Permᴰ·mi
 use mathlib.Core.Bool.{Bool, true, false, cond, _&&_, _||_, true≢false}
 use lib.Dec.{eqb}
 use borrow.Author.Tests.{eqb-false, ne-eqb}
-use Rattle.message.specs.Options.{noOptions, optionBytes, flagBytes, retryBytes, wordBytes, retryAllowed}
+use Rattle.message.specs.Options.{noOptions, optionBytes, optionGroups, optionString, flagBytes, retryBytes, wordBytes, retryAllowed}
 use Rattle.message.specs.Claims.{OptionsFit}
-use Rattle.message.specs.AnyOrder.{optionGroups, optionString, sheetOptions, sheetGroups, AnyOrderIsRead}
+use Rattle.message.specs.AnyOrder.{sheetOptions, sheetGroups, AnyOrderIsRead}
 use Rattle.message.specs.declared.options.MaybeByte.the-variants.{NotGiven as NoByte}
 use Rattle.message.specs.declared.options.MaybeWord.the-variants.{NotGiven as NoWord}
 use Rattle.message.specs.declared.options.Options.{Options}
@@ -198,6 +198,5 @@ any-order-is-read =
       options = λ o gs fits allowed d. any-order o fits allowed gs d .reads;
       message = λ m gs dat fits e d.
           transmission-back m (optionString gs) dat fits e (λ allowed. any-order (m .options) (fits .2) allowed gs d);
-      ascending = λ o. refl;
       another = sheet;
     }

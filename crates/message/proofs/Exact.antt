@@ -3,25 +3,24 @@
 use Prim.Native.Nat.{ℕ, _≤_}
 use mathlib.Core.Path.{_≡_, refl, sym, ap, subst, _∙_}
 use mathlib.Core.List.{List, _++_}
-use native.Mathlib.Nat.{zero-add}
 use native.Mathlib.Omega.{arith}
 use lib.ListN.{length, drop, length-append, length-drop}
-use Rattle.frame.specs.Checks.{Bytes}
+use Rattle.frame.specs.Elements.{Bytes}
 use Rattle.message.specs.Number.{byteAt, wordAt, longAt, bytes2}
 use Rattle.message.specs.Meaning.{Meaning, refused, carrying, bare}
-use Rattle.message.specs.Options.{opted, optionBytes}
+use Rattle.message.specs.Options.{optionBytes}
 use Rattle.message.specs.ToModule.{requestLayout, requestRefusal, addressBytes, changeLayout, changeRefusal}
 use Rattle.message.specs.FromModule.{deliveryLayout, deliveryRefusal, noticeLayout, noticeRefusal}
 use Rattle.message.specs.Claims.{ExactRequest, WhatIsReadIsWritten, RefusesNoMore, ReadingIsExact}
 use Rattle.message.specs.declared.to_module.Address.{Address}
-use Rattle.message.specs.declared.to_module.Address.the-variants.{Plain, Extended as Far}
+use Rattle.message.specs.declared.to_module.Address.the-variants.{Plain, Extended as ExtendedAddress}
 use Rattle.message.specs.declared.to_module.Request.{Request}
 use Rattle.message.specs.declared.to_module.OutputChange.{OutputChange}
 use Rattle.message.specs.declared.from_module.Delivery.{Delivery}
 use Rattle.message.specs.declared.from_module.Notice.{Notice}
-use Rattle.message.proofs.Lists.{at-least, just, byte-next, fixed-next, word-next, long-next, zeros-next}
-use Rattle.message.proofs.OptionStrings.{left-behind, as-written, ends-inside}
-use Rattle.message.proofs.Readings.{ToWay, simple as to-simple, change, near, far, Sent, to-way, to-short}
+use Rattle.message.proofs.Lists.{bytes-drop, bytes-front, at-least, just, byte-next, fixed-next, word-next, long-next, zeros-next}
+use Rattle.message.proofs.OptionStrings.{left-behind, all-groups, in-order, made-of, as-written, ends-inside}
+use Rattle.message.proofs.Readings.{ToWay, simple as to-simple, change, to-plain, to-extended, Sent, to-way, to-short}
 use Rattle.message.proofs.Readings.{FromWay, simple as from-simple, failure, success, standard, remote, extended}
 use Rattle.message.proofs.Readings.{from-way, from-short}
 
@@ -59,12 +58,12 @@ module _ (p : List ℕ) (most : length p ≤ 256) where
   to-written : {r : Meaning Request OutputChange} → ToWay p r → ToWritten p r
   to-written (to-simple two plain low is) = subst (ToWritten p) is (rw (plain, low), omega (arith, length-drop 2 p))
   to-written (change plain command long fixed zeros more is) = subst (ToWritten p) is (rw plain)
-  to-written (near plain command long s) =
+  to-written (to-plain plain command long s) =
       subst (ToWritten p) (s .is)
       (rw (plain, s .spelled .allowed), omega (arith, most, no-longer p (Plain (byteAt p 0)) 3 refl long s))
-  to-written (far place command long allowed s) =
+  to-written (to-extended place command long allowed s) =
       subst (ToWritten p) (s .is)
-      (rw (allowed, s .spelled .allowed), omega (arith, most, no-longer p (Far (longAt p 3)) 7 refl long s))
+      (rw (allowed, s .spelled .allowed), omega (arith, most, no-longer p (ExtendedAddress (longAt p 3)) 7 refl long s))
 
   from-written : {r : Meaning Delivery Notice} → FromWay p r → FromWritten p r
   from-written (from-simple two plain low is) = subst (FromWritten p) is (rw (plain, low), omega (arith, length-drop 2 p))
@@ -75,15 +74,16 @@ module _ (p : List ℕ) (most : length p ≤ 256) where
   from-written (extended plain command long count is) = subst (FromWritten p) is (rw plain, omega (arith, length-drop 14 p))
 
 -- Behind its address, an extended message to the module is exact.
-reordered : (p : List ℕ) (address : Address) (at : ℕ) {r : Meaning Request OutputChange} → at ≤ length p →
+reordered : (p : List ℕ) → Bytes p → (address : Address) (at : ℕ) {r : Meaning Request OutputChange} → at ≤ length p →
     p ≡ addressBytes address (byteAt p 2) ++ drop at p → Sent p address at r → ToExact p r
-reordered p address at long front s =
+reordered p h address at long front s =
+    let split : drop at p ≡ s .spelled .string ++ drop (s .end) p = left-behind p at (s .spelled) in
+    let string : Bytes (s .spelled .string) = bytes-front (s .spelled .string) (drop (s .end) p) (subst Bytes split (bytes-drop at p h)) in
     subst (ToExact p) (s .is) (
       record {
-        string = s .spelled .string;
-        split = front ∙ ap (λ l. addressBytes address (byteAt p 2) ++ l) (left-behind p at (s .spelled));
-        long = as-written (s .spelled);
-        options = s .spelled .again 0 ∙ ap (opted (s .options)) (zero-add (length (s .spelled .string)));
+        groups = all-groups (s .spelled);
+        order = in-order (s .spelled);
+        bytes = front ∙ ap (λ l. addressBytes address (byteAt p 2) ++ l) (split ∙ ap (λ l. l ++ drop (s .end) p) (made-of (s .spelled) string));
       },
       ends-inside p at long (s .spelled),
     )
@@ -96,10 +96,10 @@ module _ (p : List ℕ) (h : Bytes p) where
       (just p 15 long
       ∙ byte-next p h 0 (fixed-next p h 1 command (fixed-next p h 2 fixed
       (word-next p h 3 (word-next p h 5 (zeros-next p h 7 zeros (zeros-next p h 11 more refl)))))))
-  to-exact (near plain command long s) =
-      reordered p (Plain (byteAt p 0)) 3 long (at-least p 3 long ∙ byte-next p h 0 (fixed-next p h 1 command refl)) s
-  to-exact (far place command long allowed s) =
-      reordered p (Far (longAt p 3)) 7 long
+  to-exact (to-plain plain command long s) =
+      reordered p h (Plain (byteAt p 0)) 3 long (at-least p 3 long ∙ byte-next p h 0 (fixed-next p h 1 command refl)) s
+  to-exact (to-extended place command long allowed s) =
+      reordered p h (ExtendedAddress (longAt p 3)) 7 long
       (at-least p 7 long ∙ fixed-next p h 0 place (fixed-next p h 1 command (byte-next p h 2 (long-next p h 3 refl)))) s
 
   from-exact : {r : Meaning Delivery Notice} → FromWay p r → FromExact p r

@@ -2,13 +2,15 @@
 -- Assumes nothing.
 use Prim.Native.Nat.{ℕ, zero, suc, _/_, _%_, _≤_, _<_}
 use mathlib.Core.Path.{_≡_, ap, _∙_}
-use mathlib.Core.List.{List, [], _∷_, _++_, append-nil}
+use mathlib.Core.List.{List, [], _∷_, _++_, append-nil, flatten}
 use mathlib.Core.Bool.{Bool, true, false}
 use native.Mathlib.Omega.{arith}
 use lib.Dec.{lit<, lit≤}
 use lib.ListN.{length, replicate}
-use Rattle.frame.specs.Checks.{frame, Bytes, Payload}
+use Rattle.frame.specs.Checks.{frame}
 use Rattle.frame.specs.Framing.{read, layout}
+use Rattle.frame.specs.Elements.{Bytes}
+use Rattle.frame.specs.Claims.{Payload}
 use Rattle.frame.specs.Recovery.{none, another, payloadIn}
 use Rattle.frame.specs.declared.framing.Framing.{Framing}
 use Rattle.frame.proofs.Theorems.{layout-reads, clean-calls}
@@ -26,7 +28,7 @@ use Rattle.message.specs.declared.options.MaybeWord.{MaybeWord}
 use Rattle.message.specs.declared.options.MaybeWord.the-variants.{NotGiven as NoWord, Given as Word}
 use Rattle.message.specs.declared.options.Options.{Options}
 use Rattle.message.specs.declared.to_module.Address.{Address}
-use Rattle.message.specs.declared.to_module.Address.the-variants.{Plain, Extended as Far}
+use Rattle.message.specs.declared.to_module.Address.the-variants.{Plain, Extended as ExtendedAddress}
 use Rattle.message.specs.declared.to_module.Request.{Request}
 use Rattle.message.specs.declared.simple.Simple.{Simple}
 use Rattle.message.specs.declared.to_module.OutputChange.{OutputChange}
@@ -101,7 +103,7 @@ option-fits o fits =
 
 address-fits : (a : Address) (id : ℕ) → AddressFits a → id < 256 → Fits (addressBytes a id)
 address-fits (Plain a) id fits h = byte fits (byte (lit< tt) (byte h end))
-address-fits (Far w) id fits h = byte (lit< tt) (byte (lit< tt) (byte h (long w end)))
+address-fits (ExtendedAddress w) id fits h = byte (lit< tt) (byte (lit< tt) (byte h (long w end)))
 
 -- The frame of a payload reads back as that payload.
 module _ (p : List ℕ) (fits : Fits p) (some : 1 ≤ length p) (most : length p ≤ 256) (f : Framing) where
@@ -109,6 +111,7 @@ module _ (p : List ℕ) (fits : Fits p) (some : 1 ≤ length p) (most : length p
   payload = record { bytes = all-bytes fits; some = some; most = most }
 
   frame-back : FrameReadsBack f p
+  unfolding flatten
   frame-back =
       let alone : read f (layout f p) ≡ frame (length (layout f p)) p = rw append-nil at (layout-reads f p [] payload) in
       record {
@@ -125,7 +128,7 @@ simple-frame m dat fits h = frame-back (simpleLayout m dat) (byte (fits .0) (byt
 
 address-some : (a : Address) (id : ℕ) (s : List ℕ) → 1 ≤ length (addressBytes a id ++ s)
 address-some (Plain a) id s = omega arith
-address-some (Far w) id s = omega arith
+address-some (ExtendedAddress w) id s = omega arith
 
 pub request-frame : (m : Request) (dat : List ℕ) → RequestFits m → Bytes dat → length (requestLayout m dat) ≤ 256 → (f : Framing) →
     FrameReadsBack f (requestLayout m dat)

@@ -7,7 +7,7 @@ use native.Mathlib.Nat.{zero-add, add-zero}
 use native.Mathlib.Omega.{arith}
 use lib.ListN.{length, drop, drop-of-length-le}
 use lib.Seq.{drop-cons}
-use Rattle.frame.specs.Checks.{Bytes}
+use Rattle.frame.specs.Elements.{Bytes}
 use Rattle.message.specs.Number.{byteAt, wordAt, longAt, bytes2, bytes4}
 use Rattle.message.proofs.Numbers.{word-bytes, long-bytes}
 
@@ -16,6 +16,16 @@ pub byte-at : (p : List ℕ) → Bytes p → (i : ℕ) → byteAt p i < 256
 byte-at [] h i = omega arith
 byte-at (b ∷ p) h zero = h .0
 byte-at (b ∷ p) h (suc i) = byte-at p (h .1) i
+
+-- A part of a list of bytes is one.
+pub bytes-drop : (n : ℕ) (p : List ℕ) → Bytes p → Bytes (drop n p)
+bytes-drop zero p h = h
+bytes-drop (suc n) [] h = h
+bytes-drop (suc n) (b ∷ p) h = bytes-drop n p (h .1)
+
+pub bytes-front : (s t : List ℕ) → Bytes (s ++ t) → Bytes s
+bytes-front [] t h = tt
+bytes-front (b ∷ s) t h = (h .0, bytes-front s t (h .1))
 
 -- The n bytes from a place on.
 abbrev pub places : List ℕ → ℕ → ℕ → List ℕ

@@ -10,10 +10,10 @@ use lib.ListN.{length, drop, length-append}
 use lib.Seq.{drop-at}
 use borrow.Author.Tests.{le-leb, eq-eqb, ne-eqb}
 use Rattle.message.specs.Number.{byteAt, wordAt}
-use Rattle.message.specs.Field.{isPlain}
+use Rattle.message.specs.Address.{isPlain}
 use Rattle.message.specs.Meaning.{carrying, bare}
 use Rattle.message.specs.Simple.{simpleLayout, simpleRefusal}
-use Rattle.message.specs.ToModule.{readToModule, nearRequest, farRequest, requestAt, outputChangeAt, requestLayout, requestRefusal}
+use Rattle.message.specs.ToModule.{readToModule, toPlainAddress, toExtendedAddress, requestAt, outputChangeAt, requestLayout, requestRefusal}
 use Rattle.message.specs.ToModule.{changeLayout, changeRefusal, addressBytes, addressAllowed, transmissionRefusal}
 use Rattle.message.specs.Options.{noOptions, optionBytes, retryAllowed}
 use Rattle.message.specs.Status.{standardLayout, remoteLayout}
@@ -23,7 +23,7 @@ use Rattle.message.specs.FromModule.{receptionRefusal, deliveryRefusal, 
 use Rattle.message.specs.Claims.{AddressFits, RequestFits, ChangeFits, DeliveryFits, NoticeFits, ReadsAs, RoundTrip}
 use Rattle.message.specs.declared.options.Options.{Options}
 use Rattle.message.specs.declared.to_module.Address.{Address}
-use Rattle.message.specs.declared.to_module.Address.the-variants.{Plain, Extended as Far}
+use Rattle.message.specs.declared.to_module.Address.the-variants.{Plain, Extended as ExtendedAddress}
 use Rattle.message.specs.declared.to_module.Transmission.{Transmission}
 use Rattle.message.specs.declared.to_module.Request.{Request}
 use Rattle.message.specs.declared.simple.Simple.{Simple}
@@ -56,9 +56,9 @@ in-range n least most = rw (le-leb 2 n least, le-leb n 256 most)
 
 -- A payload with a plain address is read by its command.
 module _ (p : List ℕ) (least : 2 ≤ length p) (most : length p ≤ 256) (plain : isPlain (byteAt p 0) ≡ true) where
-  to-near : readToModule p ≡ nearRequest p
+  to-plain-address : readToModule p ≡ toPlainAddress p
   unfolding readToModule isPlain
-  to-near = rw (in-range (length p) least most, plain-not (byteAt p 0) 0x80 plain refl, plain)
+  to-plain-address = rw (in-range (length p) least most, plain-not (byteAt p 0) 0x80 plain refl, plain)
 
   from-sender : readFromModule p ≡ senderMeaning p
   unfolding readFromModule isPlain
@@ -67,13 +67,13 @@ module _ (p : List ℕ) (least : 2 ≤ length p) (most : length p ≤ 256) (plai
 -- The simple message, in either direction.
 module _ (m : Simple) (dat : List ℕ) (e : simpleRefusal m ≡ 0) (most : length (simpleLayout m dat) ≤ 256) where
   simple-request : ReadsAs readToModule (simpleLayout m dat) (SimpleRequest m) dat
-  unfolding nearRequest
+  unfolding toPlainAddress
   simple-request =
       let plain = not-refused (isPlain (m .address)) (cond (ltb (m .command) 0x80) 0 9) 7 e in
       let small = not-refused (ltb (m .command) 0x80) 0 8 (plain .1) in
       record {
         start = 2;
-        is = to-near (simpleLayout m dat) (omega arith) most (plain .0) ∙ rw (small .0);
+        is = to-plain-address (simpleLayout m dat) (omega arith) most (plain .0) ∙ rw (small .0);
         inside = omega arith;
         part = refl;
       }
@@ -92,9 +92,9 @@ module _ (m : Simple) (dat : List ℕ) (e : simpleRefusal m ≡ 0) (most : lengt
 
 -- The output change.
 change-back : (m : OutputChange) → ChangeFits m → changeRefusal m ≡ 0 → readToModule (changeLayout m) ≡ bare m
-unfolding nearRequest outputChangeAt
+unfolding toPlainAddress outputChangeAt
 change-back m fits e =
-    to-near (changeLayout m) (lit≤ tt) (lit≤ tt) (not-refused (isPlain (m .address)) 0 7 e .0)
+    to-plain-address (changeLayout m) (lit≤ tt) (lit≤ tt) (not-refused (isPlain (m .address)) 0 7 e .0)
     ∙ (λ i. bare (record { address = m .address; signals = word-back (m .signals) (fits .1) i; mask = word-back (m .mask) (fits .2) i }))
 
 -- The extended message from the module.
@@ -186,16 +186,16 @@ module _ (id : ℕ) (o : Options) (s dat : List ℕ) (back : Ends noOptions s o)
 
   extended-is : (a : Address) → AddressFits a → addressAllowed a ≡ true → length (written a) ≤ 256 →
       readToModule (written a) ≡ carrying (ExtendedRequest (extended a)) (length (addressBytes a id) + length s)
-  unfolding readToModule nearRequest farRequest requestAt
+  unfolding readToModule toPlainAddress toExtendedAddress requestAt
   extended-is (Plain a) h plain most =
-      to-near (written (Plain a)) (omega arith) most plain
+      to-plain-address (written (Plain a)) (omega arith) most plain
       ∙ rw (le-leb 3 (length (written (Plain a))) (omega arith), back .reads 3 dat)
-  extended-is (Far w) h far most =
+  extended-is (ExtendedAddress w) h allowed most =
       rw (
-        in-range (length (written (Far w))) (omega arith) most,
-        le-leb 7 (length (written (Far w))) (omega arith),
+        in-range (length (written (ExtendedAddress w))) (omega arith) most,
+        le-leb 7 (length (written (ExtendedAddress w))) (omega arith),
         long-back w h,
-        far,
+        allowed,
         back .reads 7 dat,
       )
 

@@ -19,7 +19,7 @@ use Rattle.message.specs.declared.options.Options.{Options}
 use Rattle.message.specs.Options.{hasOption, giveFlag, giveRetries, giveWord, isRetry, isOption, expectedAfter, givenAfter}
 use Rattle.message.specs.Options.{Expected, option, retryByte, firstOf, secondOf, bad, opted, optionsFrom}
 use Rattle.message.specs.Options.{flagBytes, retryBytes, wordBytes, optionBytes}
-use Rattle.message.specs.Parts.{Puts}
+use Rattle.message.specs.Put.{Puts}
 use Rattle.message.proofs.Putting.{puts-none, puts-append, puts-length}
 
 -- An option without an argument has at most one byte.
@@ -54,40 +54,46 @@ option-length o =
       flag-length 0x08 (o .sleep),
     ))
 
--- At most `most` bytes put, in a buffer that keeps its length.
+-- At most `most` bytes put, in a buffer that has room for 16 and keeps its length.
 pub record Placed (d : List ℕ) (at most : ℕ) (s : List ℕ) (e : ℕ) (m : List ℕ) : Type 0 where
+  pub room : at + 16 ≤ length d
   pub puts : Puts d at s e m
   pub small : length s ≤ most
   pub long : length m ≡ length d
 
 -- Nothing is placed.
-pub placed-none : (d : List ℕ) (at : ℕ) → Placed d at 0 [] at d
-placed-none d at = record { puts = puts-none d at; small = omega arith; long = refl }
+pub placed-none : (d : List ℕ) (at : ℕ) → at + 16 ≤ length d → Placed d at 0 [] at d
+placed-none d at room = record { room = room; puts = puts-none d at; small = omega arith; long = refl }
+
+-- There is room for k bytes more.
+pub room-left : {d m s : List ℕ} {at most e : ℕ} (k : ℕ) → most + k ≤ 16 → Placed d at most s e m → e + k ≤ length m
+room-left k few p = omega (arith, p .room, p .small, p .long, p .puts .ends)
 
 -- What is placed, and at most k bytes more.
-placed-next : {d m n s b : List ℕ} {at most e f : ℕ} (k : ℕ) → at + most + k ≤ length d → length b ≤ k
+placed-next : {d m n s b : List ℕ} {at most e f : ℕ} (k : ℕ) → most + k ≤ 16 → length b ≤ k
     → Placed d at most s e m → Puts m e b f n → Placed d at (most + k) (s ++ b) f n
-placed-next {d} {m} {n} {s} {b} {at} {most} {e} {f} k h l p q =
+placed-next {d} {m} {n} {s} {b} {at} {most} {e} {f} k few l p q =
     record {
-      puts = puts-append (omega arith) (p .puts) q;
+      room = p .room;
+      puts = puts-append (omega (arith, p .room, p .small)) (p .puts) q;
       small = omega (arith, length-append s b, p .small);
-      long = puts-length (omega (arith, p .small, p .long, p .puts .ends)) q ∙ p .long;
+      long = puts-length (omega (arith, room-left k few p)) q ∙ p .long;
     }
 
 -- What is placed, and an option without an argument.
-pub placed-flag : {d m n s : List ℕ} {at most e f : ℕ} (id : ℕ) (given : Bool) → at + most + 1 ≤ length d
+pub placed-flag : {d m n s : List ℕ} {at most e f : ℕ} (id : ℕ) (given : Bool) → most + 1 ≤ 16
     → Placed d at most s e m → Puts m e (flagBytes id given) f n → Placed d at (most + 1) (s ++ flagBytes id given) f n
-placed-flag id given h p q = placed-next 1 h (flag-length id given) p q
+placed-flag id given few p q = placed-next 1 few (flag-length id given) p q
 
 -- What is placed, and the retries.
-pub placed-retries : {d m n s : List ℕ} {at most e f : ℕ} (r : MaybeByte) → at + most + 2 ≤ length d
+pub placed-retries : {d m n s : List ℕ} {at most e f : ℕ} (r : MaybeByte) → most + 2 ≤ 16
     → Placed d at most s e m → Puts m e (retryBytes r) f n → Placed d at (most + 2) (s ++ retryBytes r) f n
-placed-retries r h p q = placed-next 2 h (retry-length r) p q
+placed-retries r few p q = placed-next 2 few (retry-length r) p q
 
 -- What is placed, and an option of two bytes.
-pub placed-word : {d m n s : List ℕ} {at most e f : ℕ} (id : ℕ) (v : MaybeWord) → at + most + 3 ≤ length d
+pub placed-word : {d m n s : List ℕ} {at most e f : ℕ} (id : ℕ) (v : MaybeWord) → most + 3 ≤ 16
     → Placed d at most s e m → Puts m e (wordBytes id v) f n → Placed d at (most + 3) (s ++ wordBytes id v) f n
-placed-word id v h p q = placed-next 3 h (word-length id v) p q
+placed-word id v few p q = placed-next 3 few (word-length id v) p q
 
 -- The option string up to each of its options.
 abbrev pub upTo1 : Options → List ℕ

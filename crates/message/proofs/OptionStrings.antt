@@ -2,91 +2,117 @@
 -- Assumes nothing.
 use Prim.Native.Nat.{ℕ, zero, suc, _+_, _-_, _*_, _≤_}
 use mathlib.Core.Path.{_≡_, refl, sym, ap, subst, _∙_}
-use mathlib.Core.List.{List, [], _∷_, _++_}
+use mathlib.Core.List.{List, [], _∷_, _++_, List·Permᴰ as Permutation, Permᴰ·refl, Permᴰ·append-nil, Permᴰ·symm, List·Permᴰ·trans as trans}
 use mathlib.Core.Bool.{Bool, true, false, true≢false}
 use native.Mathlib.Omega.{arith}
 use lib.Dec.{leb, eqb}
 use lib.ListN.{length, drop, length-append, length-drop}
 use lib.Seq.{drop-append-seam, drop-drop}
 use borrow.Author.Tests.{leb-true, eqb-true}
+use Rattle.frame.specs.Elements.{Bytes}
+use Rattle.message.specs.Number.{bytes2}
 use Rattle.message.specs.Options.{noOptions, hasOption, giveFlag, giveRetries, wordOr, giveWord, isRetry, isOption, retryAllowed}
 use Rattle.message.specs.Options.{bad, opted, Expected, option, retryByte, firstOf, secondOf, expectedAfter, givenAfter, optionsFrom}
-use Rattle.message.specs.Options.{byteGiven, wordGiven, flagBytes, retryBytes, wordBytes, optionBytes}
+use Rattle.message.specs.Options.{byteGiven, wordGiven, flagBytes, retryBytes, wordBytes, optionBytes, optionGroups, optionString}
 use Rattle.message.specs.declared.options.MaybeByte.{MaybeByte}
 use Rattle.message.specs.declared.options.MaybeByte.the-variants.{NotGiven as NoByte, Given as Byte}
 use Rattle.message.specs.declared.options.MaybeWord.{MaybeWord}
 use Rattle.message.specs.declared.options.MaybeWord.the-variants.{NotGiven as NoWord, Given as Word}
 use Rattle.message.specs.declared.options.Options.{Options}
-use Rattle.message.proofs.Numbers.{both-true, choose}
+use Rattle.message.proofs.Numbers.{both-true, choose, word-bytes}
+use Rattle.message.proofs.OptionGroups.{full, empty, completed, with-empty, filled, one-more, as-long}
 
--- The bytes that each option takes in a string.
-abbrev flagSize : Bool → ℕ
-flagSize true = 1
-flagSize false = 0
+-- The group of an option that is not given is empty.
+flag-empty : (id : ℕ) (b : Bool) → b ≡ false → flagBytes id b ≡ []
+flag-empty id true e = absurd (true≢false e)
+flag-empty id false e = refl
 
-abbrev byteSize : MaybeByte → ℕ
-byteSize NoByte = 0
-byteSize (Byte b) = 2
+byte-empty : (r : MaybeByte) → byteGiven r ≡ false → retryBytes r ≡ []
+byte-empty NoByte e = refl
+byte-empty (Byte b) e = absurd (true≢false e)
 
-abbrev wordSize : MaybeWord → ℕ
-wordSize NoWord = 0
-wordSize (Word v) = 3
+word-empty : (id : ℕ) (w : MaybeWord) → wordGiven w ≡ false → wordBytes id w ≡ []
+word-empty id NoWord e = refl
+word-empty id (Word v) e = absurd (true≢false e)
 
--- The bytes that the options take, without FF.
-abbrev size : Options → ℕ
-size o =
-    flagSize (o .«mac_ack») + byteSize (o .retries) + wordSize (o .«lower_delay») + wordSize (o .«upper_delay») + wordSize (o .interval)
-    + flagSize (o .parallel) + flagSize (o .«no_response») + flagSize (o .sleep)
-
--- And so the bytes of the options are as many, with FF.
-flag-size : (id : ℕ) (b : Bool) → length (flagBytes id b) ≡ flagSize b
-flag-size id true = refl
-flag-size id false = refl
-
-retry-size : (r : MaybeByte) → length (retryBytes r) ≡ byteSize r
-retry-size NoByte = refl
-retry-size (Byte b) = refl
-
-word-size : (id : ℕ) (w : MaybeWord) → length (wordBytes id w) ≡ wordSize w
-word-size id NoWord = refl
-word-size id (Word v) = refl
-
-size-is-length : (o : Options) → length (optionBytes o) ≡ size o + 1
-unfolding optionBytes
-size-is-length o = simp (length-append, flag-size, retry-size, word-size) (omega arith)
-
--- What is not given takes no bytes.
-flag-free : (b : Bool) → b ≡ false → flagSize b ≡ 0
-flag-free true e = absurd (true≢false e)
-flag-free false e = refl
-
-byte-free : (r : MaybeByte) → byteGiven r ≡ false → byteSize r ≡ 0
-byte-free NoByte e = refl
-byte-free (Byte b) e = absurd (true≢false e)
-
-word-free : (w : MaybeWord) → wordGiven w ≡ false → wordSize w ≡ 0
-word-free NoWord e = refl
-word-free (Word v) e = absurd (true≢false e)
+-- With the group g more, the options o are the options `given`.
+abbrev Adds : Options → List ℕ → Options → Type 0
+Adds o g given = Permutation (g ∷ full (optionGroups o)) (full (optionGroups given))
 
 -- The bytes of an option that were read when this is expected.
-abbrev begun : Expected → ℕ
-begun option = 0
-begun retryByte = 1
-begun (firstOf id) = 1
-begun (secondOf id a) = 2
+abbrev begun : Expected → List ℕ
+begun option = []
+begun retryByte = 0x02 ∷ []
+begun (firstOf id) = id ∷ []
+begun (secondOf id a) = id ∷ a ∷ []
 
--- The option whose argument is expected is not given yet: with it the options take so many bytes more.
+-- The option whose argument is expected is not given yet: its argument adds its group.
 abbrev Open : Expected → Options → Type 0
 Open option o = Unit {0}
-Open retryByte o = (b : ℕ) → size (giveRetries o b) ≡ size o + 2
-Open (firstOf id) o = (v : ℕ) → size (giveWord o id v) ≡ size o + 3
-Open (secondOf id a) o = (v : ℕ) → size (giveWord o id v) ≡ size o + 3
+Open retryByte o = (b : ℕ) → Adds o (0x02 ∷ b ∷ []) (giveRetries o b)
+Open (firstOf id) o = (v : ℕ) → Adds o (id ∷ bytes2 v) (giveWord o id v)
+Open (secondOf id a) o = (v : ℕ) → Adds o (id ∷ bytes2 v) (giveWord o id v)
 
--- What follows an option: one byte more is read, its argument is not given yet, and the retry byte is as it was.
-record Follows (o : Options) (e : Expected) (given : Options) : Type 0 where
-  grows : begun e + size given ≡ size o + 1
+-- The front of s is an option string, or the rest of one, behind the options `given`; it gives the options o and ends before `end`: the groups
+-- of the options that it adds one behind another, with a retry byte that is allowed.
+pub record Spelled (e : Expected) (given : Options) (at : ℕ) (s : List ℕ) (o : Options) (end : ℕ) : Type 0 where
+  pub string : List ℕ
+  pub rest : List ℕ
+  pub split : s ≡ string ++ rest
+  pub ends : end ≡ at + length string
+  pub groups : List (List ℕ)
+  pub long : length (begun e ++ string) ≡ length (optionString groups)
+  pub bytes : Bytes (begun e ++ string) → begun e ++ string ≡ optionString groups
+  pub order : Permutation (groups ++ full (optionGroups given)) (full (optionGroups o))
+  pub allowed : retryAllowed (o .retries) ≡ true
+
+module _ (e : Expected) (given : Options) (b : ℕ) {at : ℕ} {s : List ℕ} {o : Options} {end : ℕ} where
+  -- One byte more of an option that is begun.
+  goes-on : (e′ : Expected) → ((l : List ℕ) → begun e ++ (b ∷ l) ≡ begun e′ ++ l) → Spelled e′ given (at + 1) s o end →
+      Spelled e given at (b ∷ s) o end
+  goes-on e′ same r =
+      record {
+        string = b ∷ r .string;
+        rest = r .rest;
+        split = ap (λ l. b ∷ l) (r .split);
+        ends = r .ends ∙ omega arith;
+        groups = r .groups;
+        long = ap length (same (r .string)) ∙ r .long;
+        bytes = λ h. same (r .string) ∙ r .bytes (subst Bytes (same (r .string)) h);
+        order = r .order;
+        allowed = r .allowed;
+      }
+
+  -- The last byte of an option: its group is added.
+  gives : (g : List ℕ) (given′ : Options) → ((l : List ℕ) → length (begun e ++ (b ∷ l)) ≡ length g + length l) →
+      ((l : List ℕ) → Bytes (begun e ++ (b ∷ l)) → (begun e ++ (b ∷ l) ≡ g ++ l) × Bytes l) → Adds given g given′ →
+      Spelled option given′ (at + 1) s o end → Spelled e given at (b ∷ s) o end
+  gives g given′ sized same adds r =
+      record {
+        string = b ∷ r .string;
+        rest = r .rest;
+        split = ap (λ l. b ∷ l) (r .split);
+        ends = r .ends ∙ omega arith;
+        groups = g ∷ r .groups;
+        long = omega (arith, sized (r .string), r .long, length-append g (optionString (r .groups)));
+        bytes = λ h. let q : (begun e ++ (b ∷ r .string) ≡ g ++ r .string) × Bytes (r .string) = same (r .string) h in
+            q .0 ∙ ap (λ l. g ++ l) (r .bytes (q .1));
+        order = one-more g (r .groups) adds (r .order);
+        allowed = r .allowed;
+      }
+
+-- What follows an option: its argument, or the next option where it has none.
+record Follows (o : Options) (id : ℕ) (e : Expected) (given : Options) : Type 0 where
   free : Open e given
   retries : given .retries ≡ o .retries
+  extends : {at : ℕ} {s : List ℕ} {all : Options} {end : ℕ} → Spelled e given (at + 1) s all end → Spelled option o at (id ∷ s) all end
+
+flag-follows : (o : Options) (id : ℕ) (given : Options) → given .retries ≡ o .retries → Adds o (id ∷ []) given → Follows o id option given
+flag-follows o id given kept adds =
+    record { free = tt; retries = kept; extends = gives option o id (id ∷ []) given (λ l. omega arith) (λ l h. (refl, h .1)) adds }
+
+argument-follows : (o : Options) (id : ℕ) (e : Expected) → ((l : List ℕ) → id ∷ l ≡ begun e ++ l) → Open e o → Follows o id e o
+argument-follows o id e same free = record { free = free; retries = refl; extends = goes-on option o id e same }
 
 -- What holds of 1 to 8 holds of each number there.
 one-to-eight : (P : ℕ → Type 0) → P 1 → P 2 → P 3 → P 4 → P 5 → P 6 → P 7 → P 8 → (n : ℕ) → 1 ≤ n → n ≤ 8 → P n
@@ -102,63 +128,28 @@ one-to-eight P a b c d e f g h (suc (suc (suc (suc (suc (suc (suc (suc zero)))))
 one-to-eight P a b c d e f g h (suc (suc (suc (suc (suc (suc (suc (suc (suc n))))))))) low high = absurd (omega arith)
 
 -- Each option that is not given yet is followed so.
-follows : (o : Options) (id : ℕ) → isOption id ≡ true → hasOption o id ≡ false → Follows o (expectedAfter id) (givenAfter o id)
+follows : (o : Options) (id : ℕ) → isOption id ≡ true → hasOption o id ≡ false → Follows o id (expectedAfter id) (givenAfter o id)
 unfolding isOption hasOption expectedAfter givenAfter giveFlag wordOr
 follows o id known =
     let both = both-true (leb 0x01 id) (leb id 0x08) known in
+    let gs : List (List ℕ) = optionGroups o in
     one-to-eight
-    (λ id. hasOption o id ≡ false → Follows o (expectedAfter id) (givenAfter o id))
-    (λ h. record { grows = omega (arith, flag-free (o .«mac_ack») h); free = tt; retries = refl })
-    (λ h. record { grows = omega arith; free = λ b. omega (arith, byte-free (o .retries) h); retries = refl })
-    (λ h. record { grows = omega arith; free = λ v. omega (arith, word-free (o .«lower_delay») h); retries = refl })
-    (λ h. record { grows = omega arith; free = λ v. omega (arith, word-free (o .«upper_delay») h); retries = refl })
-    (λ h. record { grows = omega arith; free = λ v. omega (arith, word-free (o .interval) h); retries = refl })
-    (λ h. record { grows = omega (arith, flag-free (o .parallel) h); free = tt; retries = refl })
-    (λ h. record { grows = omega (arith, flag-free (o .«no_response») h); free = tt; retries = refl })
-    (λ h. record { grows = omega (arith, flag-free (o .sleep) h); free = tt; retries = refl })
+    (λ id. hasOption o id ≡ false → Follows o id (expectedAfter id) (givenAfter o id))
+    (λ h. flag-follows o 1 (giveFlag o 1) refl (filled gs 0 1 [] (flag-empty 1 (o .«mac_ack») h)))
+    (λ h. argument-follows o 2 retryByte (λ l. refl) (λ b. filled gs 1 2 (b ∷ []) (byte-empty (o .retries) h)))
+    (λ h. argument-follows o 3 (firstOf 3) (λ l. refl) (λ v. filled gs 2 3 (bytes2 v) (word-empty 3 (o .«lower_delay») h)))
+    (λ h. argument-follows o 4 (firstOf 4) (λ l. refl) (λ v. filled gs 3 4 (bytes2 v) (word-empty 4 (o .«upper_delay») h)))
+    (λ h. argument-follows o 5 (firstOf 5) (λ l. refl) (λ v. filled gs 4 5 (bytes2 v) (word-empty 5 (o .interval) h)))
+    (λ h. flag-follows o 6 (giveFlag o 6) refl (filled gs 5 6 [] (flag-empty 6 (o .parallel) h)))
+    (λ h. flag-follows o 7 (giveFlag o 7) refl (filled gs 6 7 [] (flag-empty 7 (o .«no_response») h)))
+    (λ h. flag-follows o 8 (giveFlag o 8) refl (filled gs 7 8 [] (flag-empty 8 (o .sleep) h)))
     id
     (leb-true 1 id (both .0))
     (leb-true id 8 (both .1))
 
--- The front of s is an option string, or the rest of one, behind the options `given`; it gives the options o and ends before `end`: just as
--- many bytes as the options take, wherever it stands, with a retry byte that is allowed.
-pub record Spelled (e : Expected) (given : Options) (at : ℕ) (s : List ℕ) (o : Options) (end : ℕ) : Type 0 where
-  pub string : List ℕ
-  pub rest : List ℕ
-  pub split : s ≡ string ++ rest
-  pub ends : end ≡ at + length string
-  pub again : (k : ℕ) → optionsFrom e given k string ≡ opted o (k + length string)
-  pub takes : begun e + size given + length string ≡ size o + 1
-  pub allowed : retryAllowed (o .retries) ≡ true
-
--- One byte in front of a rest of an option string.
-module _ (e : Expected) (given : Options) (at b : ℕ) (e′ : Expected) (given′ : Options)
-    (steps : (k : ℕ) (s : List ℕ) → optionsFrom e given k (b ∷ s) ≡ optionsFrom e′ given′ (k + 1) s)
-    (grows : begun e′ + size given′ ≡ begun e + size given + 1) where
-  in-front : (s : List ℕ) (o : Options) (end : ℕ) → Spelled e′ given′ (at + 1) s o end → Spelled e given at (b ∷ s) o end
-  in-front s o end r =
-      record {
-        string = b ∷ r .string;
-        rest = r .rest;
-        split = ap (λ l. b ∷ l) (r .split);
-        ends = r .ends ∙ omega arith;
-        again = λ k. let same : k + 1 + length (r .string) ≡ k + suc (length (r .string)) = omega arith in
-            steps k (r .string) ∙ r .again (k + 1) ∙ ap (opted o) same;
-        takes = omega (arith, r .takes);
-        allowed = r .allowed;
-      }
-
--- An option that is not given yet, and is no FF, is followed by its argument or the next option.
-next-option : (given : Options) (id : ℕ) → eqb id 0xFF ≡ false → hasOption given id ≡ false → isOption id ≡ true →
-    (k : ℕ) (s : List ℕ) → optionsFrom option given k (id ∷ s) ≡ optionsFrom (expectedAfter id) (givenAfter given id) (k + 1) s
-unfolding optionsFrom
-next-option given id ff has known k s = rw (ff, has, known)
-
--- A retry byte that is allowed is followed by the next option.
-next-retry : (given : Options) (b : ℕ) → isRetry b ≡ true →
-    (k : ℕ) (s : List ℕ) → optionsFrom retryByte given k (b ∷ s) ≡ optionsFrom option (giveRetries given b) (k + 1) s
-unfolding optionsFrom
-next-retry given b retry k s = rw retry
+-- The two bytes of an argument are those of its number.
+word-same : (id a b : ℕ) (l : List ℕ) → Bytes (id ∷ a ∷ b ∷ l) → (id ∷ a ∷ b ∷ l ≡ (id ∷ bytes2 (a * 256 + b)) ++ l) × Bytes l
+word-same id a b l h = (cc (word-bytes a b (h .1 .0) (h .1 .1 .0)), h .1 .1 .1)
 
 -- FF ends an option string.
 pub at-end : (given : Options) (k : ℕ) (s : List ℕ) → optionsFrom option given k (0xFF ∷ s) ≡ opted given (k + 1)
@@ -179,8 +170,10 @@ ended given at id s o end allowed ff e =
       rest = s;
       split = refl;
       ends = cc;
-      again = λ k. rw ff (at-end given k [] ∙ ap (λ g. opted g (k + 1)) same);
-      takes = let sizes : size given ≡ size o = ap size same in omega arith;
+      groups = [];
+      long = refl;
+      bytes = λ h. ap (λ b. b ∷ []) ff;
+      order = subst (λ g. Permutation (full (optionGroups given)) (full (optionGroups g))) same (Permᴰ·refl (full (optionGroups given)));
       allowed = subst (λ g. retryAllowed (g .retries) ≡ true) same allowed;
     }
 
@@ -197,24 +190,21 @@ spelled (id ∷ s) option given at o end free allowed r =
     choose (isOption id) on
     (λ known rest.
     let f = follows given id known new in
-    in-front option given at id (expectedAfter id) (givenAfter given id) (next-option given id other new known)
-    (omega (arith, f .grows)) s o end
-    (spelled s (expectedAfter id) (givenAfter given id) (at + 1) o end (f .free)
+    f .extends (spelled s (expectedAfter id) (givenAfter given id) (at + 1) o end (f .free)
     (subst (λ x. retryAllowed x ≡ true) (sym (f .retries)) allowed) rest))
     (λ unknown wrong. never wrong)))
 spelled (b ∷ s) retryByte given at o end free allowed r =
     choose (isRetry b) r
     (λ retry rest.
-    in-front retryByte given at b option (giveRetries given b) (next-retry given b retry) (omega (arith, free b)) s o end
+    gives retryByte given b (0x02 ∷ b ∷ []) (giveRetries given b) (λ l. omega arith) (λ l h. (refl, h .1 .1)) (free b)
     (spelled s option (giveRetries given b) (at + 1) o end tt retry rest))
     (λ bare wrong. never wrong)
 spelled (a ∷ s) (firstOf id) given at o end free allowed r =
-    in-front (firstOf id) given at a (secondOf id a) given (λ k l. refl) (omega arith) s o end
-    (spelled s (secondOf id a) given (at + 1) o end free allowed r)
+    goes-on (firstOf id) given a (secondOf id a) (λ l. refl) (spelled s (secondOf id a) given (at + 1) o end free allowed r)
 spelled (b ∷ s) (secondOf id a) given at o end free allowed r =
-    let given′ : Options = giveWord given id (a * 256 + b) in
-    in-front (secondOf id a) given at b option given′ (λ k l. refl) (omega (arith, free (a * 256 + b))) s o end
-    (spelled s option given′ (at + 1) o end tt allowed r)
+    let v : ℕ = a * 256 + b in
+    gives (secondOf id a) given b (id ∷ bytes2 v) (giveWord given id v) (λ l. omega arith) (word-same id a b) (free v)
+    (spelled s option (giveWord given id v) (at + 1) o end tt allowed r)
 
 -- What is behind an option string is what is left from its end on.
 pub left-behind : (p : List ℕ) (at : ℕ) {o : Options} {end : ℕ} (r : Spelled option noOptions at (drop at p) o end) →
@@ -224,10 +214,22 @@ left-behind p at {o} {end} r =
     ap (drop (length (r .string))) (r .split) ∙ drop-append-seam (r .string) (r .rest) in
     r .split ∙ ap (λ l. r .string ++ l) (sym rest ∙ drop-drop (length (r .string)) at p ∙ ap (λ n. drop n p) (sym (r .ends)))
 
--- And it is as long as the options written.
-pub as-written : {at : ℕ} {s : List ℕ} {o : Options} {end : ℕ} (r : Spelled option noOptions at s o end) →
-    length (r .string) ≡ length (optionBytes o)
-as-written {at} {s} {o} r = omega (arith, r .takes, size-is-length o)
+-- All groups of the options: those of a whole string, and empty ones.
+module _ {at : ℕ} {s : List ℕ} {o : Options} {end : ℕ} (r : Spelled option noOptions at s o end) where
+  abbrev pub all-groups : List (List ℕ)
+  all-groups = r .groups ++ empty (optionGroups o)
+
+  pub in-order : Permutation all-groups (optionGroups o)
+  in-order = completed (trans (Permᴰ·symm (Permᴰ·append-nil (r .groups))) (r .order))
+
+  -- The string is made of them.
+  pub made-of : Bytes (r .string) → r .string ≡ optionString all-groups
+  made-of h = r .bytes h ∙ sym (with-empty (r .groups) (optionGroups o))
+
+  -- And it is as long as the options written.
+  pub as-written : length (r .string) ≡ length (optionBytes o)
+  unfolding optionBytes
+  as-written = r .long ∙ ap length (sym (with-empty (r .groups) (optionGroups o))) ∙ as-long in-order
 
 -- And it ends inside the payload, or at its end.
 pub ends-inside : (p : List ℕ) (at : ℕ) {o : Options} {end : ℕ} → at ≤ length p → Spelled option noOptions at (drop at p) o end →

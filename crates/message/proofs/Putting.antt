@@ -8,7 +8,7 @@ use mathlib.Core.Path.{_≡_, refl, sym, ap, _∙_}
 use mathlib.Core.List.{List, [], _∷_, _++_, append-assoc}
 use lib.ListN.{length, take, drop, set, length-append, length-set}
 use lib.Seq.{paste, paste-zero, length-paste, take-paste, drop-paste, drop-drop, take-length, set-split, append-snoc}
-use Rattle.message.specs.Parts.{Puts}
+use Rattle.message.specs.Put.{Puts}
 
 -- What stands in front of the second of two pastes in a row, with what it puts.
 twice-front : (d a b : List ℕ) (at : ℕ) → at ≤ length d

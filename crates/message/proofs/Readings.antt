@@ -8,16 +8,16 @@ use lib.Dec.{leb, ltb, eqb}
 use lib.ListN.{length, drop}
 use borrow.Author.Tests.{leb-true, eqb-true}
 use Rattle.message.specs.Number.{byteAt, wordAt, longAt}
-use Rattle.message.specs.Field.{isPlain, isExtended}
+use Rattle.message.specs.Address.{isPlain, isExtended}
 use Rattle.message.specs.Meaning.{Meaning, refused, carrying, bare}
 use Rattle.message.specs.Options.{Opted, bad, opted, option, optionsFrom, noOptions}
-use Rattle.message.specs.ToModule.{readToModule, nearRequest, farRequest, requestAt, requestAs, outputChangeAt}
+use Rattle.message.specs.ToModule.{readToModule, toPlainAddress, toExtendedAddress, requestAt, requestAs, outputChangeAt}
 use Rattle.message.specs.FromModule.{readFromModule, senderMeaning, statusMeaning, standardMeaning, remoteMeaning, receptionMeaning}
 use Rattle.message.specs.FromModule.{responseMeaning}
 use Rattle.message.specs.Status.{standardAt, remoteAt}
 use Rattle.message.specs.declared.options.Options.{Options}
 use Rattle.message.specs.declared.to_module.Address.{Address}
-use Rattle.message.specs.declared.to_module.Address.the-variants.{Plain, Extended as Far}
+use Rattle.message.specs.declared.to_module.Address.the-variants.{Plain, Extended as ExtendedAddress}
 use Rattle.message.specs.declared.to_module.Request.{Request}
 use Rattle.message.specs.declared.to_module.Request.the-variants.{Simple as SimpleRequest, Extended as ExtendedRequest}
 use Rattle.message.specs.declared.to_module.OutputChange.{OutputChange}
@@ -72,8 +72,8 @@ pub data ToWay (p : List ℕ) (r : Meaning Request OutputChange) : Type 0 where
       carrying (SimpleRequest (record { address = byteAt p 0; command = byteAt p 1 })) 2 ≡ r → ToWay p r
   change : isPlain (byteAt p 0) ≡ true → byteAt p 1 ≡ 0x80 → length p ≡ 15 → byteAt p 2 ≡ 0x01 → longAt p 7 ≡ 0 → longAt p 11 ≡ 0 →
       bare (record { address = byteAt p 0; signals = wordAt p 3; mask = wordAt p 5 }) ≡ r → ToWay p r
-  near : isPlain (byteAt p 0) ≡ true → byteAt p 1 ≡ 0xA0 → 3 ≤ length p → Sent p (Plain (byteAt p 0)) 3 r → ToWay p r
-  far : byteAt p 0 ≡ 0x80 → byteAt p 1 ≡ 0xA0 → 7 ≤ length p → isExtended (longAt p 3) ≡ true → Sent p (Far (longAt p 3)) 7 r →
+  to-plain : isPlain (byteAt p 0) ≡ true → byteAt p 1 ≡ 0xA0 → 3 ≤ length p → Sent p (Plain (byteAt p 0)) 3 r → ToWay p r
+  to-extended : byteAt p 0 ≡ 0x80 → byteAt p 1 ≡ 0xA0 → 7 ≤ length p → isExtended (longAt p 3) ≡ true → Sent p (ExtendedAddress (longAt p 3)) 7 r →
       ToWay p r
 
 module _ (p : List ℕ) {r : Meaning Request OutputChange} (is : IsMessage r) where
@@ -93,32 +93,32 @@ module _ (p : List ℕ) {r : Meaning Request OutputChange} (is : IsMessage r) wh
       (eqb-true (longAt p 11) 0 (others .1))
       (fixed .1)
 
-  near-way : 2 ≤ length p → isPlain (byteAt p 0) ≡ true → nearRequest p ≡ r → ToWay p r
-  unfolding nearRequest
-  near-way two plain e =
+  plain-way : 2 ≤ length p → isPlain (byteAt p 0) ≡ true → toPlainAddress p ≡ r → ToWay p r
+  unfolding toPlainAddress
+  plain-way two plain e =
       choose (ltb (byteAt p 1) 0x80) e (simple two plain)
       (λ high on.
       choose (eqb (byteAt p 1) 0x80) on (λ command. change-way plain (eqb-true (byteAt p 1) 0x80 command))
       (λ other rest.
       let extended = read-on (eqb (byteAt p 1) 0xA0) 9 rest is in
       let long = read-on (leb 3 (length p)) 7 (extended .1) is in
-      near plain (eqb-true (byteAt p 1) 0xA0 (extended .0)) (leb-true 3 (length p) (long .0)) (sent p (Plain (byteAt p 0)) 3 is (long .1))))
+      to-plain plain (eqb-true (byteAt p 1) 0xA0 (extended .0)) (leb-true 3 (length p) (long .0)) (sent p (Plain (byteAt p 0)) 3 is (long .1))))
 
-  far-way : byteAt p 0 ≡ 0x80 → farRequest p ≡ r → ToWay p r
-  unfolding farRequest
-  far-way place e =
+  extended-way : byteAt p 0 ≡ 0x80 → toExtendedAddress p ≡ r → ToWay p r
+  unfolding toExtendedAddress
+  extended-way place e =
       let command = read-on (eqb (byteAt p 1) 0xA0) 9 e is in
       let long = read-on (leb 7 (length p)) 7 (command .1) is in
       let extended = read-on (isExtended (longAt p 3)) 8 (long .1) is in
-      far place (eqb-true (byteAt p 1) 0xA0 (command .0)) (leb-true 7 (length p) (long .0)) (extended .0)
-      (sent p (Far (longAt p 3)) 7 is (extended .1))
+      to-extended place (eqb-true (byteAt p 1) 0xA0 (command .0)) (leb-true 7 (length p) (long .0)) (extended .0)
+      (sent p (ExtendedAddress (longAt p 3)) 7 is (extended .1))
 
   pub to-way : readToModule p ≡ r → ToWay p r
   unfolding readToModule
   to-way e =
       let range = in-range (length p) e is in
-      choose (eqb (byteAt p 0) 0x80) (range .2) (λ place. far-way (eqb-true (byteAt p 0) 0x80 place))
-      (λ other on. let plain = read-on (isPlain (byteAt p 0)) 8 on is in near-way (range .0) (plain .0) (plain .1))
+      choose (eqb (byteAt p 0) 0x80) (range .2) (λ place. extended-way (eqb-true (byteAt p 0) 0x80 place))
+      (λ other on. let plain = read-on (isPlain (byteAt p 0)) 8 on is in plain-way (range .0) (plain .0) (plain .1))
 
   -- It is short enough for a frame.
   pub to-short : readToModule p ≡ r → length p ≤ 256

@@ -7,7 +7,7 @@ use mathlib.Core.List.{List}
 use borrow.Author.Tests.{lt-ltb, le-ltb, le-leb, lt-leb, eq-eqb, ne-eqb}
 use lib.ListN.{length}
 use Rattle.message.specs.Number.{byteAt, wordAt, longAt}
-use Rattle.message.specs.Field.{isPlain}
+use Rattle.message.specs.Address.{isPlain}
 use Rattle.message.specs.Meaning.{refused, carrying, bare}
 use Rattle.message.specs.FromModule.{responseMeaning, receptionMeaning, standardMeaning, remoteMeaning, statusMeaning}
 use Rattle.message.specs.FromModule.{senderMeaning, readFromModule}

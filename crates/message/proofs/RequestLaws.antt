@@ -7,10 +7,10 @@ use mathlib.Core.Bool.{true, false}
 use borrow.Author.Tests.{eq-eqb, ne-eqb, le-leb, lt-leb, lt-ltb, le-ltb}
 use lib.ListN.{length}
 use Rattle.message.specs.Number.{byteAt, wordAt, longAt}
-use Rattle.message.specs.Field.{isPlain, isExtended}
+use Rattle.message.specs.Address.{isPlain, isExtended}
 use Rattle.message.specs.Meaning.{refused, carrying, bare}
-use Rattle.message.specs.ToModule.{requestAt, farRequest, outputChangeAt, nearRequest, readToModule}
-use Rattle.message.specs.declared.to_module.Address.the-variants.{Plain, Extended as Far}
+use Rattle.message.specs.ToModule.{requestAt, toExtendedAddress, outputChangeAt, toPlainAddress, readToModule}
+use Rattle.message.specs.declared.to_module.Address.the-variants.{Plain, Extended as ExtendedAddress}
 use Rattle.message.specs.declared.to_module.Request.the-variants.{Simple as SimpleRequest}
 
 -- Reading a change of outputs: each way out.
@@ -46,25 +46,25 @@ module _ (p : List ℕ) where
 -- Reading a message with an extended address: each way out.
 module _ (p : List ℕ) where
   -- The command (9).
-  pub far-command : (byteAt p 1 ≡ 0xA0 → ⊥) → refused 9 ≡ farRequest p
-  unfolding farRequest
-  far-command h = simp (ne-eqb (byteAt p 1) 0xA0 h)
+  pub extended-command : (byteAt p 1 ≡ 0xA0 → ⊥) → refused 9 ≡ toExtendedAddress p
+  unfolding toExtendedAddress
+  extended-command h = simp (ne-eqb (byteAt p 1) 0xA0 h)
 
   module _ (e : byteAt p 1 ≡ 0xA0) where
     -- The length (7).
-    pub far-length : length p < 7 → refused 7 ≡ farRequest p
-    unfolding farRequest
-    far-length h = simp (eq-eqb (byteAt p 1) 0xA0 e, lt-leb 7 (length p) h)
+    pub extended-length : length p < 7 → refused 7 ≡ toExtendedAddress p
+    unfolding toExtendedAddress
+    extended-length h = simp (eq-eqb (byteAt p 1) 0xA0 e, lt-leb 7 (length p) h)
 
     -- The extended address (8).
-    pub far-address : 7 ≤ length p → isExtended (longAt p 3) ≡ false → refused 8 ≡ farRequest p
-    unfolding farRequest
-    far-address h x = simp (eq-eqb (byteAt p 1) 0xA0 e, le-leb 7 (length p) h, x)
+    pub extended-address : 7 ≤ length p → isExtended (longAt p 3) ≡ false → refused 8 ≡ toExtendedAddress p
+    unfolding toExtendedAddress
+    extended-address h x = simp (eq-eqb (byteAt p 1) 0xA0 e, le-leb 7 (length p) h, x)
 
     -- The options and the data follow.
-    pub far-read : 7 ≤ length p → isExtended (longAt p 3) ≡ true → requestAt p (Far (longAt p 3)) 7 ≡ farRequest p
-    unfolding farRequest
-    far-read h x = simp (eq-eqb (byteAt p 1) 0xA0 e, le-leb 7 (length p) h, x)
+    pub extended-read : 7 ≤ length p → isExtended (longAt p 3) ≡ true → requestAt p (ExtendedAddress (longAt p 3)) 7 ≡ toExtendedAddress p
+    unfolding toExtendedAddress
+    extended-read h x = simp (eq-eqb (byteAt p 1) 0xA0 e, le-leb 7 (length p) h, x)
 
 -- Reading a message to the module: each way out.
 module _ (p : List ℕ) where
@@ -80,44 +80,44 @@ module _ (p : List ℕ) where
 
   module _ (some : 2 ≤ length p) (most : length p ≤ 256) where
     -- An extended address.
-    pub read-far : byteAt p 0 ≡ 0x80 → farRequest p ≡ readToModule p
+    pub read-extended : byteAt p 0 ≡ 0x80 → toExtendedAddress p ≡ readToModule p
     unfolding readToModule
-    read-far e = simp (le-leb 2 (length p) some, le-leb (length p) 256 most, eq-eqb (byteAt p 0) 0x80 e)
+    read-extended e = simp (le-leb 2 (length p) some, le-leb (length p) 256 most, eq-eqb (byteAt p 0) 0x80 e)
 
-    module _ (near : byteAt p 0 ≡ 0x80 → ⊥) where
+    module _ (not-extended : byteAt p 0 ≡ 0x80 → ⊥) where
       -- The address (8).
       pub read-address : isPlain (byteAt p 0) ≡ false → refused 8 ≡ readToModule p
       unfolding readToModule
-      read-address x = simp (le-leb 2 (length p) some, le-leb (length p) 256 most, ne-eqb (byteAt p 0) 0x80 near, x)
+      read-address x = simp (le-leb 2 (length p) some, le-leb (length p) 256 most, ne-eqb (byteAt p 0) 0x80 not-extended, x)
 
       -- A plain address.
-      pub read-near : isPlain (byteAt p 0) ≡ true → nearRequest p ≡ readToModule p
+      pub read-plain : isPlain (byteAt p 0) ≡ true → toPlainAddress p ≡ readToModule p
       unfolding readToModule
-      read-near x = simp (le-leb 2 (length p) some, le-leb (length p) 256 most, ne-eqb (byteAt p 0) 0x80 near, x)
+      read-plain x = simp (le-leb 2 (length p) some, le-leb (length p) 256 most, ne-eqb (byteAt p 0) 0x80 not-extended, x)
 
   -- A simple message.
-  pub near-simple : byteAt p 1 < 0x80 → carrying (SimpleRequest (record { address = byteAt p 0; command = byteAt p 1 })) 2 ≡ nearRequest p
-  unfolding nearRequest
-  near-simple h = simp (lt-ltb (byteAt p 1) 0x80 h)
+  pub plain-simple : byteAt p 1 < 0x80 → carrying (SimpleRequest (record { address = byteAt p 0; command = byteAt p 1 })) 2 ≡ toPlainAddress p
+  unfolding toPlainAddress
+  plain-simple h = simp (lt-ltb (byteAt p 1) 0x80 h)
 
   module _ (h : 0x80 ≤ byteAt p 1) where
     -- A change of outputs.
-    pub near-change : byteAt p 1 ≡ 0x80 → outputChangeAt p ≡ nearRequest p
-    unfolding nearRequest
-    near-change e = simp (le-ltb (byteAt p 1) 0x80 h, eq-eqb (byteAt p 1) 0x80 e)
+    pub plain-change : byteAt p 1 ≡ 0x80 → outputChangeAt p ≡ toPlainAddress p
+    unfolding toPlainAddress
+    plain-change e = simp (le-ltb (byteAt p 1) 0x80 h, eq-eqb (byteAt p 1) 0x80 e)
 
     module _ (other : byteAt p 1 ≡ 0x80 → ⊥) where
       -- The command (9).
-      pub near-command : (byteAt p 1 ≡ 0xA0 → ⊥) → refused 9 ≡ nearRequest p
-      unfolding nearRequest
-      near-command n = simp (le-ltb (byteAt p 1) 0x80 h, ne-eqb (byteAt p 1) 0x80 other, ne-eqb (byteAt p 1) 0xA0 n)
+      pub plain-command : (byteAt p 1 ≡ 0xA0 → ⊥) → refused 9 ≡ toPlainAddress p
+      unfolding toPlainAddress
+      plain-command n = simp (le-ltb (byteAt p 1) 0x80 h, ne-eqb (byteAt p 1) 0x80 other, ne-eqb (byteAt p 1) 0xA0 n)
 
       -- The length (7).
-      pub near-length : byteAt p 1 ≡ 0xA0 → length p < 3 → refused 7 ≡ nearRequest p
-      unfolding nearRequest
-      near-length e l = simp (le-ltb (byteAt p 1) 0x80 h, ne-eqb (byteAt p 1) 0x80 other, eq-eqb (byteAt p 1) 0xA0 e, lt-leb 3 (length p) l)
+      pub plain-length : byteAt p 1 ≡ 0xA0 → length p < 3 → refused 7 ≡ toPlainAddress p
+      unfolding toPlainAddress
+      plain-length e l = simp (le-ltb (byteAt p 1) 0x80 h, ne-eqb (byteAt p 1) 0x80 other, eq-eqb (byteAt p 1) 0xA0 e, lt-leb 3 (length p) l)
 
       -- The options and the data follow.
-      pub near-read : byteAt p 1 ≡ 0xA0 → 3 ≤ length p → requestAt p (Plain (byteAt p 0)) 3 ≡ nearRequest p
-      unfolding nearRequest
-      near-read e l = simp (le-ltb (byteAt p 1) 0x80 h, ne-eqb (byteAt p 1) 0x80 other, eq-eqb (byteAt p 1) 0xA0 e, le-leb 3 (length p) l)
+      pub plain-read : byteAt p 1 ≡ 0xA0 → 3 ≤ length p → requestAt p (Plain (byteAt p 0)) 3 ≡ toPlainAddress p
+      unfolding toPlainAddress
+      plain-read e l = simp (le-ltb (byteAt p 1) 0x80 h, ne-eqb (byteAt p 1) 0x80 other, eq-eqb (byteAt p 1) 0xA0 e, le-leb 3 (length p) l)

@@ -2,7 +2,7 @@
 -- Assumes nothing.
 use Rattle.message.specs.Claims.{RoundTrip, CanWrite, WhatIsReadIsWritten, RefusesNoMore, ReadingIsExact}
 use Rattle.message.specs.AnyOrder.{AnyOrderIsRead}
-use Rattle.message.specs.Examples.{Examples}
+use Rattle.message.specs.Examples.{Examples, ChannelsAreRead}
 use Rattle.message.proofs.MessageRoundTrip as message-round-trip
 use Rattle.message.proofs.Written as written
 use Rattle.message.proofs.Exact as exact
@@ -29,3 +29,6 @@ any-order-is-read = any-order.any-order-is-read
 
 pub examples : Examples
 examples = table.examples
+
+pub channels-are-read : ChannelsAreRead
+channels-are-read = table.channels-are-read

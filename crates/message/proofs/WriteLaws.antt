@@ -19,9 +19,9 @@ use Rattle.frame.specs.declared.refusal.Refusal.the-variants.{Start, Cut, Lengt
 use Rattle.frame.specs.declared.refusal.Refusal.the-variants.{Buffer as FrameBuffer, Payload as FramePayload, Chunk, State}
 use Rattle.frame.specs.declared.single.WriteAnswer.{WriteAnswer as FrameAnswer}
 use Rattle.frame.specs.declared.single.WriteAnswer.the-variants.{Refused as FrameRefused}
-use Rattle.message.specs.Field.{isPlain, plainRefusal}
+use Rattle.message.specs.Address.{isPlain, plainRefusal}
 use Rattle.message.specs.Options.{retryAllowed}
-use Rattle.message.specs.Parts.{Puts}
+use Rattle.message.specs.Put.{Puts}
 use Rattle.message.specs.Refusal.{numberOf}
 use Rattle.message.specs.Simple.{simpleRefusal}
 use Rattle.message.specs.ToModule.{addressBytes}
@@ -31,7 +31,7 @@ use Rattle.message.specs.declared.refusal.Refusal.{Refusal}
 use Rattle.message.specs.declared.refusal.Refusal.the-variants.{Length, Address as BadAddress, Command, Option}
 use Rattle.message.specs.declared.refusal.Refusal.the-variants.{Field, Count, Buffer, Payload}
 use Rattle.message.specs.declared.to_module.Address.{Address}
-use Rattle.message.specs.declared.to_module.Address.the-variants.{Plain, Extended as Far}
+use Rattle.message.specs.declared.to_module.Address.the-variants.{Plain, Extended as ExtendedAddress}
 use Rattle.message.specs.declared.simple.Simple.{Simple}
 use Rattle.message.specs.declared.to_module.Transmission.{Transmission}
 use Rattle.message.specs.declared.write.WriteAnswer.{WriteAnswer}
@@ -148,16 +148,16 @@ stores-plain (x ∷ y ∷ []) a b c h = absurd (omega arith)
 stores-plain (x ∷ y ∷ z ∷ d) a b c h = refl
 
 -- The same with an extended address.
-stores-far : (d : List ℕ) (a b c p q r s : ℕ) → 7 ≤ length d
+stores-extended : (d : List ℕ) (a b c p q r s : ℕ) → 7 ≤ length d
     → set (set (set (set (set (set (set d 1 b) 2 c) 0 a) 3 p) 4 q) 5 r) 6 s ≡ paste d 0 (a ∷ b ∷ c ∷ p ∷ q ∷ r ∷ s ∷ []) 7
-stores-far [] a b c p q r s h = absurd (omega arith)
-stores-far (_ ∷ []) a b c p q r s h = absurd (omega arith)
-stores-far (_ ∷ _ ∷ []) a b c p q r s h = absurd (omega arith)
-stores-far (_ ∷ _ ∷ _ ∷ []) a b c p q r s h = absurd (omega arith)
-stores-far (_ ∷ _ ∷ _ ∷ _ ∷ []) a b c p q r s h = absurd (omega arith)
-stores-far (_ ∷ _ ∷ _ ∷ _ ∷ _ ∷ []) a b c p q r s h = absurd (omega arith)
-stores-far (_ ∷ _ ∷ _ ∷ _ ∷ _ ∷ _ ∷ []) a b c p q r s h = absurd (omega arith)
-stores-far (_ ∷ _ ∷ _ ∷ _ ∷ _ ∷ _ ∷ _ ∷ d) a b c p q r s h = refl
+stores-extended [] a b c p q r s h = absurd (omega arith)
+stores-extended (_ ∷ []) a b c p q r s h = absurd (omega arith)
+stores-extended (_ ∷ _ ∷ []) a b c p q r s h = absurd (omega arith)
+stores-extended (_ ∷ _ ∷ _ ∷ []) a b c p q r s h = absurd (omega arith)
+stores-extended (_ ∷ _ ∷ _ ∷ _ ∷ []) a b c p q r s h = absurd (omega arith)
+stores-extended (_ ∷ _ ∷ _ ∷ _ ∷ _ ∷ []) a b c p q r s h = absurd (omega arith)
+stores-extended (_ ∷ _ ∷ _ ∷ _ ∷ _ ∷ _ ∷ []) a b c p q r s h = absurd (omega arith)
+stores-extended (_ ∷ _ ∷ _ ∷ _ ∷ _ ∷ _ ∷ _ ∷ d) a b c p q r s h = refl
 
 -- They put the bytes of the address to the front.
 pub puts-plain : (d : List ℕ) (x : Address) (a id : ℕ) → x ≡ Plain a → 3 ≤ length d
@@ -167,21 +167,21 @@ puts-plain d x a id e h =
     (record { ends = refl; bytes = stores-plain d a 0xA0 id h })
 
 -- The stores with an extended address.
-abbrev far-stores : List ℕ → ℕ → ℕ → List ℕ
-far-stores d id w =
+abbrev extended-stores : List ℕ → ℕ → ℕ → List ℕ
+extended-stores d id w =
     let e : List ℕ = set (set (set d 1 0xA0) 2 id) 0 0x80 in
     set (set (set (set e 3 (w / 16777216 % 256)) 4 (w / 65536 % 256)) 5 (w / 256 % 256)) 6 (w % 256)
 
 -- The same with an extended address.
-pub puts-far : (d : List ℕ) (x : Address) (w id : ℕ) → x ≡ Far w → 7 ≤ length d → Puts d 0 (addressBytes x id) 7 (far-stores d id w)
-puts-far d x w id e h =
-    subst (λ (y : Address). Puts d 0 (addressBytes y id) 7 (far-stores d id w)) (sym e)
-    (record { ends = refl; bytes = stores-far d 0x80 0xA0 id (w / 16777216 % 256) (w / 65536 % 256) (w / 256 % 256) (w % 256) h })
+pub puts-extended : (d : List ℕ) (x : Address) (w id : ℕ) → x ≡ ExtendedAddress w → 7 ≤ length d → Puts d 0 (addressBytes x id) 7 (extended-stores d id w)
+puts-extended d x w id e h =
+    subst (λ (y : Address). Puts d 0 (addressBytes y id) 7 (extended-stores d id w)) (sym e)
+    (record { ends = refl; bytes = stores-extended d 0x80 0xA0 id (w / 16777216 % 256) (w / 65536 % 256) (w / 256 % 256) (w % 256) h })
 
 -- The bytes before the options are at most 7.
 pub length-address : (a : Address) (id : ℕ) → length (addressBytes a id) ≤ 7
 length-address (Plain a) id = omega arith
-length-address (Far w) id = omega arith
+length-address (ExtendedAddress w) id = omega arith
 
 -- Why a simple message is not written.
 module _ (m : Simple) where

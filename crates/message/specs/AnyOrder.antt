@@ -4,37 +4,14 @@ use mathlib.Core.Path.{_≡_}
 use mathlib.Core.Bool.{true, false}
 use mathlib.Core.List.{List, [], _∷_, _++_, List·Permᴰ as Permutation}
 use lib.ListN.{length}
-use Rattle.message.specs.Options.{noOptions, option, optionsFrom, opted, retryAllowed}
-use Rattle.message.specs.Options.{flagBytes, retryBytes, wordBytes, optionBytes}
-use Rattle.message.specs.ToModule.{readToModule, addressBytes, transmissionRefusal}
+use Rattle.message.specs.Options.{noOptions, option, optionsFrom, opted, retryAllowed, optionGroups, optionString}
+use Rattle.message.specs.ToModule.{readToModule, transmissionRefusal, orderedLayout}
 use Rattle.message.specs.Claims.{OptionsFit, RequestFits, ReadsAs}
 use Rattle.message.specs.declared.options.MaybeByte.the-variants.{Given as Byte}
 use Rattle.message.specs.declared.options.MaybeWord.the-variants.{NotGiven as NoWord, Given as Word}
 use Rattle.message.specs.declared.options.Options.{Options}
 use Rattle.message.specs.declared.to_module.Transmission.{Transmission}
 use Rattle.message.specs.declared.to_module.Request.the-variants.{Extended as ExtendedRequest}
-
--- The bytes of each option with its argument: eight groups, in ascending order. The group of an option that is not given is empty.
-abbrev pub optionGroups : Options → List (List ℕ)
-optionGroups o =
-    flagBytes 0x01 (o .«mac_ack»)
-    ∷ retryBytes (o .retries)
-    ∷ wordBytes 0x03 (o .«lower_delay»)
-    ∷ wordBytes 0x04 (o .«upper_delay»)
-    ∷ wordBytes 0x05 (o .interval)
-    ∷ flagBytes 0x06 (o .parallel)
-    ∷ flagBytes 0x07 (o .«no_response»)
-    ∷ flagBytes 0x08 (o .sleep)
-    ∷ []
-
--- The groups one behind another, then FF.
-abbrev pub optionString : List (List ℕ) → List ℕ
-optionString [] = 0xFF ∷ []
-optionString (g ∷ gs) = g ++ optionString gs
-
--- An extended message whose options stand in the order of the groups gs.
-abbrev pub orderedLayout : Transmission → List (List ℕ) → List ℕ → List ℕ
-orderedLayout m gs dat = addressBytes (m .address) (m .«response_id») ++ (optionString gs ++ dat)
 
 -- The options of the frame of sheet 001, and its groups in the order of that frame: 01, 04 0800, 06, 02 85, 05 0600, then the empty ones.
 abbrev pub sheetOptions : Options
@@ -72,5 +49,4 @@ pub record AnyOrderIsRead : Type 0 where
       (m : Transmission) (gs : List (List ℕ)) (dat : List ℕ) → RequestFits (ExtendedRequest m) → transmissionRefusal m ≡ 0 →
       Permutation gs (optionGroups (m .options)) → length (orderedLayout m gs dat) ≤ 256 →
       ReadsAs readToModule (orderedLayout m gs dat) (ExtendedRequest m) dat
-  pub ascending : (o : Options) → optionString (optionGroups o) ≡ optionBytes o
   pub another : Permutation sheetGroups (optionGroups sheetOptions)

@@ -2,17 +2,18 @@
 -- proofs/Theorems.antt proves each claim.
 use Prim.Native.Nat.{ℕ, _≤_, _<_}
 use mathlib.Core.Path.{_≡_}
-use mathlib.Core.List.{List, [], _∷_, _++_}
+use mathlib.Core.List.{List, [], _∷_, _++_, List·Permᴰ as Permutation}
 use lib.ListN.{length, take, drop}
-use Rattle.frame.specs.Checks.{frame, Bytes}
+use Rattle.frame.specs.Checks.{frame}
 use Rattle.frame.specs.Framing.{read, layout, inFront}
 use Rattle.frame.specs.Rule.{Output}
 use Rattle.frame.specs.Reader.{newReader}
+use Rattle.frame.specs.Elements.{Bytes}
 use Rattle.frame.specs.Calls.{Calls, offering}
 use Rattle.frame.specs.declared.framing.Framing.{Framing}
 use Rattle.message.specs.Meaning.{Meaning, carrying, bare}
-use Rattle.message.specs.Options.{optionBytes, option, optionsFrom, opted, noOptions}
-use Rattle.message.specs.ToModule.{readToModule, requestLayout, requestRefusal, addressBytes, changeLayout, changeRefusal}
+use Rattle.message.specs.Options.{optionGroups}
+use Rattle.message.specs.ToModule.{readToModule, requestLayout, requestRefusal, orderedLayout, changeLayout, changeRefusal}
 use Rattle.message.specs.FromModule.{readFromModule, deliveryLayout, deliveryRefusal, noticeLayout, noticeRefusal}
 use Rattle.message.specs.Write.{Writes}
 use Rattle.message.specs.declared.options.MaybeByte.{MaybeByte}
@@ -21,7 +22,7 @@ use Rattle.message.specs.declared.options.MaybeWord.{MaybeWord}
 use Rattle.message.specs.declared.options.MaybeWord.the-variants.{NotGiven as NoWord, Given as Word}
 use Rattle.message.specs.declared.options.Options.{Options}
 use Rattle.message.specs.declared.to_module.Address.{Address}
-use Rattle.message.specs.declared.to_module.Address.the-variants.{Plain, Extended as Far}
+use Rattle.message.specs.declared.to_module.Address.the-variants.{Plain, Extended as ExtendedAddress}
 use Rattle.message.specs.declared.simple.Simple.{Simple}
 use Rattle.message.specs.declared.to_module.Transmission.{Transmission}
 use Rattle.message.specs.declared.to_module.Request.{Request}
@@ -56,7 +57,7 @@ OptionsFit o = ByteFits (o .retries) × WordFits (o .«lower_delay») × WordFit
 
 abbrev pub AddressFits : Address → Type 0
 AddressFits (Plain a) = IsByte a
-AddressFits (Far w) = IsLong w
+AddressFits (ExtendedAddress w) = IsLong w
 
 abbrev pub SimpleFits : Simple → Type 0
 SimpleFits m = IsByte (m .address) × IsByte (m .command)
@@ -146,13 +147,12 @@ pub record RefusesNoMore : Type 0 where
   pub delivery : (m : Delivery) (dat : List ℕ) → ReadsAs readFromModule (deliveryLayout m dat) m dat → deliveryRefusal m ≡ 0
   pub notice : (m : Notice) → readFromModule (noticeLayout m) ≡ bare m → noticeRefusal m ≡ 0
 
--- The payload p is the layout of an extended message but for the order of its options: the same bytes around an option string of the same
--- length, whose options are the message's.
+-- The payload p is the layout of an extended message but for the order of its options: the groups of bytes that the layout has for them stand
+-- in some order.
 pub record Reordered (p : List ℕ) (m : Transmission) (dat : List ℕ) : Type 0 where
-  pub string : List ℕ
-  pub split : p ≡ addressBytes (m .address) (m .«response_id») ++ (string ++ dat)
-  pub long : length string ≡ length (optionBytes (m .options))
-  pub options : optionsFrom option noOptions 0 string ≡ opted (m .options) (length string)
+  pub groups : List (List ℕ)
+  pub order : Permutation groups (optionGroups (m .options))
+  pub bytes : p ≡ orderedLayout m groups dat
 
 abbrev pub ExactRequest : List ℕ → Request → List ℕ → Type 0
 ExactRequest p (SimpleRequest m) dat = p ≡ requestLayout (SimpleRequest m) dat

@@ -1,7 +1,5 @@
 -- All starred rows of document 01, "Frames to check against", and payloads of each kind and refusal: one table, and one statement that is computed.
 use Prim.Native.Nat.{ℕ}
-use Prim.Native.Char.{code}
-use Prim.Native.String.{String}
 use mathlib.Core.Path.{_≡_}
 use mathlib.Core.List.{List, [], _∷_, _++_, map}
 use mathlib.Core.Bool.{Bool, true, false}
@@ -14,12 +12,17 @@ use Rattle.frame.specs.Reader.{State, Called, line, quiet, after, stateOf, newR
 use Rattle.frame.specs.declared.framing.Framing.{Framing}
 use Rattle.frame.specs.declared.framing.Framing.the-variants.{Binary, Ascii}
 use Rattle.frame.specs.declared.reader.Reader.{Reader}
+use Rattle.message.specs.Text.{text}
 use Rattle.message.specs.Meaning.{Meaning, refused, carrying, bare}
 use Rattle.message.specs.Options.{noOptions}
 use Rattle.message.specs.ToModule.{readToModule}
 use Rattle.message.specs.FromModule.{readFromModule}
+use Rattle.message.specs.Status.{millivolts}
 use Rattle.message.specs.AnyOrder.{sheetOptions}
-use Rattle.message.specs.declared.to_module.Address.the-variants.{Plain}
+use Rattle.message.specs.declared.options.Options.{Options}
+use Rattle.message.specs.declared.options.MaybeByte.the-variants.{Given as Byte}
+use Rattle.message.specs.declared.options.MaybeWord.the-variants.{NotGiven as NoWord, Given as Word}
+use Rattle.message.specs.declared.to_module.Address.the-variants.{Plain, Extended as ExtendedAddress}
 use Rattle.message.specs.declared.to_module.Request.{Request}
 use Rattle.message.specs.declared.to_module.Request.the-variants.{Simple as SimpleRequest, Extended as ExtendedRequest}
 use Rattle.message.specs.declared.to_module.OutputChange.{OutputChange}
@@ -28,11 +31,8 @@ use Rattle.message.specs.declared.from_module.Delivery.the-variants.{Sim
 use Rattle.message.specs.declared.from_module.Notice.{Notice}
 use Rattle.message.specs.declared.from_module.Notice.the-variants.{Response as IsResponse, Standard, Remote}
 use Rattle.message.specs.declared.from_module.Outcome.the-variants.{Success}
-
--- The characters of a text as bytes.
-abbrev pub text : String → List ℕ
-text String.[] = []
-text (String._∷_ c s) = code c ∷ text s
+use Rattle.message.specs.declared.status.StandardStatus.{StandardStatus}
+use Rattle.message.specs.declared.status.Channel.the-variants.{One, Two, Three, Four}
 
 -- What a row says of a call or of a payload: a call's refusal number, 0 for none, the bytes used or taken, the noise and the payloads handed out;
 -- or a message with its data, in a direction.
@@ -51,8 +51,8 @@ handedOut false len buf = []
 handedOut true len buf = take len buf ∷ []
 
 -- A single read, by the definitions that its contract cites.
-abbrev pub told : Verdict → Said
-told v =
+abbrev pub singleRead : Verdict → Said
+singleRead v =
     let r : Reading = reading v 256 in
     call (r .number) (r .used) 0 (handedOut (leb 1 (r .len)) (r .len) (readInto v room))
 
@@ -61,8 +61,8 @@ abbrev having : State → Reader
 having s = record { framing = s .framing; held = s .held; count = length (s .held) }
 
 -- A line or a quiet call with this refusal number, by the definitions that their contracts cite.
-abbrev pub heard : ℕ → Called → Said
-heard number c =
+abbrev pub readerCall : ℕ → Called → Said
+readerCall number c =
     let v : Values = valuesAt c in
     call number (v .taken) (v .noise) (handedOut (v .isFrame) (v .len) (bufferAt (c .out .frames) room))
 
@@ -81,16 +81,16 @@ pub data Ask : Type 0 where
   fromModule : List ℕ → Ask
 
 abbrev pub answers : Ask → List Said
-answers (single f s) = told (read f s) ∷ []
+answers (single f s) = singleRead (read f s) ∷ []
 answers (segment f s) =
     let start : State = stateOf (newReader f) in
     let first : Called = line start s in
     let held : State = after start first in
     let second : Called = quiet held in
     let left : State = after held second in
-    heard (feedRefusal (newReader f) (length room) (length s)) first
-    ∷ heard (quietRefusal (having held) (length room)) second
-    ∷ heard (quietRefusal (having left) (length room)) (quiet left)
+    readerCall (feedRefusal (newReader f) (length room) (length s)) first
+    ∷ readerCall (quietRefusal (having held) (length room)) second
+    ∷ readerCall (quietRefusal (having left) (length room)) (quiet left)
     ∷ []
 answers (toModule p) = to (readToModule p) (dataIn (readToModule p) p) ∷ []
 answers (fromModule p) = from (readFromModule p) (dataIn (readFromModule p) p) ∷ []
@@ -112,6 +112,16 @@ refuses f s n = row (single f s) (call n 0 0 [] ∷ [])
 abbrev response : ℕ → Meaning Delivery Notice
 response id = bare (IsResponse (record { id = id; outcome = Success }))
 
+-- The payload of these bytes is a simple message of the first two, with the others as its data.
+abbrev toSimple : ℕ → ℕ → List ℕ → Row
+toSimple address command dat =
+    row (toModule (address ∷ command ∷ dat)) (to (carrying (SimpleRequest (record { address = address; command = command })) 2) dat ∷ [])
+
+abbrev fromSimple : ℕ → ℕ → List ℕ → Row
+fromSimple address command dat =
+    row (fromModule (address ∷ command ∷ dat))
+    (from (carrying (SimpleDelivery (record { address = address; command = command })) 2) dat ∷ [])
+
 abbrev toRefused : List ℕ → ℕ → Row
 toRefused p n = row (toModule p) (to (refused n) [] ∷ [])
 
@@ -122,8 +132,8 @@ fromRefused p n = row (fromModule p) (from (refused n) [] ∷ [])
 abbrev pub rows : List Row
 rows =
     reads Ascii (text ":00010203FA\r\n") 13 (0x00 ∷ 0x01 ∷ 0x02 ∷ 0x03 ∷ [])
-    ∷ row (toModule (0x00 ∷ 0x01 ∷ 0x02 ∷ 0x03 ∷ [])) (to (carrying (SimpleRequest (record { address = 0x00; command = 0x01 })) 2) (0x02 ∷ 0x03 ∷ []) ∷ [])
-    ∷ row (fromModule (0x00 ∷ 0x01 ∷ 0x02 ∷ 0x03 ∷ [])) (from (carrying (SimpleDelivery (record { address = 0x00; command = 0x01 })) 2) (0x02 ∷ 0x03 ∷ []) ∷ [])
+    ∷ toSimple 0x00 0x01 (0x02 ∷ 0x03 ∷ [])
+    ∷ fromSimple 0x00 0x01 (0x02 ∷ 0x03 ∷ [])
     ∷ refuses Ascii (text ":00010203FB\r\n") 4
     ∷ refuses Ascii (text ":00010203fa\r\n") 6
     ∷ reads Binary (0xA5 ∷ 0x5A ∷ 0x80 ∷ 0x04 ∷ 0xDB ∷ 0xA1 ∷ 0x80 ∷ 0x01 ∷ 0xFB ∷ 0x04 ∷ []) 10 (0xDB ∷ 0xA1 ∷ 0x80 ∷ 0x01 ∷ [])
@@ -151,8 +161,8 @@ rows =
     ∷ [])
     ∷ refuses Binary [] 2
     ∷ refuses Ascii [] 2
-    ∷ row (toModule (0x01 ∷ 0x00 ∷ 0x00 ∷ [])) (to (carrying (SimpleRequest (record { address = 0x01; command = 0x00 })) 2) (0x00 ∷ []) ∷ [])
-    ∷ row (fromModule (0x01 ∷ 0x00 ∷ 0x00 ∷ [])) (from (carrying (SimpleDelivery (record { address = 0x01; command = 0x00 })) 2) (0x00 ∷ []) ∷ [])
+    ∷ toSimple 0x01 0x00 (0x00 ∷ [])
+    ∷ fromSimple 0x01 0x00 (0x00 ∷ [])
     ∷ toRefused (0x01 ∷ []) 7
     ∷ fromRefused (0x01 ∷ []) 7
     ∷ []
@@ -161,7 +171,9 @@ rows =
 abbrev pub toRows : List Row
 toRows =
     row
-    (toModule (0x00 ∷ 0xA0 ∷ 0x12 ∷ 0x01 ∷ 0x04 ∷ 0x08 ∷ 0x00 ∷ 0x06 ∷ 0x02 ∷ 0x85 ∷ 0x05 ∷ 0x06 ∷ 0x00 ∷ 0xFF ∷ 0xAB ∷ 0xCD ∷ 0xEF ∷ []))
+    (toModule
+    (0x00 ∷ 0xA0 ∷ 0x12 ∷ 0x01 ∷ 0x04 ∷ 0x08 ∷ 0x00 ∷ 0x06 ∷ 0x02 ∷ 0x85 ∷ 0x05 ∷ 0x06 ∷ 0x00
+    ∷ 0xFF ∷ 0xAB ∷ 0xCD ∷ 0xEF ∷ []))
     (to
     (carrying (ExtendedRequest (record { address = Plain 0x00; «response_id» = 0x12; options = sheetOptions })) 14)
     (0xAB ∷ 0xCD ∷ 0xEF ∷ [])
@@ -183,7 +195,8 @@ abbrev pub fromRows : List Row
 fromRows =
     row
     (fromModule
-    (0x78 ∷ 0x81 ∷ 0x15 ∷ 0x01 ∷ 0x75 ∷ 0x81 ∷ 0x00 ∷ 0x00 ∷ 0x38 ∷ 0x00 ∷ 0x26 ∷ 0xC9 ∷ 0x00 ∷ 0x0C ∷ 0x04 ∷ 0x22 ∷ 0x00 ∷ 0x00 ∷ replicate 5 0xFF))
+    (0x78 ∷ 0x81 ∷ 0x15 ∷ 0x01 ∷ 0x75 ∷ 0x81 ∷ 0x00 ∷ 0x00 ∷ 0x38 ∷ 0x00 ∷ 0x26 ∷ 0xC9
+    ∷ 0x00 ∷ 0x0C ∷ 0x04 ∷ 0x22 ∷ 0x00 ∷ 0x00 ∷ replicate 5 0xFF))
     (from
     (bare
     (Standard
@@ -209,7 +222,8 @@ fromRows =
     ∷ [])
     ∷ row
     (fromModule
-    (0x01 ∷ 0x81 ∷ 0x0F ∷ 0x01 ∷ 0xDB ∷ 0x86 ∷ 0x30 ∷ 0x00 ∷ 0x02 ∷ 0x00 ∷ 0x64 ∷ 0x5F ∷ 0x00 ∷ 0x00 ∷ 0x40 ∷ 0x00 ∷ 0x4F ∷ 0x00 ∷ 0x40 ∷ 0x00 ∷ []))
+    (0x01 ∷ 0x81 ∷ 0x0F ∷ 0x01 ∷ 0xDB ∷ 0x86 ∷ 0x30 ∷ 0x00 ∷ 0x02 ∷ 0x00 ∷ 0x64 ∷ 0x5F
+    ∷ 0x00 ∷ 0x00 ∷ 0x40 ∷ 0x00 ∷ 0x4F ∷ 0x00 ∷ 0x40 ∷ 0x00 ∷ []))
     (from
     (bare
     (Remote
@@ -244,6 +258,140 @@ fromRows =
     ∷ fromRefused (0x01 ∷ 0xA0 ∷ 0x02 ∷ (replicate 10 0x00 ++ (0x01 ∷ []))) 12
     ∷ []
 
+-- Payloads in which no two fields have the same bytes, so that a field read from another's place shows; the options in descending order.
+abbrev pub distinctStatus : StandardStatus
+distinctStatus =
+    record {
+      sender = 0x05;
+      identifier = 0x16;
+      lqi = 0x20;
+      serial = 0x21222324;
+      destination = 0x25;
+      time = 0x2627;
+      relays = 0x28;
+      supply = 0x292A;
+      unused = 0x2B;
+      di = 0x2C;
+      «di_changed» = 0x2D;
+      ad1 = 0x2E;
+      ad2 = 0x2F;
+      ad3 = 0x30;
+      ad4 = 0x31;
+      correction = 0x1B;
+    }
+
+abbrev pub distinctRows : List Row
+distinctRows =
+    row
+    (fromModule
+    (0x05 ∷ 0x81 ∷ 0x16 ∷ 0x01 ∷ 0x20 ∷ 0x21 ∷ 0x22 ∷ 0x23 ∷ 0x24 ∷ 0x25 ∷ 0x26 ∷ 0x27
+    ∷ 0x28 ∷ 0x29 ∷ 0x2A ∷ 0x2B ∷ 0x2C ∷ 0x2D ∷ 0x2E ∷ 0x2F ∷ 0x30 ∷ 0x31 ∷ 0x1B ∷ []))
+    (from (bare (Standard distinctStatus)) [] ∷ [])
+    ∷ row
+    (fromModule
+    (0x05 ∷ 0x81 ∷ 0x0F ∷ 0x01 ∷ 0x20 ∷ 0x21 ∷ 0x22 ∷ 0x23 ∷ 0x24 ∷ 0x25 ∷ 0x26 ∷ 0x27
+    ∷ 0x28 ∷ 0x29 ∷ 0x2A ∷ 0x2B ∷ 0x2C ∷ 0x2D ∷ 0x2E ∷ 0x2F ∷ []))
+    (from
+    (bare
+    (Remote
+    (record {
+      sender = 0x05;
+      lqi = 0x20;
+      serial = 0x21222324;
+      destination = 0x25;
+      time = 0x2627;
+      relays = 0x28;
+      signals = 0x292A;
+      mask = 0x2B2C;
+      interrupts = 0x2D2E;
+      unused = 0x2F;
+    })))
+    []
+    ∷ [])
+    ∷ row
+    (toModule
+    (0x80 ∷ 0xA0 ∷ 0x12 ∷ 0x81 ∷ 0x02 ∷ 0x03 ∷ 0x04 ∷ 0x08 ∷ 0x07 ∷ 0x06 ∷ 0x05 ∷ 0x11 ∷ 0x12
+    ∷ 0x04 ∷ 0x13 ∷ 0x14 ∷ 0x03 ∷ 0x15 ∷ 0x16 ∷ 0x02 ∷ 0x0E ∷ 0x01 ∷ 0xFF ∷ 0x99 ∷ []))
+    (to
+    (carrying
+    (ExtendedRequest
+    (record {
+      address = ExtendedAddress 0x81020304;
+      «response_id» = 0x12;
+      options = record {
+        «mac_ack» = true;
+        retries = Byte 0x0E;
+        «lower_delay» = Word 0x1516;
+        «upper_delay» = Word 0x1314;
+        interval = Word 0x1112;
+        parallel = true;
+        «no_response» = true;
+        sleep = true;
+      };
+    }))
+    23)
+    (0x99 ∷ [])
+    ∷ [])
+    ∷ []
+
+-- The channels of that status in mV: AD1 to AD4 are 46 to 49, and the correction's pairs of bits, from the lowest on, are 3, 2, 1, 0.
+abbrev pub ChannelsAreRead : Type 0
+ChannelsAreRead = map (millivolts distinctStatus) (One ∷ Two ∷ Three ∷ Four ∷ []) ≡ (748 ∷ 760 ∷ 772 ∷ 784 ∷ [])
+
+-- An extended message to an address of these bytes, and one with a retry byte, each without data.
+abbrev toExtended : List ℕ → ℕ → Row
+toExtended bytes w =
+    row (toModule (0x80 ∷ 0xA0 ∷ 0x12 ∷ (bytes ++ (0xFF ∷ []))))
+    (to (carrying (ExtendedRequest (record { address = ExtendedAddress w; «response_id» = 0x12; options = noOptions })) 8) [] ∷ [])
+
+abbrev retriesAlone : ℕ → Options
+retriesAlone b =
+    record {
+      «mac_ack» = false;
+      retries = Byte b;
+      «lower_delay» = NoWord;
+      «upper_delay» = NoWord;
+      interval = NoWord;
+      parallel = false;
+      «no_response» = false;
+      sleep = false;
+    }
+
+abbrev withRetries : ℕ → Row
+withRetries b =
+    row (toModule (0x00 ∷ 0xA0 ∷ 0x12 ∷ 0x02 ∷ b ∷ 0xFF ∷ []))
+    (to (carrying (ExtendedRequest (record { address = Plain 0x00; «response_id» = 0x12; options = retriesAlone b })) 6) [] ∷ [])
+
+-- The ends of each range: plain addresses, extended addresses, retry bytes.
+abbrev pub edgeRows : List Row
+edgeRows =
+    toSimple 0x64 0x7F []
+    ∷ toRefused (0x65 ∷ 0x7F ∷ []) 8
+    ∷ toRefused (0x77 ∷ 0x7F ∷ []) 8
+    ∷ toSimple 0x78 0x7F []
+    ∷ toRefused (0x79 ∷ 0x7F ∷ []) 8
+    ∷ fromSimple 0x64 0x7F []
+    ∷ fromRefused (0x65 ∷ 0x7F ∷ []) 8
+    ∷ fromRefused (0x77 ∷ 0x7F ∷ []) 8
+    ∷ fromSimple 0x78 0x7F []
+    ∷ fromRefused (0x79 ∷ 0x7F ∷ []) 8
+    ∷ toExtended (0x00 ∷ 0x00 ∷ 0xFF ∷ 0xFF ∷ []) 0x0000FFFF
+    ∷ toRefused (0x80 ∷ 0xA0 ∷ 0x12 ∷ 0x00 ∷ 0x01 ∷ 0x00 ∷ 0x00 ∷ 0xFF ∷ []) 8
+    ∷ toRefused (0x80 ∷ 0xA0 ∷ 0x12 ∷ 0x7F ∷ 0xFF ∷ 0xFF ∷ 0xFF ∷ 0xFF ∷ []) 8
+    ∷ toExtended (0x80 ∷ 0x00 ∷ 0x00 ∷ 0x00 ∷ []) 0x80000000
+    ∷ toExtended (0xFF ∷ 0xFF ∷ 0xFF ∷ 0xFE ∷ []) 0xFFFFFFFE
+    ∷ toRefused (0x80 ∷ 0xA0 ∷ 0x12 ∷ 0xFF ∷ 0xFF ∷ 0xFF ∷ 0xFF ∷ 0xFF ∷ []) 8
+    ∷ withRetries 0x00
+    ∷ withRetries 0x0F
+    ∷ toRefused (0x00 ∷ 0xA0 ∷ 0x12 ∷ 0x02 ∷ 0x10 ∷ 0xFF ∷ []) 10
+    ∷ toRefused (0x00 ∷ 0xA0 ∷ 0x12 ∷ 0x02 ∷ 0x80 ∷ 0xFF ∷ []) 10
+    ∷ withRetries 0x81
+    ∷ withRetries 0x8F
+    ∷ toRefused (0x00 ∷ 0xA0 ∷ 0x12 ∷ 0x02 ∷ 0x90 ∷ 0xFF ∷ []) 10
+    ∷ []
+
 -- Each row is answered as document 01 says.
 abbrev pub Examples : Type 0
-Examples = let all : List Row = rows ++ (toRows ++ fromRows) in map (λ (r : Row). answers (r .ask)) all ≡ map (λ (r : Row). r .says) all
+Examples =
+    let all : List Row = rows ++ (toRows ++ (fromRows ++ (distinctRows ++ edgeRows))) in
+    map (λ (r : Row). answers (r .ask)) all ≡ map (λ (r : Row). r .says) all

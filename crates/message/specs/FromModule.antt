@@ -5,8 +5,8 @@ use mathlib.Core.Bool.{cond, _&&_}
 use lib.Dec.{leb, ltb, eqb}
 use lib.ListN.{length}
 use Rattle.message.specs.Number.{byteAt, wordAt, longAt, bytes2, bytes4}
-use Rattle.message.specs.Field.{isPlain, plainRefusal}
-use Rattle.message.specs.Meaning.{Meaning, refused, carrying, bare}
+use Rattle.message.specs.Address.{plainRefusal}
+use Rattle.message.specs.Meaning.{Meaning, refused, carrying, bare, byAddress}
 use Rattle.message.specs.Refusal.{numberOf}
 use Rattle.message.specs.Simple.{simpleLayout, simpleRefusal}
 use Rattle.message.specs.Status.{standardLayout, standardAt, remoteLayout, remoteAt}
@@ -72,7 +72,7 @@ standardMeaning p = cond (eqb (byteAt p 3) 0x01) (bare (Standard (standardAt p))
 unfoldable pub remoteMeaning : List ℕ → Meaning Delivery Notice
 remoteMeaning p = cond (eqb (byteAt p 2) 0x0F && eqb (byteAt p 3) 0x01) (bare (Remote (remoteAt p))) (refused 11)
 
--- Statuses are told apart by length; any other length is 7.
+-- The length says which status it is; any other length is 7.
 unfoldable pub statusMeaning : List ℕ → Meaning Delivery Notice
 statusMeaning p = cond (eqb (length p) 23) (standardMeaning p) (cond (eqb (length p) 20) (remoteMeaning p) (refused 7))
 
@@ -83,12 +83,9 @@ senderMeaning p =
     (carrying (SimpleDelivery (record { address = byteAt p 0; command = byteAt p 1 })) 2)
     (cond (eqb (byteAt p 1) 0x81) (statusMeaning p) (cond (eqb (byteAt p 1) 0xA0) (receptionMeaning p) (refused 9)))
 
--- Reading: fewer than 2 or over 256 bytes 7; the address 8, where DB goes on to its command; then by the address.
+-- Reading: DB in place of an address begins a response.
 unfoldable pub readFromModule : List ℕ → Meaning Delivery Notice
-readFromModule p =
-    cond (leb 2 (length p) && leb (length p) 256)
-    (cond (eqb (byteAt p 0) 0xDB) (responseMeaning p) (cond (isPlain (byteAt p 0)) (senderMeaning p) (refused 8)))
-    (refused 7)
+readFromModule p = byAddress 0xDB responseMeaning senderMeaning p
 
 -- The number and the message of each answer.
 abbrev pub fromModuleOf : FromModule → Meaning Delivery Notice

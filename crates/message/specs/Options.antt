@@ -127,7 +127,7 @@ optionsFrom retryByte o at (b ∷ s) = let rest : Opted = optionsFrom option (gi
 optionsFrom (firstOf id) o at (a ∷ s) = optionsFrom (secondOf id a) o (at + 1) s
 optionsFrom (secondOf id a) o at (b ∷ s) = optionsFrom option (giveWord o id (a * 256 + b)) (at + 1) s
 
--- The bytes of each option where it is given, in ascending order, then FF.
+-- The bytes of an option with its argument; none where it is not given.
 abbrev pub flagBytes : ℕ → Bool → List ℕ
 flagBytes id true = id ∷ []
 flagBytes id false = []
@@ -140,17 +140,27 @@ abbrev pub wordBytes : ℕ → MaybeWord → List ℕ
 wordBytes id NoWord = []
 wordBytes id (Word v) = id ∷ bytes2 v
 
-unfoldable pub optionBytes : Options → List ℕ
-optionBytes o =
+-- The options in ascending order, each one's bytes a group; the group of an option that is not given is empty.
+abbrev pub optionGroups : Options → List (List ℕ)
+optionGroups o =
     flagBytes 0x01 (o .«mac_ack»)
-    ++ (retryBytes (o .retries)
-    ++ (wordBytes 0x03 (o .«lower_delay»)
-    ++ (wordBytes 0x04 (o .«upper_delay»)
-    ++ (wordBytes 0x05 (o .interval)
-    ++ (flagBytes 0x06 (o .parallel)
-    ++ (flagBytes 0x07 (o .«no_response»)
-    ++ (flagBytes 0x08 (o .sleep)
-    ++ (0xFF ∷ []))))))))
+    ∷ retryBytes (o .retries)
+    ∷ wordBytes 0x03 (o .«lower_delay»)
+    ∷ wordBytes 0x04 (o .«upper_delay»)
+    ∷ wordBytes 0x05 (o .interval)
+    ∷ flagBytes 0x06 (o .parallel)
+    ∷ flagBytes 0x07 (o .«no_response»)
+    ∷ flagBytes 0x08 (o .sleep)
+    ∷ []
+
+-- The groups one behind another, then FF.
+abbrev pub optionString : List (List ℕ) → List ℕ
+optionString [] = 0xFF ∷ []
+optionString (g ∷ gs) = g ++ optionString gs
+
+-- The option string that is written: the options in ascending order.
+unfoldable pub optionBytes : Options → List ℕ
+optionBytes o = optionString (optionGroups o)
 
 -- The retry byte, where it is given, is one of those allowed (10).
 abbrev pub retryAllowed : MaybeByte → Bool

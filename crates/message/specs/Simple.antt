@@ -3,7 +3,7 @@ use Prim.Native.Nat.{ℕ}
 use mathlib.Core.List.{List, _∷_}
 use mathlib.Core.Bool.{cond}
 use lib.Dec.{ltb}
-use Rattle.message.specs.Field.{isPlain}
+use Rattle.message.specs.Address.{isPlain}
 use Rattle.message.specs.declared.simple.Simple.{Simple}
 
 -- The layout of a message with its data.

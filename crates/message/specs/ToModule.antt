@@ -5,13 +5,13 @@ use mathlib.Core.Bool.{Bool, cond, _&&_}
 use lib.Dec.{leb, ltb, eqb}
 use lib.ListN.{length, drop, replicate}
 use Rattle.message.specs.Number.{byteAt, wordAt, longAt, bytes2, bytes4}
-use Rattle.message.specs.Field.{isPlain, isExtended, plainRefusal}
-use Rattle.message.specs.Meaning.{Meaning, refused, carrying, bare}
-use Rattle.message.specs.Options.{Opted, bad, opted, option, optionsFrom, noOptions, optionBytes, retryAllowed}
+use Rattle.message.specs.Address.{isPlain, isExtended, plainRefusal}
+use Rattle.message.specs.Meaning.{Meaning, refused, carrying, bare, byAddress}
+use Rattle.message.specs.Options.{Opted, bad, opted, option, optionsFrom, noOptions, optionBytes, optionString, retryAllowed}
 use Rattle.message.specs.Refusal.{numberOf}
 use Rattle.message.specs.Simple.{simpleLayout, simpleRefusal}
 use Rattle.message.specs.declared.to_module.Address.{Address}
-use Rattle.message.specs.declared.to_module.Address.the-variants.{Plain, Extended as Far}
+use Rattle.message.specs.declared.to_module.Address.the-variants.{Plain, Extended as ExtendedAddress}
 use Rattle.message.specs.declared.to_module.Transmission.{Transmission}
 use Rattle.message.specs.declared.to_module.Request.{Request}
 use Rattle.message.specs.declared.to_module.Request.the-variants.{Simple as SimpleRequest, Extended as ExtendedRequest}
@@ -22,11 +22,15 @@ use Rattle.message.specs.declared.to_module.ToModule.the-variants.{Reque
 -- The bytes of an extended message before its options: address, A0, response ID; 0x80 in place of the address and four address bytes.
 abbrev pub addressBytes : Address → ℕ → List ℕ
 addressBytes (Plain a) id = a ∷ 0xA0 ∷ id ∷ []
-addressBytes (Far w) id = 0x80 ∷ 0xA0 ∷ id ∷ bytes4 w
+addressBytes (ExtendedAddress w) id = 0x80 ∷ 0xA0 ∷ id ∷ bytes4 w
 
 -- Extended: those, the options, the data.
 abbrev pub transmissionLayout : Transmission → List ℕ → List ℕ
 transmissionLayout m dat = addressBytes (m .address) (m .«response_id») ++ (optionBytes (m .options) ++ dat)
+
+-- An extended message whose options stand in the order of the groups gs.
+abbrev pub orderedLayout : Transmission → List (List ℕ) → List ℕ → List ℕ
+orderedLayout m gs dat = addressBytes (m .address) (m .«response_id») ++ (optionString gs ++ dat)
 
 -- The layout of a message with its data.
 abbrev pub requestLayout : Request → List ℕ → List ℕ
@@ -48,11 +52,11 @@ unfoldable pub requestAt : List ℕ → Address → ℕ → Meaning Request Outp
 requestAt p address at = requestAs (optionsFrom option noOptions at (drop at p)) p address
 
 -- Byte 0 is 0x80, which allows no other command than A0 (9). Under 7 bytes is 7; then the extended address (8).
-unfoldable pub farRequest : List ℕ → Meaning Request OutputChange
-farRequest p =
+unfoldable pub toExtendedAddress : List ℕ → Meaning Request OutputChange
+toExtendedAddress p =
     cond (eqb (byteAt p 1) 0xA0)
     (cond (leb 7 (length p))
-    (cond (isExtended (longAt p 3)) (requestAt p (Far (longAt p 3)) 7) (refused 8))
+    (cond (isExtended (longAt p 3)) (requestAt p (ExtendedAddress (longAt p 3)) 7) (refused 8))
     (refused 7))
     (refused 9)
 
@@ -67,19 +71,16 @@ outputChangeAt p =
 
 -- A plain address: a command below 0x80 is a simple message, 0x80 an output change, A0 an extended message of at least 3 bytes (7); any other
 -- is 9.
-unfoldable pub nearRequest : List ℕ → Meaning Request OutputChange
-nearRequest p =
+unfoldable pub toPlainAddress : List ℕ → Meaning Request OutputChange
+toPlainAddress p =
     cond (ltb (byteAt p 1) 0x80)
     (carrying (SimpleRequest (record { address = byteAt p 0; command = byteAt p 1 })) 2)
     (cond (eqb (byteAt p 1) 0x80) (outputChangeAt p)
     (cond (eqb (byteAt p 1) 0xA0) (cond (leb 3 (length p)) (requestAt p (Plain (byteAt p 0)) 3) (refused 7)) (refused 9)))
 
--- Reading: fewer than 2 or over 256 bytes 7; the address 8; then by the address.
+-- Reading: 80 in place of an address begins an extended address.
 unfoldable pub readToModule : List ℕ → Meaning Request OutputChange
-readToModule p =
-    cond (leb 2 (length p) && leb (length p) 256)
-    (cond (eqb (byteAt p 0) 0x80) (farRequest p) (cond (isPlain (byteAt p 0)) (nearRequest p) (refused 8)))
-    (refused 7)
+readToModule p = byAddress 0x80 toExtendedAddress toPlainAddress p
 
 -- The number and the message of each answer.
 abbrev pub toModuleOf : ToModule → Meaning Request OutputChange
@@ -90,7 +91,7 @@ toModuleOf (Refused r) = refused (numberOf r)
 -- The address is one of those allowed (8); 0x80 in place of a plain address is not.
 abbrev pub addressAllowed : Address → Bool
 addressAllowed (Plain a) = isPlain a
-addressAllowed (Far w) = isExtended w
+addressAllowed (ExtendedAddress w) = isExtended w
 
 -- Why a message is not written: 8, 9, 10; 0 where none of these applies, and 14 and 13 follow (Write.antt).
 abbrev pub transmissionRefusal : Transmission → ℕ

@@ -1,5 +1,5 @@
 // Messages from the module.
-use crate::field::is_plain;
+use crate::address::is_plain;
 use crate::number::long;
 use crate::number::word;
 use crate::refusal::Refusal;
@@ -14,10 +14,11 @@ use frame::Framing;
 ghost use mathlib.Core.Path.{_≡_};
 ghost use Prim.Native.Nat.{_≤_};
 ghost use lib.ListN.{length, getD};
-ghost use Rattle.message.specs.FromModule.{fromModuleOf, readFromModule, responseMeaning, receptionMeaning, statusMeaning, standardMeaning, remoteMeaning};
-ghost use Rattle.message.specs.FromModule.{receptionRefusal, receptionLayout, deliveryRefusal, deliveryLayout, noticeRefusal, noticeLayout, outcomeByte};
+ghost use Rattle.message.specs.FromModule.{fromModuleOf, readFromModule, responseMeaning, receptionMeaning, statusMeaning};
+ghost use Rattle.message.specs.FromModule.{standardMeaning, remoteMeaning, receptionRefusal, receptionLayout, deliveryRefusal};
+ghost use Rattle.message.specs.FromModule.{deliveryLayout, noticeRefusal, noticeLayout, outcomeByte};
 ghost use Rattle.message.specs.Status.{standardLayout, remoteLayout};
-ghost use Rattle.message.specs.Field.{plainRefusal};
+ghost use Rattle.message.specs.Address.{plainRefusal};
 ghost use Rattle.message.specs.Write.{Writes};
 
 // An extended message from the module. Both addresses are carried unjudged.
@@ -40,7 +41,7 @@ pub enum Outcome {
     Success,
 }
 
-// The module's response to an extended message.
+// The module's response to a transmission.
 pub struct Response {
     pub id: u8,
     pub outcome: Outcome,
@@ -115,7 +116,8 @@ fn read_reception(payload: &[u8]) -> FromModule
 
 // Reads a standard status of 23 bytes, whose fixed byte is right.
 fn read_standard(payload: &[u8]) -> FromModule
-    requires { ⌜ (length (now payload) ≡ 23) × (getD (now payload) 3 0 ≡ 0x01) ⌝ }
+    requires { ⌜ length (now payload) ≡ 23 ⌝ }
+    requires { ⌜ getD (now payload) 3 0 ≡ 0x01 ⌝ }
     ensures { λ r. ⌜ fromModuleOf r ≡ standardMeaning (now (payload .entry)) ⌝ }
 {
     FromModule::Notice(Notice::Standard(StandardStatus {
@@ -140,7 +142,9 @@ fn read_standard(payload: &[u8]) -> FromModule
 
 // Reads a remote status of 20 bytes, whose fixed bytes are right.
 fn read_remote(payload: &[u8]) -> FromModule
-    requires { ⌜ (length (now payload) ≡ 20) × (getD (now payload) 2 0 ≡ 0x0F) × (getD (now payload) 3 0 ≡ 0x01) ⌝ }
+    requires { ⌜ length (now payload) ≡ 20 ⌝ }
+    requires { ⌜ getD (now payload) 2 0 ≡ 0x0F ⌝ }
+    requires { ⌜ getD (now payload) 3 0 ≡ 0x01 ⌝ }
     ensures { λ r. ⌜ fromModuleOf r ≡ remoteMeaning (now (payload .entry)) ⌝ }
 {
     FromModule::Notice(Notice::Remote(RemoteStatus {
@@ -157,7 +161,7 @@ fn read_remote(payload: &[u8]) -> FromModule
     }))
 }
 
-// Reads a status: the two are told apart by length. The fixed bytes are tested here, so that each message is made in one place, which the compiler
+// Reads a status; the length says which one it is. The fixed bytes are tested here, so that each message is made in one place, which the compiler
 // can follow to where it is used.
 fn read_status(payload: &[u8]) -> FromModule
     ensures { λ r. ⌜ fromModuleOf r ≡ statusMeaning (now (payload .entry)) ⌝ }

@@ -1,5 +1,5 @@
 // What payloads mean: the messages of App_Uart, the remote app and the standard app, in both directions.
-mod field;
+mod address;
 mod from_module;
 mod number;
 mod options;

@@ -5,7 +5,8 @@ ghost use lib.ListN.{length};
 ghost use Rattle.message.specs.Number.{wordAt, longAt};
 
 fn wide(b: u8) -> u32
-    ensures { λ r. ⌜ (r ≡ b) × (r < 256) ⌝ }
+    ensures { λ r. ⌜ r ≡ b ⌝ }
+    ensures { λ r. ⌜ r < 256 ⌝ }
 {
     b as u32
 }

@@ -5,7 +5,8 @@ ghost use Prim.Native.Nat.{_+_, _<_, _≤_};
 ghost use lib.ListN.{length, drop};
 ghost use Rattle.message.specs.Options.{noOptions, byteGiven, wordGiven, hasOption, giveFlag, giveRetries, wordOr, giveWord, isRetry};
 ghost use Rattle.message.specs.Options.{option, optionsFrom, retryAllowed, flagBytes, retryBytes, wordBytes, optionBytes};
-ghost use Rattle.message.specs.Parts.{optionsRead, Puts};
+ghost use Rattle.message.specs.Parts.{optionsRead};
+ghost use Rattle.message.specs.Put.{Puts};
 
 // An option's argument of one byte, where it is given.
 pub enum MaybeByte {

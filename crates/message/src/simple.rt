@@ -1,5 +1,5 @@
 // The simple message, in either direction.
-use crate::field::is_plain;
+use crate::address::is_plain;
 use crate::refusal::Refusal;
 use crate::write::WriteAnswer;
 use crate::write::write_parts;

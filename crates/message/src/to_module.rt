@@ -1,6 +1,6 @@
 // Messages to the module.
-use crate::field::is_extended;
-use crate::field::is_plain;
+use crate::address::is_extended;
+use crate::address::is_plain;
 use crate::number::long;
 use crate::number::word;
 use crate::options::Options;
@@ -18,9 +18,9 @@ use frame::Framing;
 ghost use mathlib.Core.Path.{_≡_};
 ghost use Prim.Native.Nat.{_≤_};
 ghost use lib.ListN.{length};
-ghost use Rattle.message.specs.ToModule.{toModuleOf, readToModule, farRequest, requestAt, outputChangeAt, requestRefusal, requestLayout};
+ghost use Rattle.message.specs.ToModule.{toModuleOf, readToModule, toExtendedAddress, requestAt, outputChangeAt, requestRefusal, requestLayout};
 ghost use Rattle.message.specs.ToModule.{addressAllowed, addressBytes, transmissionRefusal, transmissionLayout, changeRefusal, changeLayout};
-ghost use Rattle.message.specs.Parts.{Puts};
+ghost use Rattle.message.specs.Put.{Puts};
 ghost use Rattle.message.specs.Write.{Writes};
 
 // The destination of an extended message to the module.
@@ -61,7 +61,8 @@ pub enum ToModule {
 
 // Reads an extended message whose option string begins at index `at`.
 fn read_request(payload: &[u8], address: Address, at: usize) -> ToModule
-    requires { ⌜ (3 ≤ at) × (at ≤ length (now payload)) ⌝ }
+    requires { ⌜ 3 ≤ at ⌝ }
+    requires { ⌜ at ≤ length (now payload) ⌝ }
     ensures { λ r. ⌜ toModuleOf r ≡ requestAt (now (payload .entry)) address at ⌝ }
 {
     match read_options(payload, at, Options::none()) {
@@ -78,9 +79,9 @@ fn read_request(payload: &[u8], address: Address, at: usize) -> ToModule
 }
 
 // Reads a payload that begins with 80: an extended message with an extended address.
-fn read_far(payload: &[u8]) -> ToModule
+fn read_to_extended_address(payload: &[u8]) -> ToModule
     requires { ⌜ 2 ≤ length (now payload) ⌝ }
-    ensures { λ r. ⌜ toModuleOf r ≡ farRequest (now (payload .entry)) ⌝ }
+    ensures { λ r. ⌜ toModuleOf r ≡ toExtendedAddress (now (payload .entry)) ⌝ }
 {
     if payload[1] != 0xA0 {
         return ToModule::Refused(Refusal::Command);
@@ -88,11 +89,11 @@ fn read_far(payload: &[u8]) -> ToModule
     if payload.len() < 7 {
         return ToModule::Refused(Refusal::Length);
     }
-    let far = long(payload, 3);
-    if !is_extended(far) {
+    let address = long(payload, 3);
+    if !is_extended(address) {
         return ToModule::Refused(Refusal::Address);
     }
-    read_request(payload, Address::Extended(far), 7)
+    read_request(payload, Address::Extended(address), 7)
 }
 
 // Reads a change of outputs.
@@ -133,7 +134,7 @@ pub fn read_to_module(payload: &[u8]) -> ToModule
     let address = payload[0];
     let command = payload[1];
     if address == 0x80 {
-        return read_far(payload);
+        return read_to_extended_address(payload);
     }
     if !is_plain(address) {
         return ToModule::Refused(Refusal::Address);
@@ -195,7 +196,8 @@ fn write_transmission(
     data: &[u8],
     buf: &mut [u8],
 ) -> WriteAnswer
-    ensures { λ r. ⌜ Writes framing (transmissionRefusal message) (transmissionLayout message (now («data» .entry))) (now (buf .entry)) r (now (buf .exit)) ⌝ }
+    ensures { λ r. ⌜ Writes framing (transmissionRefusal message) (transmissionLayout message (now («data» .entry)))
+        (now (buf .entry)) r (now (buf .exit)) ⌝ }
 {
     let address = message.address;
     let options = message.options;

@@ -13,14 +13,23 @@
 mod meaning;
 mod show;
 
+use crate::meaning::show_meanings;
+use crate::show::show_refusal;
+use console::append;
+use console::front;
+use console::hex_bytes;
+use console::line_at;
+use console::print_bytes;
+use console::print_either;
+use console::print_field;
+use console::print_line;
+use console::rest;
 use frame::Framing;
 use frame::ReadAnswer;
-use frame::Refusal;
 use frame::WriteAnswer;
 use libc::STDIN_FILENO;
 use libc::STDOUT_FILENO;
 ghost use Prim.Native.Nat.{_+_, _≤_, _<_};
-ghost use lib.ListN.{length};
 ghost use Rattle.io.specs.Counts.{Counts};
 
 // What became of a line.
@@ -59,33 +68,20 @@ fn run_rows(text: &[u8]) -> Totals {
     };
     let mut at: usize = 0;
     while at < text.len() {
-        let end = line_end(text, at);
-        let row = run_row(&text[at..end]);
+        let line = line_at(text, at);
+        let row = run_row(line);
         totals = count(totals, row);
-        at = end + 1;
+        at += line.len() + 1;
     }
     totals
 }
 
-// The place of the first line end from `from` on, or the text's length where there is none.
-fn line_end(text: &[u8], from: usize) -> usize
-    requires { ⌜ from ≤ length (now text) ⌝ }
-    ensures { λ r. ⌜ (from ≤ r) × (r ≤ length (now (text .entry))) ⌝ }
-{
-    let mut at = from;
-    while at < text.len() {
-        if text[at] == b'\n' {
-            return at;
-        }
-        at += 1;
-    }
-    at
-}
-
 // The totals after one more line.
 fn count(totals: Totals, row: Row) -> Totals
-    requires { ⌜ (totals .frames < 18446744073709551615) × (totals .refused < 18446744073709551615) ⌝ }
-    ensures { λ r. ⌜ (r .frames ≤ totals .frames + 1) × (r .refused ≤ totals .refused + 1) ⌝ }
+    requires { ⌜ totals .frames < 18446744073709551615 ⌝ }
+    requires { ⌜ totals .refused < 18446744073709551615 ⌝ }
+    ensures { λ r. ⌜ r .frames ≤ totals .frames + 1 ⌝ }
+    ensures { λ r. ⌜ r .refused ≤ totals .refused + 1 ⌝ }
 {
     let mut after = totals;
     match row {
@@ -121,7 +117,7 @@ fn run_row(line: &[u8]) -> Row {
         let n = text_bytes(line, &mut bytes);
         return run_frame(Framing::Ascii, &bytes[..n]);
     }
-    let n = hex_bytes(line, pairs_from(first), &mut bytes);
+    let n = hex_bytes(rest(line, pairs_from(first)), &mut bytes);
     if first == b'p' {
         return run_payload(line, &bytes[..n]);
     }
@@ -133,10 +129,11 @@ fn run_row(line: &[u8]) -> Row {
 
 // Prints a heading.
 fn run_heading(line: &[u8]) -> Row {
-    io::write_all(STDOUT_FILENO, line);
-    io::write_all(STDOUT_FILENO, b"\n");
-    let apart = ends(line, b"not counted");
-    Row::Heading { counted: !apart }
+    print_line(line);
+    let uncounted = ends(line, b"not counted");
+    Row::Heading {
+        counted: !uncounted,
+    }
 }
 
 // Whether s ends with these bytes.
@@ -144,48 +141,19 @@ fn ends(s: &[u8], tail: &[u8]) -> bool {
     if s.len() < tail.len() {
         return false;
     }
-    let from = s.len() - tail.len();
-    begins(&s[from..], tail)
+    check::same(rest(s, s.len() - tail.len()), tail)
 }
 
-// Whether s begins with these bytes.
-fn begins(s: &[u8], front: &[u8]) -> bool {
-    if s.len() < front.len() {
-        return false;
-    }
-    let mut i = 0;
-    while i < front.len() {
-        if s[i] != front[i] {
-            return false;
-        }
-        i += 1;
-    }
-    true
-}
-
-// Puts a line and CR LF into the front of bytes, as much of the line as fits, and answers how many bytes that makes.
+// Puts a line and CR LF into the front of bytes and gives how many bytes that makes. What stands behind a line's first 1,022 bytes is left out.
 fn text_bytes(line: &[u8], bytes: &mut [u8]) -> usize
-    requires { ⌜ 2 ≤ length (now bytes) ⌝ }
     ensures { λ r. ⌜ Counts r (now (bytes .exit)) ⌝ }
 {
-    let room = bytes.len() - 2;
-    let mut n: usize = 0;
-    while n < room {
-        if line.len() <= n {
-            break;
-        }
-        bytes[n] = line[n];
-        n += 1;
-    }
-    bytes[n] = b'\r';
-    bytes[n + 1] = b'\n';
-    n + 2
+    let n = append(bytes, 0, front(line, 1022));
+    append(bytes, n, b"\r\n")
 }
 
 // Where the hex pairs of a line with this first character begin: behind the word `ascii`, `binary` or `payload`, or at once.
-fn pairs_from(first: u8) -> usize
-    ensures { λ r. ⌜ r ≤ 8 ⌝ }
-{
+fn pairs_from(first: u8) -> usize {
     match first {
         b'a' => 6,
         b'b' => 7,
@@ -194,52 +162,17 @@ fn pairs_from(first: u8) -> usize
     }
 }
 
-// Puts the bytes that a line's hex pairs stand for into the front of bytes, as many as fit, and answers how many there are.
-fn hex_bytes(line: &[u8], from: usize, bytes: &mut [u8]) -> usize
-    requires { ⌜ from ≤ 8 ⌝ }
-    ensures { λ r. ⌜ Counts r (now (bytes .exit)) ⌝ }
-{
-    let mut n: usize = 0;
-    let mut at = from;
-    while n < bytes.len() {
-        if line.len() <= at + 1 {
-            break;
-        }
-        bytes[n] = 16 * digit_value(line[at]) + digit_value(line[at + 1]);
-        n += 1;
-        at += 3;
-    }
-    n
-}
-
-// What a hex digit stands for; 0 for any other character.
-fn digit_value(c: u8) -> u8
-    ensures { λ r. ⌜ r < 16 ⌝ }
-{
-    match c {
-        b'0'..=b'9' => c - b'0',
-        b'A'..=b'F' => c - b'A' + 10,
-        _ => 0,
-    }
-}
-
 // Prints the row of a payload and what the payload means. It counts as the payload of an ASCII frame.
 fn run_payload(line: &[u8], payload: &[u8]) -> Row {
-    io::write_all(STDOUT_FILENO, line);
-    io::write_all(STDOUT_FILENO, b"\n");
+    print_line(line);
     let mut whole = [0u8; 517];
     let answer = frame::write_frame(Framing::Ascii, payload, &mut whole);
-    let used = written_length(answer);
-    meaning::show_meanings(Framing::Ascii, payload, &whole, used);
+    show_meanings(
+        Framing::Ascii,
+        payload,
+        front(&whole, written_length(answer)),
+    );
     Row::Uncounted
-}
-
-// The length of a written frame, or 0 where none was written.
-fn written_length(answer: WriteAnswer) -> usize {
-    match answer {
-        WriteAnswer::Written(n) => n,
-        WriteAnswer::Refused(_) => 0,
-    }
 }
 
 // Reads a frame from the front of s, writes its payload again and prints what both gave.
@@ -248,14 +181,19 @@ fn run_frame(framing: Framing, s: &[u8]) -> Row {
     let answer = frame::read_frame(framing, s, &mut buf);
     match answer {
         ReadAnswer::Frame { used, len } => {
-            let payload = &buf[..len];
+            let payload = front(&buf, len);
+            let whole = front(s, used);
             show_frame(used, payload);
-            show_ending(written_back(framing, payload, s) == used);
-            meaning::show_meanings(framing, payload, s, used);
+            print_either(
+                is_written(framing, payload, whole),
+                b" written back\n",
+                b" differs\n",
+            );
+            show_meanings(framing, payload, whole);
             Row::Frame
         }
         ReadAnswer::Refused(refusal) => {
-            show_refusal(refusal);
+            show_refusal(refusal.number());
             Row::Refused
         }
     }
@@ -263,34 +201,23 @@ fn run_frame(framing: Framing, s: &[u8]) -> Row {
 
 // Prints `frame`, the count of bytes used and the payload.
 fn show_frame(used: usize, payload: &[u8]) {
-    io::write_all(STDOUT_FILENO, b"frame ");
-    io::print_decimal(STDOUT_FILENO, used as u64);
+    io::write_all(STDOUT_FILENO, b"frame");
+    print_field(used);
     io::write_all(STDOUT_FILENO, b" ");
-    show::show_bytes(payload);
+    print_bytes(payload);
 }
 
-// Prints whether the frame was written back as it was read.
-fn show_ending(same: bool) {
-    if same {
-        io::write_all(STDOUT_FILENO, b" written back\n");
-    } else {
-        io::write_all(STDOUT_FILENO, b" differs\n");
-    }
-}
-
-// The length of the frame that is written for the payload, where s begins with that frame, and 0 where not.
-fn written_back(framing: Framing, payload: &[u8], s: &[u8]) -> usize {
+// Whether the frame that is written for the payload is this one.
+fn is_written(framing: Framing, payload: &[u8], whole: &[u8]) -> bool {
     let mut back = [0u8; 517];
     let answer = frame::write_frame(framing, payload, &mut back);
-    let WriteAnswer::Written(n) = answer else {
-        return 0;
-    };
-    if begins(s, &back[..n]) { n } else { 0 }
+    check::same(front(&back, written_length(answer)), whole)
 }
 
-// Prints `refused` and the refusal's number.
-fn show_refusal(refusal: Refusal) {
-    io::write_all(STDOUT_FILENO, b"refused ");
-    io::print_decimal(STDOUT_FILENO, refusal.number() as u64);
-    io::write_all(STDOUT_FILENO, b"\n");
+// The length of a written frame, or 0 where none was written.
+fn written_length(answer: WriteAnswer) -> usize {
+    match answer {
+        WriteAnswer::Written(n) => n,
+        WriteAnswer::Refused(_) => 0,
+    }
 }

@@ -14,14 +14,17 @@
 //
 // Such a line ends in `same` where the message, written with its data by the crate message, is the frame that was read, and in
 // `other` where it is not, as with options that do not stand in ascending order. Behind either: `refused` and the number.
-use crate::begins;
 use crate::show::byte_field;
 use crate::show::data_field;
-use crate::show::decimal_field;
 use crate::show::long_field;
-use crate::show::show_byte;
-use crate::show::show_word;
+use crate::show::show_refusal;
 use crate::show::word_field;
+use console::front;
+use console::print_either;
+use console::print_field;
+use console::print_u8;
+use console::print_u16;
+use console::rest;
 use frame::Framing;
 use libc::STDOUT_FILENO;
 use message::Address;
@@ -35,7 +38,6 @@ use message::Options;
 use message::Outcome;
 use message::OutputChange;
 use message::Reception;
-use message::Refusal;
 use message::RemoteStatus;
 use message::Request;
 use message::Response;
@@ -45,99 +47,113 @@ use message::ToModule;
 use message::Transmission;
 use message::WriteAnswer;
 
-// Prints both meanings of the payload of a frame, the first `used` bytes of s.
-pub fn show_meanings(framing: Framing, payload: &[u8], s: &[u8], used: usize) {
+// Prints both meanings of a frame's payload. `whole` is the frame.
+pub fn show_meanings(framing: Framing, payload: &[u8], whole: &[u8]) {
     io::write_all(STDOUT_FILENO, b"  to ");
-    show_to_module(framing, payload, s, used);
+    show_to_module(framing, payload, whole);
     io::write_all(STDOUT_FILENO, b"  from ");
-    show_from_module(framing, payload, s, used);
+    show_from_module(framing, payload, whole);
 }
 
 // Prints what the payload means to the module.
-fn show_to_module(framing: Framing, payload: &[u8], s: &[u8], used: usize) {
+fn show_to_module(framing: Framing, payload: &[u8], whole: &[u8]) {
     let meaning = message::read_to_module(payload);
     match meaning {
-        ToModule::Request { request, start } => {
-            let tail = part_from(payload, start);
-            show_request(request, tail);
-            show_ending(request_back(framing, request, tail, s) == used);
-        }
-        ToModule::OutputChange(change) => {
-            show_output_change(change);
-            show_ending(change_back(framing, change, s) == used);
-        }
-        ToModule::Refused(refusal) => {
-            show_refusal(refusal);
-        }
+        ToModule::Request { request, start } => run_request(
+            framing,
+            request,
+            rest(payload, start),
+            whole,
+        ),
+        ToModule::OutputChange(change) => run_output_change(framing, change, whole),
+        ToModule::Refused(refusal) => show_refusal(refusal.number()),
     }
 }
 
 // Prints what the payload means from the module.
-fn show_from_module(framing: Framing, payload: &[u8], s: &[u8], used: usize) {
+fn show_from_module(framing: Framing, payload: &[u8], whole: &[u8]) {
     let meaning = message::read_from_module(payload);
     match meaning {
-        FromModule::Delivery { delivery, start } => {
-            let tail = part_from(payload, start);
-            show_delivery(delivery, tail);
-            show_ending(delivery_back(framing, delivery, tail, s) == used);
-        }
-        FromModule::Notice(notice) => {
-            show_notice(notice);
-            show_ending(notice_back(framing, notice, s) == used);
-        }
-        FromModule::Refused(refusal) => {
-            show_refusal(refusal);
-        }
+        FromModule::Delivery { delivery, start } => run_delivery(
+            framing,
+            delivery,
+            rest(payload, start),
+            whole,
+        ),
+        FromModule::Notice(notice) => run_notice(framing, notice, whole),
+        FromModule::Refused(refusal) => show_refusal(refusal.number()),
     }
 }
 
-// The data of a message: the bytes of its payload from `start` on. A read gives no start past the end; the test shows it here
-// again.
-fn part_from(payload: &[u8], start: usize) -> &[u8] {
-    if payload.len() < start {
-        return payload;
-    }
-    &payload[start..]
+// Prints a message with data to the module, and whether it is written as the frame that was read.
+fn run_request(framing: Framing, request: Request, tail: &[u8], whole: &[u8]) {
+    show_request(request);
+    data_field(tail);
+    let mut back = [0u8; 517];
+    let answer = message::write_request(framing, request, tail, &mut back);
+    show_ending(&back, answer, whole);
 }
 
-// Prints a message with data to the module.
-fn show_request(request: Request, tail: &[u8]) {
+// The same for a message with data from the module.
+fn run_delivery(framing: Framing, delivery: Delivery, tail: &[u8], whole: &[u8]) {
+    show_delivery(delivery);
+    data_field(tail);
+    let mut back = [0u8; 517];
+    let answer = message::write_delivery(framing, delivery, tail, &mut back);
+    show_ending(&back, answer, whole);
+}
+
+// The same for an output change.
+fn run_output_change(framing: Framing, change: OutputChange, whole: &[u8]) {
+    show_output_change(change);
+    let mut back = [0u8; 517];
+    let answer = message::write_output_change(framing, change, &mut back);
+    show_ending(&back, answer, whole);
+}
+
+// The same for a message without data from the module.
+fn run_notice(framing: Framing, notice: Notice, whole: &[u8]) {
+    show_notice(notice);
+    let mut back = [0u8; 517];
+    let answer = message::write_notice(framing, notice, &mut back);
+    show_ending(&back, answer, whole);
+}
+
+// Prints whether the frame that a write put into the front of back is the one that was read, and ends the line. One that is refused puts nothing there.
+fn show_ending(back: &[u8], answer: WriteAnswer, whole: &[u8]) {
+    let len = match answer {
+        WriteAnswer::Written(n) => n,
+        WriteAnswer::Refused(_) => 0,
+    };
+    print_either(
+        check::same(front(back, len), whole),
+        b" same\n",
+        b" other\n",
+    );
+}
+
+// Prints the head of a message with data to the module.
+fn show_request(request: Request) {
     match request {
-        Request::Simple(simple) => {
-            show_simple(simple);
-        }
-        Request::Extended(transmission) => {
-            show_transmission(transmission);
-        }
+        Request::Simple(simple) => show_simple(simple),
+        Request::Extended(transmission) => show_transmission(transmission),
     }
-    data_field(tail);
 }
 
-// Prints a message with data from the module.
-fn show_delivery(delivery: Delivery, tail: &[u8]) {
+// Prints the head of a message with data from the module.
+fn show_delivery(delivery: Delivery) {
     match delivery {
-        Delivery::Simple(simple) => {
-            show_simple(simple);
-        }
-        Delivery::Extended(reception) => {
-            show_reception(reception);
-        }
+        Delivery::Simple(simple) => show_simple(simple),
+        Delivery::Extended(reception) => show_reception(reception),
     }
-    data_field(tail);
 }
 
 // Prints a message without data from the module.
 fn show_notice(notice: Notice) {
     match notice {
-        Notice::Response(response) => {
-            show_response(response);
-        }
-        Notice::Standard(status) => {
-            show_standard(status);
-        }
-        Notice::Remote(status) => {
-            show_remote(status);
-        }
+        Notice::Response(response) => show_response(response),
+        Notice::Standard(status) => show_standard(status),
+        Notice::Remote(status) => show_remote(status),
     }
 }
 
@@ -153,12 +169,8 @@ fn show_transmission(transmission: Transmission) {
     io::write_all(STDOUT_FILENO, b"extended");
     let address = transmission.address;
     match address {
-        Address::Plain(plain) => {
-            byte_field(plain);
-        }
-        Address::Extended(long) => {
-            long_field(long);
-        }
+        Address::Plain(plain) => byte_field(plain),
+        Address::Extended(long) => long_field(long),
     }
     byte_field(transmission.response_id);
     let options = transmission.options;
@@ -201,7 +213,7 @@ fn show_maybe_byte(before: bool, number: u8, option: MaybeByte) -> bool {
     };
     show_option(before, number);
     io::write_all(STDOUT_FILENO, b"=");
-    show_byte(argument);
+    print_u8(argument);
     true
 }
 
@@ -212,7 +224,7 @@ fn show_maybe_word(before: bool, number: u8, option: MaybeWord) -> bool {
     };
     show_option(before, number);
     io::write_all(STDOUT_FILENO, b"=");
-    show_word(argument);
+    print_u16(argument);
     true
 }
 
@@ -220,7 +232,7 @@ fn show_maybe_word(before: bool, number: u8, option: MaybeWord) -> bool {
 fn show_option(before: bool, number: u8) {
     if before {
         io::write_all(STDOUT_FILENO, b",");
-        show_byte(number);
+        print_u8(number);
     } else {
         byte_field(number);
     }
@@ -278,10 +290,10 @@ fn show_standard(status: StandardStatus) {
     byte_field(status.ad3);
     byte_field(status.ad4);
     byte_field(status.correction);
-    decimal_field(status.millivolts(Channel::One));
-    decimal_field(status.millivolts(Channel::Two));
-    decimal_field(status.millivolts(Channel::Three));
-    decimal_field(status.millivolts(Channel::Four));
+    print_field(status.millivolts(Channel::One) as usize);
+    print_field(status.millivolts(Channel::Two) as usize);
+    print_field(status.millivolts(Channel::Three) as usize);
+    print_field(status.millivolts(Channel::Four) as usize);
 }
 
 // Prints a remote status.
@@ -297,60 +309,4 @@ fn show_remote(status: RemoteStatus) {
     word_field(status.mask);
     word_field(status.interrupts);
     byte_field(status.unused);
-}
-
-// Prints the number of a refusal and ends the line.
-fn show_refusal(refusal: Refusal) {
-    io::write_all(STDOUT_FILENO, b"refused ");
-    io::print_decimal(STDOUT_FILENO, refusal.number() as u64);
-    io::write_all(STDOUT_FILENO, b"\n");
-}
-
-// Prints whether the message was written as the frame that was read, and ends the line.
-fn show_ending(same: bool) {
-    if same {
-        io::write_all(STDOUT_FILENO, b" same\n");
-    } else {
-        io::write_all(STDOUT_FILENO, b" other\n");
-    }
-}
-
-// The length of the frame that is written for a message to the module with its data, where s begins with it, and 0 where not.
-fn request_back(framing: Framing, request: Request, tail: &[u8], s: &[u8]) -> usize {
-    let mut back = [0u8; 517];
-    let answer = message::write_request(framing, request, tail, &mut back);
-    begun_by(s, &back, answer)
-}
-
-// The same for an output change.
-fn change_back(framing: Framing, change: OutputChange, s: &[u8]) -> usize {
-    let mut back = [0u8; 517];
-    let answer = message::write_output_change(framing, change, &mut back);
-    begun_by(s, &back, answer)
-}
-
-// The same for a message from the module with its data.
-fn delivery_back(framing: Framing, delivery: Delivery, tail: &[u8], s: &[u8]) -> usize {
-    let mut back = [0u8; 517];
-    let answer = message::write_delivery(framing, delivery, tail, &mut back);
-    begun_by(s, &back, answer)
-}
-
-// The same for a message from the module without data.
-fn notice_back(framing: Framing, notice: Notice, s: &[u8]) -> usize {
-    let mut back = [0u8; 517];
-    let answer = message::write_notice(framing, notice, &mut back);
-    begun_by(s, &back, answer)
-}
-
-// The length of the frame that a write put into the front of back, where s begins with it, and 0 where not. A frame is no longer
-// than back; the test shows it here again.
-fn begun_by(s: &[u8], back: &[u8], answer: WriteAnswer) -> usize {
-    let WriteAnswer::Written(n) = answer else {
-        return 0;
-    };
-    if back.len() < n {
-        return 0;
-    }
-    if begins(s, &back[..n]) { n } else { 0 }
 }

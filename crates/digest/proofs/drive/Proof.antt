@@ -17,6 +17,10 @@ Inv-loop s size buf₀ tally₀ span₀ end framing fed₀ turns₀ buf tally sp
 abbrev μ-loop : tie.MeasureT-loop
 μ-loop s size buf₀ tally₀ span₀ end framing fed₀ turns₀ buf tally span fed turns = turns
 
+-- Where the turn began, from where it is known how the chunk is fed.
+abbrev turn : tie.After-is-viewed Inv-loop μ-loop → tie.At-loop Inv-loop μ-loop
+turn c = c .before .before .before .before .before .before .before
+
 smaller-requires : tie.Need-smaller-requires Inv-loop μ-loop
 smaller-requires c κs = search needs
 
@@ -32,11 +36,11 @@ feed-requires c κs = search needs
 loop-holds : tie.Need-loop-holds Inv-loop μ-loop
 loop-holds c = (c .before .feed .kept .1 .1 .0, omega arith, omega (arith, c .before .before .before .before .before .smaller .ensures .1))
 
-slice-aggregate-fed-tally : tie.Need-slice-aggregate-fed-tally Inv-loop μ-loop
-slice-aggregate-fed-tally c = sym (c .before .before .loop .inv .0)
+slice-aggregate-with-answer : tie.Need-slice-aggregate-with-answer Inv-loop μ-loop
+slice-aggregate-with-answer c = sym (c .before .before .loop .inv .0)
 
-fed-tally-requires : tie.Need-fed-tally-requires Inv-loop μ-loop
-fed-tally-requires c κs = search needs
+with-answer-requires : tie.Need-with-answer-requires Inv-loop μ-loop
+with-answer-requires c κs = search needs
 
 is-last-requires : tie.Need-is-last-requires Inv-loop μ-loop
 is-last-requires c κs = search needs
@@ -60,7 +64,7 @@ part-drive-view-end : tie.Need-part-drive-view-end Inv-loop μ-loop
 part-drive-view-end c = search needs
 
 slice-aggregate-drive-view : tie.Need-slice-aggregate-drive-view Inv-loop μ-loop
-slice-aggregate-drive-view c = sym (c .before .before .before .before .before .before .before .before .before .before .loop .inv .0)
+slice-aggregate-drive-view c = sym (turn (c .before .before .before) .loop .inv .0)
 
 drive-view-requires : tie.Need-drive-view-requires Inv-loop μ-loop
 drive-view-requires c κs = search needs
@@ -78,7 +82,7 @@ part-feed-end : tie.Need-part-feed-end Inv-loop μ-loop
 part-feed-end c = search needs
 
 slice-aggregate-feed-3 : tie.Need-slice-aggregate-feed-3 Inv-loop μ-loop
-slice-aggregate-feed-3 c = sym (c .before .before .before .before .before .before .before .before .before .before .loop .inv .0)
+slice-aggregate-feed-3 c = sym (turn (c .before .before .before) .loop .inv .0)
 
 feed-requires-2 : tie.Need-feed-requires-2 Inv-loop μ-loop
 feed-requires-2 c κs = search needs
@@ -92,8 +96,8 @@ loop-less c = search needs
 loop-again : tie.Need-loop-again Inv-loop μ-loop
 loop-again c = (
   ⊎-elim
-      (λ w. ap length (w .7) ∙ (w .3 .kept .1 .1 .1 .0 ∙ c .before .before .before .before .before .before .before .before .loop .inv .0))
-      (λ w. ap length (w .5) ∙ (w .3 .kept .1 .1 .0 ∙ c .before .before .before .before .before .before .before .before .loop .inv .0))
+      (λ w. ap length (w .7) ∙ (w .3 .kept .1 .1 .1 .0 ∙ turn (c .before) .loop .inv .0))
+      (λ w. ap length (w .5) ∙ (w .3 .kept .1 .1 .0 ∙ turn (c .before) .loop .inv .0))
       (c .if2 .came),
   c .before .before .next-span .ensures .0,
   c .before .before .next-span .ensures .1,
@@ -113,8 +117,8 @@ drive-spec =
     slice-aggregate-feed-2
     feed-requires
     loop-holds
-    slice-aggregate-fed-tally
-    fed-tally-requires
+    slice-aggregate-with-answer
+    with-answer-requires
     is-last-requires
     returns
     next-span-requires

@@ -12,6 +12,14 @@ Inv-loop size chunk₀ driven₀ reads₀ chunk driven reads = length chunk ≡ 
 abbrev μ-loop : tie.MeasureT-loop
 μ-loop size chunk₀ driven₀ reads₀ chunk driven reads = reads
 
+-- The buffer has its length when a read has filled it.
+filled : (c : tie.After-read Inv-loop μ-loop) → length (c .read .last .1 .0) ≡ 65536
+filled c = c .read .kept .1 .0 ∙ c .before .before .before .loop .inv
+
+-- Where the read returned, from where its bytes are counted.
+abbrev read-at : tie.After-count Inv-loop μ-loop → tie.After-read Inv-loop μ-loop
+read-at c = c .before .before .before
+
 large-buffer-requires : tie.Need-large-buffer-requires Inv-loop μ-loop
 large-buffer-requires c κs = search needs
 
@@ -28,13 +36,13 @@ read-requires : tie.Need-read-requires Inv-loop μ-loop
 read-requires c κs = search needs
 
 slice-aggregate-count : tie.Need-slice-aggregate-count Inv-loop μ-loop
-slice-aggregate-count c = sym (c .before .before .read .kept .1 .0 ∙ c .before .before .before .before .before .loop .inv)
+slice-aggregate-count c = sym (filled (c .before .before))
 
 count-requires : tie.Need-count-requires Inv-loop μ-loop
 count-requires c κs = search needs
 
-quieted-requires : tie.Need-quieted-requires Inv-loop μ-loop
-quieted-requires c κs = search needs
+drive-quiet-requires : tie.Need-drive-quiet-requires Inv-loop μ-loop
+drive-quiet-requires c κs = search needs
 
 returns : tie.Need-returns Inv-loop μ-loop
 returns c = search needs
@@ -55,10 +63,10 @@ loop-less : tie.Need-loop-less Inv-loop μ-loop
 loop-less c = search needs
 
 loop-again : tie.Need-loop-again Inv-loop μ-loop
-loop-again c = c .before .before .before .before .before .before .read .kept .1 .0 ∙ c .before .before .before .before .before .before .before .before .before .loop .inv
+loop-again c = filled (read-at (c .before .before .before))
 
-quieted-requires-2 : tie.Need-quieted-requires-2 Inv-loop μ-loop
-quieted-requires-2 c κs = search needs
+drive-quiet-requires-2 : tie.Need-drive-quiet-requires-2 Inv-loop μ-loop
+drive-quiet-requires-2 c κs = search needs
 
 returns-2 : tie.Need-returns-2 Inv-loop μ-loop
 returns-2 c = search needs
@@ -76,7 +84,7 @@ drive-input-spec =
     read-requires
     slice-aggregate-count
     count-requires
-    quieted-requires
+    drive-quiet-requires
     returns
     array-share-prefix-chunk
     slice-aggregate-drive
@@ -84,5 +92,5 @@ drive-input-spec =
     sub-reads
     loop-less
     loop-again
-    quieted-requires-2
+    drive-quiet-requires-2
     returns-2)

@@ -19,8 +19,8 @@ loop-holds c = refl
 feed-requires : tie.Need-feed-requires Inv-loop μ-loop
 feed-requires c κs = search needs
 
-fed-tally-requires : tie.Need-fed-tally-requires Inv-loop μ-loop
-fed-tally-requires c κs = search needs
+with-answer-requires : tie.Need-with-answer-requires Inv-loop μ-loop
+with-answer-requires c κs = search needs
 
 is-frame-requires : tie.Need-is-frame-requires Inv-loop μ-loop
 is-frame-requires c κs = search needs
@@ -55,7 +55,7 @@ drive-view-spec =
     μ-loop
     loop-holds
     feed-requires
-    fed-tally-requires
+    with-answer-requires
     is-frame-requires
     sub-turns
     loop-less

@@ -14,23 +14,17 @@ abbrev μ-loop : tie.MeasureT-loop
 loop-holds : tie.Need-loop-holds Inv-loop μ-loop
 loop-holds c = search needs
 
-line-end-requires : tie.Need-line-end-requires Inv-loop μ-loop
-line-end-requires c κs = search needs
-
-sub-run-row : tie.Need-sub-run-row Inv-loop μ-loop
-sub-run-row c = search needs
-
-part-run-row-start : tie.Need-part-run-row-start Inv-loop μ-loop
-part-run-row-start c = search needs
-
-part-run-row-end : tie.Need-part-run-row-end Inv-loop μ-loop
-part-run-row-end c = search needs
+line-at-requires : tie.Need-line-at-requires Inv-loop μ-loop
+line-at-requires c κs = search needs
 
 run-row-requires : tie.Need-run-row-requires Inv-loop μ-loop
 run-row-requires c κs = search needs
 
 add-at : tie.Need-add-at Inv-loop μ-loop
 add-at c = search needs
+
+add-at-2 : tie.Need-add-at-2 Inv-loop μ-loop
+add-at-2 c = search needs
 
 loop-less : tie.Need-loop-less Inv-loop μ-loop
 loop-less c = search needs
@@ -48,12 +42,10 @@ run-rows-spec =
     Inv-loop
     μ-loop
     loop-holds
-    line-end-requires
-    sub-run-row
-    part-run-row-start
-    part-run-row-end
+    line-at-requires
     run-row-requires
     add-at
+    add-at-2
     loop-less
     loop-again
     returns)

@@ -53,8 +53,9 @@ same-length c = search needs
 returns-3 : tie.Need-returns-3
 returns-3 c =
     let d = c .before .before .before in
-    let k = sym (d .before .before .before .before .before .delivery-in .ensures) ∙ d .before .before .before .d .given .1 in
-    let e = d .before .before .before .before .before .before .before in
+    let m = d .before .before .before .before .before in
+    let k = sym (m .delivery-in .ensures) ∙ d .before .before .before .d .given .1 in
+    let e = m .before .before in
     message-crosses
     (sym (e .before .before .framing-of .ensures) ∙ e .f .given .1)
     (ap deliveryRefusalIn k)

@@ -52,8 +52,9 @@ same-length c = search needs
 returns-2 : tie.Need-returns-2
 returns-2 c =
     let d = c .before .before .before in
-    let k = sym (d .before .before .before .before .before .notice-in .ensures) ∙ d .before .before .before .m .given .1 in
-    let e = d .before .before .before .before .before .before .before in
+    let n = d .before .before .before .before .before in
+    let k = sym (n .notice-in .ensures) ∙ d .before .before .before .m .given .1 in
+    let e = n .before .before in
     message-crosses
     (sym (e .before .before .framing-of .ensures) ∙ e .f .given .1)
     (ap noticeRefusalIn k) (ap noticeLayoutIn k) (d .write-notice .ensures) (c .written-of .ensures)

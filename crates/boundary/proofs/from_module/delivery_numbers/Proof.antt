@@ -13,11 +13,11 @@ enum-known-delivery-2 c = search needs
 
 returns : tie.Need-returns
 unfolding deliveryNumbers
-returns c = rw (c .before .delivery .given .1)
+returns c = rw (c .before .before .delivery .given .1)
 
 returns-2 : tie.Need-returns-2
 unfolding deliveryNumbers
-returns-2 c = rw (c .before .delivery2 .given .1)
+returns-2 c = rw (c .before .before .delivery2 .given .1)
 
 pub delivery-numbers-spec : {M : Type 1} → statement M
 delivery-numbers-spec =

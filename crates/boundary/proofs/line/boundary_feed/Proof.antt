@@ -36,9 +36,10 @@ same-length c = search needs
 returns : tie.Need-returns
 returns c =
     let d = c .before .before .before .before .before in
-    let a = d .before .before .before .before .before .before .before .before .before .args in
+    let e = d .before .before .before .before in
+    let a = e .before .before .before .before .before .args in
     feed-crosses (a .reader) (a .chunk .now) (a .buf .now) (d .feed .result)
-    (sym (d .before .before .before .before .before .before .framing-of .ensures) ∙ d .before .before .before .before .f .given .1)
+    (sym (e .before .before .framing-of .ensures) ∙ e .f .given .1)
     (d .before .before .reader-in .ensures) (d .feed .ensures) (cc)
 
 returns-2 : tie.Need-returns-2

@@ -43,8 +43,9 @@ same-length c = search needs
 returns-3 : tie.Need-returns-3
 returns-3 c =
     let d = c .before .before .before in
+    let e = d .before .before .before .before .before in
     message-crosses
-    (sym (d .before .before .before .before .before .before .before .framing-of .ensures) ∙ d .before .before .before .before .before .f .given .1)
+    (sym (e .before .before .framing-of .ensures) ∙ e .f .given .1)
     (rw (eq-eqb _ _ (d .before .before .if1 .left))) refl (d .write-output-change .ensures) (c .written-of .ensures)
 
 pub boundary-write-output-change-spec : {M : Type 1} → statement M

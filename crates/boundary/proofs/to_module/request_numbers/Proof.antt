@@ -16,7 +16,7 @@ transmission-numbers-requires c κs = search needs
 
 returns : tie.Need-returns
 unfolding requestNumbers
-returns c = rw (c .before .request .given .1)
+returns c = rw (c .before .before .request .given .1)
 
 returns-2 : tie.Need-returns-2
 unfolding requestNumbers

@@ -26,11 +26,11 @@ returns c = rw (c .before .before .answer .given .1) (c .request-numbers .ensure
 
 returns-2 : tie.Need-returns-2
 unfolding toModuleNumbers
-returns-2 c = rw (c .before .answer2 .given .1)
+returns-2 c = rw (c .before .before .answer2 .given .1)
 
 returns-3 : tie.Need-returns-3
 unfolding toModuleNumbers
-returns-3 c = rw (c .before .before .answer3 .given .1, c .number .ensures)
+returns-3 c = rw (c .before .before .before .answer3 .given .1, c .before .number .ensures)
 
 pub to-module-numbers-spec : {M : Type 1} → statement M
 to-module-numbers-spec =

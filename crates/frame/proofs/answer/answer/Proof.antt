@@ -7,7 +7,8 @@ use lib.ListN.{drop, length-drop}
 use Rattle.frame.specs.Checks.{cut, frame}
 use Rattle.frame.specs.Framing.{judge}
 use Rattle.frame.specs.Judged.{payloadAt}
-use Rattle.frame.specs.Scan.{stopOf, Usable}
+use Rattle.frame.specs.Scan.{stopOf}
+use Rattle.frame.specs.Answer.{Usable}
 use Rattle.frame.specs.declared.scan.ScanEnd.{ScanEnd}
 use Rattle.frame.proofs.Framings.{undecided-short, payload-there, limit-most}
 use Rattle.frame.proofs.Readers.{kept-frame, kept-undecided, kept-passed}

@@ -14,10 +14,18 @@ use Rattle.frame.proofs.Framings.{payload-named, stays}
 use Rattle.frame.proofs.ascii.extract.Statement.{statement}
 use Rattle.frame.proofs.ascii.extract.Tie as tie
 
+-- The start of the call, from the verdict.
+abbrev start : tie.After-judge-run → tie.Start
+start c = c .before .before .before .before .before .before
+
+-- Where it is a frame, from where its payload was taken out.
+abbrev frame-at : tie.After-slice-known3 → tie.After-verdict
+frame-at c = c .before .before .before .before .before
+
 -- The answer is a frame.
-named : (c : tie.After-verdict) → let s = c .before .before .before .before .before .before .before .before .args .s .now in
+named : (c : tie.After-verdict) → let s = start (c .before .before) .args .s .now in
     judge Ascii s ≡ verdictOf Ascii s (Frame (c .verdict .given .0 .0) (c .verdict .given .0 .1 .0))
-named c = c .before .before .judge-run .ensures ∙ ap (verdictOf Ascii (c .before .before .before .before .before .before .before .before .args .s .now)) (c .verdict .given .1)
+named c = c .before .before .judge-run .ensures ∙ ap (verdictOf Ascii (start (c .before .before) .args .s .now)) (c .verdict .given .1)
 
 run-behind-requires : tie.Need-run-behind-requires
 run-behind-requires c κs = search needs
@@ -43,7 +51,8 @@ enum-known-verdict c = search needs
 
 unpack-requires : tie.Need-unpack-requires
 unpack-requires c κs =
-    let h = payload-named Ascii (c .before .before .before .before .before .before .before .before .before .before .args .s .now) (c .before .before .verdict .given .0 .0) (c .before .before .verdict .given .0 .1 .0) (named (c .before .before)) in
+    let v = c .before .before in
+    let h = payload-named Ascii (start (v .before .before) .args .s .now) (v .verdict .given .0 .0) (v .verdict .given .0 .1 .0) (named v) in
     (h .packed, omega (arith, h .most))
 
 same-length-2 : tie.Need-same-length-2
@@ -51,12 +60,13 @@ same-length-2 c = search needs
 
 returns-2 : tie.Need-returns-2
 returns-2 c =
-    let a = c .before .before .before .before .before .before .before .before .before .before .before .before .before .args in
-    (named (c .before .before .before .before .before), c .before .before .unpack .ensures ∙ sym (ap (λ (v : Verdict). handedOut v (a .buf .now)) (named (c .before .before .before .before .before))))
+    let v = frame-at c in
+    let a = start (v .before .before) .args in
+    (named v, c .before .before .unpack .ensures ∙ sym (ap (λ (w : Verdict). handedOut w (a .buf .now)) (named v)))
 
 returns-3 : tie.Need-returns-3
 returns-3 c =
-    let a = c .before .before .before .before .before .before .before .args in (
+    let a = start (c .before) .args in (
       c .before .judge-run .ensures,
       sym (ap (λ (v : Verdict). handedOut v (a .buf .now)) (c .before .judge-run .ensures) ∙ stays Ascii (a .s .now) (a .buf .now) (c .before .judge-run .result)
           (λ used len e. ⊎-elim (λ (q : _). let z : _≡_ {A = ℕ} 2 0 = cc in omega arith) (λ q. let z : _≡_ {A = ℕ} 2 1 = cc in omega arith) (c .match .keys2))),

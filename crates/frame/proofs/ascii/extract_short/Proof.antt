@@ -5,48 +5,73 @@ use native.Mathlib.Nat.{add-sub-cancel-left}
 use native.Mathlib.Omega.{arith}
 use mathlib.Core.Logic.{⊎-elim}
 use mathlib.Core.List.{List, _++_}
-use mathlib.Core.Path.{_≡_, sym, ap, ap₂, _∙_}
+use mathlib.Core.Path.{_≡_, refl, sym, ap, ap₂, _∙_}
 use borrow.Author.Needs.{needs}
 use lib.ListN.{length, take, drop, length-drop}
 use lib.Seq.{paste, length-take-le}
 use Rattle.frame.specs.Checks.{Verdict}
-use Rattle.frame.specs.Hex.{sum, decoded}
+use Rattle.frame.specs.Hex.{sumOf}
 use Rattle.frame.specs.Ascii.{lineEnd, crLf}
 use Rattle.frame.specs.Framing.{judge}
+use Rattle.frame.specs.DigitRuns.{decoded}
 use Rattle.frame.specs.Judged.{verdictOf, handedOut}
 use Rattle.frame.specs.declared.framing.Framing.the-variants.{Ascii}
 use Rattle.frame.proofs.AsciiJudge.{line-all-digits, line-payload, line-return, judge-line}
 use Rattle.frame.proofs.AsciiLaws.{line-end-keeps}
 use Rattle.frame.proofs.AsciiShort.{short-long, short-sum, short-put, short-summed}
+use Rattle.frame.proofs.Copying.{copied, copied-at}
 use Rattle.frame.proofs.Framings.{stays}
 use Rattle.frame.proofs.ascii.extract_short.Statement.{statement}
 use Rattle.frame.proofs.ascii.extract_short.Tie as tie
 
+-- The start of the call, from where the digits were decoded.
+abbrev start : tie.After-decode-two → tie.Start
+start c = c .before .before .before .before
+
+-- Where they were decoded, from where the frame was told.
+abbrev digits-at : tie.After-enum-told → tie.After-decode-two
+digits-at c = c .before .before .before .before .before
+
+-- Where it was told, from the first copy.
+abbrev told : tie.After-copy → tie.After-enum-told
+told c = c .before .before .before
+
+-- The first copy, from the second.
+abbrev first-copy : tie.After-slice-known3 → tie.After-copy
+first-copy c = c .before .before .before .before .before .before .before
+
 -- The bytes of the first 32 digits and of the last 32.
-is : (c : tie.After-decode-two) → let a = c .before .before .before .before .args in let ds = take (a .count) (drop 1 (a .s .now)) in
+is : (c : tie.After-decode-two) → let a = start c .args in let ds = take (a .count) (drop 1 (a .s .now)) in
     c .decode-two .result ≡ decoded (take 32 ds) ++ decoded (take 32 (drop (a .count - 32) ds))
-is c = rw (add-sub-cancel-left 1 (c .before .before .before .before .args .count)) at (c .decode-two .ensures)
+is c = rw (add-sub-cancel-left 1 (start c .args .count)) at (c .decode-two .ensures)
 
 -- They are 32.
 long : (c : tie.After-decode-two) → length (c .decode-two .result) ≡ 32
 long c =
-    let a = c .before .before .before .before .args in
-    short-long (a .s .now) (a .count) (c .before .before .before .before .pre .1 .0) (c .decode-two .result) (is c)
+    let a = start c .args in
+    short-long (a .s .now) (a .count) (start c .pre .1 .0) (c .decode-two .result) (is c)
+
+-- The first 16 of them, and the 15 behind those.
+front-long : (c : tie.After-decode-two) → length (take 16 (c .decode-two .result)) ≡ 16
+front-long c = length-take-le 16 (c .decode-two .result) (omega (arith, long c))
+
+last-long : (c : tie.After-decode-two) → length (take 15 (drop 16 (c .decode-two .result))) ≡ 15
+last-long c = length-take-le 15 (drop 16 (c .decode-two .result)) (omega (arith, length-drop 16 (c .decode-two .result), long c))
 
 -- The sum of all bytes is made.
-total : (c : tie.After-sum-of-two) → let a = c .before .before .before .before .before .before .args in
-    c .sum-of-two .result ≡ sum (decoded (take (a .count) (drop 1 (a .s .now))))
+total : (c : tie.After-sum-of-two) → let a = start (c .before .before) .args in
+    c .sum-of-two .result ≡ sumOf (decoded (take (a .count) (drop 1 (a .s .now))))
 total c =
-    let a = c .before .before .before .before .before .before .args in
+    let a = start (c .before .before) .args in
     c .sum-of-two .ensures
-    ∙ short-sum (a .s .now) (a .count) (c .before .before .before .before .before .before .pre .1 .0) (c .before .before .decode-two .result) (is (c .before .before))
+    ∙ short-sum (a .s .now) (a .count) (start (c .before .before) .pre .1 .0) (c .before .before .decode-two .result) (is (c .before .before))
 
 -- The verdict on the whole.
-verdict : (c : tie.After-judge-end) → let a = c .before .before .before .before .before .before .before .args in
+verdict : (c : tie.After-judge-end) → let a = start (c .before .before .before) .args in
     judge Ascii (a .s .now) ≡ verdictOf Ascii (a .s .now) (c .judge-end .result)
 verdict c =
-    let a = c .before .before .before .before .before .before .before .args in
-    let h = c .before .before .before .before .before .before .before .pre .1 .0 in
+    let a = start (c .before .before .before) .args in
+    let h = start (c .before .before .before) .pre .1 .0 in
     judge-line crLf (a .s .now) (omega (arith, h .inside)) (h .start) ∙ c .judge-end .ensures
 
 add-end : tie.Need-add-end
@@ -76,68 +101,82 @@ slice-aggregate-whole : tie.Need-slice-aggregate-whole
 slice-aggregate-whole c = sym (long (c .before))
 
 sub-sum-of-two : tie.Need-sub-sum-of-two
-sub-sum-of-two c = omega (arith, c .before .before .before .before .before .pre .1 .0 .most)
+sub-sum-of-two c = omega (arith, start (c .before) .pre .1 .0 .most)
 
 sum-of-two-requires : tie.Need-sum-of-two-requires
 sum-of-two-requires c κs =
-    let h = c .before .before .before .before .before .pre .1 .0 in
+    let h = start (c .before) .pre .1 .0 in
     (long (c .before), (omega (arith, h .most), omega (arith, h .least)))
 
 judge-end-requires : tie.Need-judge-end-requires
 judge-end-requires c κs =
-    let s = c .before .before .before .before .before .before in
+    let s = start (c .before .before) in
     let h = s .pre .1 .0 in
     (s .pre .0, (omega (arith, h .least), (omega (arith, h .most), (h .even, (h .inside, (h .ends, total c))))))
 
 enum-told : tie.Need-enum-told
 enum-told c = search needs
 
-slice-aggregate-put : tie.Need-slice-aggregate-put
-slice-aggregate-put c = sym (length-take-le 16 (c .before .before .before .before .before .before .before .decode-two .result) (omega (arith, long (c .before .before .before .before .before .before .before))))
+slice-aggregate-copy : tie.Need-slice-aggregate-copy
+slice-aggregate-copy c = sym (front-long (digits-at (c .before)))
 
-put-requires : tie.Need-put-requires
-put-requires c κs = omega (arith, length-take-le 16 (c .before .before .before .before .before .before .before .decode-two .result) (omega (arith, long (c .before .before .before .before .before .before .before))))
+copy-requires : tie.Need-copy-requires
+copy-requires c κs = omega (arith, front-long (digits-at (c .before .before)))
 
-sub-put : tie.Need-sub-put
-sub-put c = omega (arith, c .before .before .before .before .before .before .before .before .before .before .before .before .before .before .before .pre .1 .0 .least)
+sub-copy : tie.Need-sub-copy
+sub-copy c = search needs
 
-sub-put-2 : tie.Need-sub-put-2
-sub-put-2 c = search needs
+part-copy-start : tie.Need-part-copy-start
+part-copy-start c = omega (arith, long (digits-at (told (c .before .before))))
 
-part-put-start : tie.Need-part-put-start
-part-put-start c = omega (arith, long (c .before .before .before .before .before .before .before .before .before .before .before))
+part-copy-end : tie.Need-part-copy-end
+part-copy-end c = omega (arith, long (digits-at (told (c .before .before))))
 
-part-put-end : tie.Need-part-put-end
-part-put-end c = omega (arith, long (c .before .before .before .before .before .before .before .before .before .before .before))
+sub-copy-2 : tie.Need-sub-copy-2
+sub-copy-2 c = omega (arith, start (digits-at (told (c .before .before .before))) .pre .1 .0 .least)
 
-put-requires-2 : tie.Need-put-requires-2
-put-requires-2 c κs = search needs
+sub-copy-3 : tie.Need-sub-copy-3
+sub-copy-3 c = omega (arith, start (digits-at (told (c .before .before .before))) .pre .1 .0 .most)
+
+part-copy-start-2 : tie.Need-part-copy-start-2
+part-copy-start-2 c = omega (arith, start (digits-at (told (c .before .before .before))) .pre .1 .0 .most)
+
+part-copy-end-2 : tie.Need-part-copy-end-2
+part-copy-end-2 c = search needs
+
+copy-requires-2 : tie.Need-copy-requires-2
+copy-requires-2 c κs =
+    let d = digits-at (told (c .before .before .before .before)) in
+    let h = start d .pre .1 .0 in
+    omega (arith, last-long d, h .least, h .most)
 
 same-length : tie.Need-same-length
 same-length c = search needs
 
 returns : tie.Need-returns
-returns c = let a = c .before .before .before .before .before .before .before .before .before .before .before .before .before .before .before .before .before .before .before .args in
+returns c =
+    let t = told (first-copy c) in
+    let d = digits-at t in
+    let a = start d .args in
+    let h = start d .pre .1 .0 in
     let s = a .s .now in
-    let two = c .before .before .before .before .before .before .before .before .before .before .before .before .before .before .before .decode-two .result in
-    let used = c .before .before .before .before .before .before .before .before .before .before .enum-told .given .0 .0 in
-    let len = c .before .before .before .before .before .before .before .before .before .before .enum-told .given .0 .1 .0 in
+    let two = d .decode-two .result in
+    let used = t .enum-told .given .0 .0 in
+    let len = t .enum-told .given .0 .1 .0 in
     let p : List ℕ = decoded (take (2 * len) (drop 1 s)) in
-    let h = c .before .before .before .before .before .before .before .before .before .before .before .before .before .before .before .before .before .before .before .pre .1 .0 in
-    let e = c .before .before .before .before .before .before .before .before .before .before .before .before .judge-end .ensures ∙ ap (verdictOf Ascii s) (c .before .before .before .before .before .before .before .before .before .before .enum-told .given .1) in
-    let front : length (take 16 two) ≡ 16 = length-take-le 16 two (omega (arith, long (c .before .before .before .before .before .before .before .before .before .before .before .before .before .before .before))) in
-    let last : length (take 15 (drop 16 two)) ≡ 15 = length-take-le 15 (drop 16 two) (omega (arith, length-drop 16 two, long (c .before .before .before .before .before .before .before .before .before .before .before .before .before .before .before))) in (
-      verdict (c .before .before .before .before .before .before .before .before .before .before .before .before),
-      c .before .before .put2 .ensures
-          ∙ ap₂ (λ (d : List ℕ) (k : ℕ). paste d (a .count / 2 - 16) (take 15 (drop 16 two)) k)
-          (c .before .before .before .before .before .before .before .put .ensures ∙ ap (paste (a .buf .now) 0 (take 16 two)) front) last
-          ∙ short-put s (a .count) h two (is (c .before .before .before .before .before .before .before .before .before .before .before .before .before .before .before)) (a .buf .now) p
-          (line-payload (short-summed s (a .count) (c .before .before .before .before .before .before .before .before .before .before .before .before .before .sum-of-two .result) (c .before .before .before .before .before .before .before .before .before .before .before .before .before .before .before .before .before .before .before .pre .0) h (total (c .before .before .before .before .before .before .before .before .before .before .before .before .before))) crLf lineEnd (line-return s (a .count) (h .ends)) line-end-keeps used p e)
-          ∙ sym (ap (λ (v : Verdict). handedOut v (a .buf .now)) (judge-line crLf s (omega (arith, h .inside)) (h .start) ∙ e)),
+    let v = t .before .before in
+    let e = v .judge-end .ensures ∙ ap (verdictOf Ascii s) (t .enum-told .given .1) in
+    let sums = short-summed s (a .count) (v .before .sum-of-two .result) (start d .pre .0) h (total (v .before)) in (
+      verdict v,
+      copied-at (first-copy c .copy .last .1 .0) (take 15 (drop 16 two)) _ (a .count / 2 - 16) _ refl (c .before .before .copy2 .ensures .1)
+          ∙ ap₂ (λ (b : List ℕ) (k : ℕ). paste b (a .count / 2 - 16) (take 15 (drop 16 two)) k)
+          (copied (a .buf .now) (take 16 two) _ (first-copy c .copy .ensures .1) ∙ ap (paste (a .buf .now) 0 (take 16 two)) (front-long d)) (last-long d)
+          ∙ short-put s (a .count) h two (is d) (a .buf .now) p (line-payload sums crLf lineEnd (line-return s (a .count) (h .ends)) line-end-keeps used p e)
+          ∙ sym (ap (λ (w : Verdict). handedOut w (a .buf .now)) (judge-line crLf s (omega (arith, h .inside)) (h .start) ∙ e)),
     )
 
 returns-2 : tie.Need-returns-2
-returns-2 c = let a = c .before .before .before .before .before .before .before .before .args in (
+returns-2 c = let a = start (c .before .before .before .before) .args in (
   verdict (c .before),
   sym
       (ap (λ (v : Verdict). handedOut v (a .buf .now)) (verdict (c .before))
@@ -161,13 +200,16 @@ extract-short-spec =
     sum-of-two-requires
     judge-end-requires
     enum-told
-    slice-aggregate-put
-    put-requires
-    sub-put
-    sub-put-2
-    part-put-start
-    part-put-end
-    put-requires-2
+    slice-aggregate-copy
+    copy-requires
+    sub-copy
+    part-copy-start
+    part-copy-end
+    sub-copy-2
+    sub-copy-3
+    part-copy-start-2
+    part-copy-end-2
+    copy-requires-2
     same-length
     returns
     returns-2)

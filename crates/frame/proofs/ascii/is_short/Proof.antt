@@ -7,6 +7,10 @@ use borrow.Author.Tests.{eqb-true}
 use Rattle.frame.proofs.ascii.is_short.Statement.{statement}
 use Rattle.frame.proofs.ascii.is_short.Tie as tie
 
+-- Where the digits are enough, from the last test.
+abbrev counted : tie.After-shared-slice-known2 → tie.Else1
+counted c = c .before .before .before .before .before .before
+
 returns : tie.Need-returns
 returns c = λ e. absurd (false≢true e)
 
@@ -37,7 +41,7 @@ shared-slice-read-result c = search needs
 returns-6 : tie.Need-returns-6
 returns-6 c = λ e.
     record {
-      least = omega (arith, c .before .before .before .before .before .before .if1 .left);
+      least = omega (arith, counted c .if1 .left);
       most = omega (arith, c .before .before .before .before .before .if2 .left);
       even = c .before .before .before .before .if3 .left;
       start = c .before .if5 .left;

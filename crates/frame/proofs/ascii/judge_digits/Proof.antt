@@ -6,12 +6,17 @@ use mathlib.Core.Logic.{inl, inr}
 use mathlib.Core.Path.{_∙_, ap}
 use borrow.Author.Needs.{needs}
 use lib.ListN.{take, drop}
-use Rattle.frame.specs.Hex.{sum, decoded}
+use Rattle.frame.specs.Hex.{sumOf}
 use Rattle.frame.specs.Ascii.{lineEnd, crLf}
+use Rattle.frame.specs.DigitRuns.{decoded}
 use Rattle.frame.proofs.DigitLaws.{counted}
 use Rattle.frame.proofs.AsciiJudge.{line-all-digits, line-many, line-short, Stopped, JudgesAt, line-character, line-return, line-count}
 use Rattle.frame.proofs.ascii.judge_digits.Statement.{statement}
 use Rattle.frame.proofs.ascii.judge_digits.Tie as tie
+
+-- The start of the call, from where the digits are lent.
+abbrev start : tie.After-pair-sum-arg → tie.Start
+start c = c .before .before .before .before .before .before .before .before
 
 -- A character stands behind the digits.
 stopped : (c : tie.Else2) → let a = c .before .before .before .args in Stopped (a .s .now) (a .count)
@@ -61,12 +66,12 @@ part-pair-sum-end : tie.Need-part-pair-sum-end
 part-pair-sum-end c = search needs
 
 pair-sum-requires : tie.Need-pair-sum-requires
-pair-sum-requires c κs = let a = c .before .before .before .before .before .before .before .before .args in (search needs, line-all-digits (a .s .now) (a .count) (c .before .before .before .before .before .before .before .before .pre .1))
+pair-sum-requires c κs = let a = start c .args in (search needs, line-all-digits (a .s .now) (a .count) (start c .pre .1))
 
 judge-end-requires : tie.Need-judge-end-requires
 judge-end-requires c κs =
-    let a = c .before .before .before .before .before .before .before .before .before .args in
-    let sum-is = c .pair-sum .ensures ∙ ap (λ (k : _). sum (decoded (take k (drop 1 (a .s .now))))) (add-sub-cancel-left 1 (a .count)) in
+    let a = start (c .before) .args in
+    let sum-is = c .pair-sum .ensures ∙ ap (λ (k : _). sumOf (decoded (take k (drop 1 (a .s .now))))) (add-sub-cancel-left 1 (a .count)) in
     (search needs, (search needs, (search needs, (search needs, (search needs, (search needs, sum-is))))))
 
 returns-6 : tie.Need-returns-6

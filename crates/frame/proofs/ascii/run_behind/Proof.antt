@@ -4,7 +4,7 @@ use native.Mathlib.Omega.{arith}
 use mathlib.Core.Path.{sym, ap, _∙_}
 use borrow.Author.Needs.{needs}
 use lib.ListN.{drop-of-length-le}
-use Rattle.frame.specs.Digit.{digitRun}
+use Rattle.frame.specs.DigitRuns.{digitRun}
 use Rattle.frame.proofs.Lists.{take-rest}
 use Rattle.frame.proofs.ascii.run_behind.Statement.{statement}
 use Rattle.frame.proofs.ascii.run_behind.Tie as tie

@@ -7,9 +7,13 @@ use mathlib.Core.Path.{ap, _∙_}
 use borrow.Author.Needs.{needs}
 use lib.ListN.{take, drop, length-take}
 use Rattle.frame.specs.Framing.{inFront}
-use Rattle.frame.specs.Hex.{decoded}
+use Rattle.frame.specs.DigitRuns.{decoded}
 use Rattle.frame.proofs.ascii.unpack.Statement.{statement}
 use Rattle.frame.proofs.ascii.unpack.Tie as tie
+
+-- The start of the call, from where the payload was decoded.
+abbrev start : tie.After-slice-known2 → tie.Start
+start c = c .before .before .before .before .before .before .before
 
 mul-decode : tie.Need-mul-decode
 mul-decode c = search needs
@@ -36,7 +40,7 @@ same-length c = search needs
 
 returns : tie.Need-returns
 returns c =
-    let a = c .before .before .before .before .before .before .before .args in
+    let a = start c .args in
     c .before .before .decode .ensures
     ∙ ap (λ (k : ℕ). inFront (decoded (take k (drop 1 (a .s .now)))) (a .buf .now)) (add-sub-cancel-left 1 (2 * a .len))
 

@@ -14,6 +14,10 @@ use Rattle.frame.proofs.Framings.{payload-named, stays}
 use Rattle.frame.proofs.binary.extract.Statement.{statement}
 use Rattle.frame.proofs.binary.extract.Tie as tie
 
+-- The start of the call, from where the payload is taken out.
+abbrev start : tie.After-unpack-arg → tie.Start
+start c = c .before .before .before .before .before .before .before
+
 -- The answer is a frame.
 named : (c : tie.After-verdict) → let s = c .before .before .before .before .before .args .s .now in
     judge Binary s ≡ verdictOf Binary s (Frame (c .verdict .given .0 .0) (c .verdict .given .0 .1 .0))
@@ -27,7 +31,8 @@ enum-known-verdict c = search needs
 
 unpack-requires : tie.Need-unpack-requires
 unpack-requires c κs =
-    let h = payload-named Binary (c .before .before .before .before .before .before .before .args .s .now) (c .before .before .verdict .given .0 .0) (c .before .before .verdict .given .0 .1 .0) (named (c .before .before)) in
+    let v = c .before .before in
+    let h = payload-named Binary (start c .args .s .now) (v .verdict .given .0 .0) (v .verdict .given .0 .1 .0) (named v) in
     (h .packed, omega (arith, h .most))
 
 same-length : tie.Need-same-length
@@ -35,8 +40,9 @@ same-length c = search needs
 
 returns : tie.Need-returns
 returns c =
-    let a = c .before .before .before .before .before .before .before .before .before .before .args in
-    (named (c .before .before .before .before .before), c .before .before .unpack .ensures ∙ sym (ap (λ (v : Verdict). handedOut v (a .buf .now)) (named (c .before .before .before .before .before))))
+    let v = c .before .before .before .before .before in
+    let a = start (c .before .before .before) .args in
+    (named v, c .before .before .unpack .ensures ∙ sym (ap (λ (w : Verdict). handedOut w (a .buf .now)) (named v)))
 
 returns-2 : tie.Need-returns-2
 returns-2 c =

@@ -11,9 +11,21 @@ use Rattle.frame.proofs.BinaryJudge.{judge-empty, judge-first, judge-on
 use Rattle.frame.proofs.binary.judge.Statement.{statement}
 use Rattle.frame.proofs.binary.judge.Tie as tie
 
+-- The start of the call, from where the first start byte is right.
+abbrev start : tie.Else2 → tie.Start
+start c = c .before .before .before .before
+
+-- Where the first start byte is right, from where both are.
+abbrev first-right : tie.Else4 → tie.Else2
+first-right c = c .before .before .before
+
+-- Where both are right, from where the length was read.
+abbrev both-right : tie.After-wide2 → tie.Else4
+both-right c = c .before .before .before .before .before
+
 -- The word is made of the bytes at 2 and 3.
 word-is : (c : tie.After-wide2) →
-    let s = c .before .before .before .before .before .before .before .before .before .before .before .before .args .s in
+    let s = start (first-right (both-right c)) .args .s in
     c .before .before .wide .result * 256 + c .wide2 .result ≡ getD (s .now) 2 0 * 256 + getD (s .now) 3 0
 word-is c = ap₂ (λ (a b : ℕ). a * 256 + b) (c .before .before .wide .ensures .0) (c .wide2 .ensures .0)
 
@@ -30,18 +42,19 @@ returns-2 c =
 
 returns-3 : tie.Need-returns-3
 returns-3 c =
-    judge-one footer (c .before .before .before .before .before .args .s .now) (c .before .if2 .left) (c .if3 .taken)
+    judge-one footer (start (c .before) .args .s .now) (c .before .if2 .left) (c .if3 .taken)
 
 shared-slice-read-if4 : tie.Need-shared-slice-read-if4
 shared-slice-read-if4 c = search needs
 
 returns-4 : tie.Need-returns-4
 returns-4 c =
-    judge-second footer (c .before .before .before .before .before .before .before .args .s .now) (c .before .before .before .if2 .left) (omega arith) (c .if4 .taken)
+    judge-second footer (start (c .before .before .before) .args .s .now) (c .before .before .before .if2 .left) (omega arith) (c .if4 .taken)
 
 returns-5 : tie.Need-returns-5
 returns-5 c =
-    judge-short footer (c .before .before .before .before .before .before .before .before .args .s .now) (c .before .before .before .before .if2 .left) (c .before .if4 .left) (omega arith) (c .if5 .taken)
+    let d = first-right (c .before) in
+    judge-short footer (start d .args .s .now) (d .if2 .left) (c .before .if4 .left) (omega arith) (c .if5 .taken)
 
 shared-slice-read-wide : tie.Need-shared-slice-read-wide
 shared-slice-read-wide c = search needs
@@ -65,13 +78,19 @@ add-word c =
 
 returns-6 : tie.Need-returns-6
 returns-6 c =
-    judge-length footer (c .before .before .before .before .before .before .before .before .before .before .before .before .before .args .s .now) (c .before .before .before .before .before .before .before .before .before .if2 .left) (c .before .before .before .before .before .before .if4 .left)
-    (c .before .before .before .wide .result * 256 + c .before .wide2 .result) (word-is (c .before)) (c .before .before .before .before .before .if5 .left) (inl (c .if6 .taken))
+    let w = c .before in
+    let b = both-right w in
+    let d = first-right b in
+    judge-length footer (start d .args .s .now) (d .if2 .left) (b .if4 .left)
+    (w .before .before .wide .result * 256 + w .wide2 .result) (word-is w) (w .before .before .before .before .if5 .left) (inl (c .if6 .taken))
 
 returns-7 : tie.Need-returns-7
 returns-7 c =
-    judge-length footer (c .before .before .before .before .before .before .before .before .before .before .before .before .before .before .args .s .now) (c .before .before .before .before .before .before .before .before .before .before .if2 .left) (c .before .before .before .before .before .before .before .if4 .left)
-    (c .before .before .before .before .wide .result * 256 + c .before .before .wide2 .result) (word-is (c .before .before)) (c .before .before .before .before .before .before .if5 .left) (inr (c .if7 .taken))
+    let w = c .before .before in
+    let b = both-right w in
+    let d = first-right b in
+    judge-length footer (start d .args .s .now) (d .if2 .left) (b .if4 .left)
+    (w .before .before .wide .result * 256 + w .wide2 .result) (word-is w) (w .before .before .before .before .if5 .left) (inr (c .if7 .taken))
 
 sub-judge-body : tie.Need-sub-judge-body
 sub-judge-body c = search needs
@@ -81,8 +100,11 @@ judge-body-requires c κs = search needs
 
 returns-8 : tie.Need-returns-8
 returns-8 c =
-    judge-rest footer (c .before .before .before .before .before .before .before .before .before .before .before .before .before .before .before .args .s .now) (c .before .before .before .before .before .before .before .before .before .before .before .if2 .left) (c .before .before .before .before .before .before .before .before .if4 .left)
-    (c .before .before .before .before .before .wide .result * 256 + c .before .before .before .wide2 .result) (word-is (c .before .before .before)) (c .before .before .before .before .before .before .before .if5 .left) (c .before .before .if6 .left) (c .before .if7 .left)
+    let w = c .before .before .before in
+    let b = both-right w in
+    let d = first-right b in
+    judge-rest footer (start d .args .s .now) (d .if2 .left) (b .if4 .left)
+    (w .before .before .wide .result * 256 + w .wide2 .result) (word-is w) (w .before .before .before .before .if5 .left) (c .before .before .if6 .left) (c .before .if7 .left)
     ∙ c .judge-body .ensures
 
 pub judge-spec : {M : Type 1} → statement M

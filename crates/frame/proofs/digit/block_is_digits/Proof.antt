@@ -9,13 +9,13 @@ use borrow.Author.Needs.{needs}
 use native.Mathlib.Omega.{arith}
 use lib.ListN.{take, drop}
 use Rattle.frame.specs.Digit.{isDigit}
-use Rattle.frame.specs.Judged.{every}
-use Rattle.frame.proofs.Lists.{every-next}
+use Rattle.frame.specs.DigitRuns.{allPass}
+use Rattle.frame.proofs.Lists.{all-pass-next}
 use Rattle.frame.proofs.digit.block_is_digits.Statement.{statement}
 use Rattle.frame.proofs.digit.block_is_digits.Tie as tie
 
 abbrev Inv-loop : tie.InvT-loop
-Inv-loop s at ok₀ i₀ ok i = (i ≤ 16) × (ok && every isDigit (take (16 - i) (drop (at + i) s)) ≡ every isDigit (take 16 (drop at s)))
+Inv-loop s at ok₀ i₀ ok i = (i ≤ 16) × (ok && allPass isDigit (take (16 - i) (drop (at + i) s)) ≡ allPass isDigit (take 16 (drop at s)))
 
 abbrev μ-loop : tie.MeasureT-loop
 μ-loop s at ok₀ i₀ ok i = 16 - i
@@ -42,10 +42,10 @@ loop-again : tie.Need-loop-again Inv-loop μ-loop
 loop-again c =
     let a = c .before .before .before .before .before .args in
     let l = c .before .before .before .loop in
-    let rest = every isDigit (take (16 - (l .i + 1)) (drop (a .at + (l .i + 1)) (a .s .now))) in (
+    let rest = allPass isDigit (take (16 - (l .i + 1)) (drop (a .at + (l .i + 1)) (a .s .now))) in (
       omega arith,
       ap (λ (b : Bool). (l .ok && b) && rest) (c .is-digit .ensures)
-          ∙ every-next isDigit (l .ok) 16 (l .i) (a .at) (a .s .now) (omega arith) (omega arith)
+          ∙ all-pass-next isDigit (l .ok) 16 (l .i) (a .at) (a .s .now) (omega arith) (omega arith)
           ∙ l .inv .1,
     )
 
@@ -55,7 +55,7 @@ returns c =
     let l = c .before .loop in
     let all : 16 - l .i ≡ 0 = omega arith in
     sym (and-true (l .ok))
-    ∙ ap (λ (n : ℕ). l .ok && every isDigit (take n (drop (a .at + l .i) (a .s .now)))) (sym all)
+    ∙ ap (λ (n : ℕ). l .ok && allPass isDigit (take n (drop (a .at + l .i) (a .s .now)))) (sym all)
     ∙ l .inv .1
 
 pub block-is-digits-spec : {M : Type 1} → statement M

@@ -7,7 +7,7 @@ use borrow.Author.Tests.{not-true, not-false}
 use borrow.Author.Needs.{needs}
 use native.Mathlib.Omega.{arith}
 use lib.ListN.{length, drop}
-use Rattle.frame.specs.Digit.{digitRun}
+use Rattle.frame.specs.DigitRuns.{digitRun}
 use Rattle.frame.proofs.DigitLaws.{run-on}
 use Rattle.frame.proofs.digit.block_run.Statement.{statement}
 use Rattle.frame.proofs.digit.block_run.Tie as tie

@@ -6,7 +6,7 @@ use mathlib.Core.Logic.{⊎-elim}
 use native.Mathlib.Omega.{arith}
 use lib.ListN.{length, take, length-take}
 use lib.Seq.{length-take-le}
-use Rattle.frame.specs.Digit.{digitRun}
+use Rattle.frame.specs.DigitRuns.{digitRun}
 use Rattle.frame.proofs.Words.{run-cut}
 use Rattle.frame.proofs.digit.digit_run.Statement.{statement}
 use Rattle.frame.proofs.digit.digit_run.Tie as tie

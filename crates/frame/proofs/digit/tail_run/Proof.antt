@@ -8,7 +8,7 @@ use borrow.Author.Tests.{not-true, not-false}
 use borrow.Author.Needs.{needs}
 use native.Mathlib.Omega.{arith}
 use lib.ListN.{length, drop, drop-of-length-le}
-use Rattle.frame.specs.Digit.{digitRun}
+use Rattle.frame.specs.DigitRuns.{digitRun}
 use Rattle.frame.proofs.DigitLaws.{run-step, run-end}
 use Rattle.frame.proofs.digit.tail_run.Statement.{statement}
 use Rattle.frame.proofs.digit.tail_run.Tie as tie
@@ -18,6 +18,10 @@ Inv-loop s from i₀ i = (i ≤ length s) × (i + digitRun (515 - i) (drop i s) 
 
 abbrev μ-loop : tie.MeasureT-loop
 μ-loop s from i₀ i = length s - i
+
+-- The start of the call, from where the character was tested.
+abbrev start : tie.After-is-digit Inv-loop μ-loop → tie.Start Inv-loop μ-loop
+start c = c .before .before .before .before .before
 
 loop-holds : tie.Need-loop-holds Inv-loop μ-loop
 loop-holds c = (omega arith, refl)
@@ -31,7 +35,7 @@ is-digit-requires c κs = search needs
 returns : tie.Need-returns Inv-loop μ-loop
 returns c =
     let l = c .before .before .before .before .loop in
-    let s = c .before .before .before .before .before .before .args .s .now in
+    let s = start (c .before) .args .s .now in
     omega (arith, run-step false 515 (l .i) s (omega arith) (omega arith) (sym (c .before .is-digit .ensures) ∙ not-true _ (c .if1 .taken)))
 
 add-i : tie.Need-add-i Inv-loop μ-loop
@@ -43,7 +47,7 @@ loop-less c = omega arith
 loop-again : tie.Need-loop-again Inv-loop μ-loop
 loop-again c =
     let l = c .before .before .before .before .loop in
-    let s = c .before .before .before .before .before .before .args .s .now in
+    let s = start (c .before) .args .s .now in
     omega (arith, run-step true 515 (l .i) s (omega arith) (omega arith) (sym (c .before .is-digit .ensures) ∙ not-false _ (c .if1 .left)))
 
 returns-2 : tie.Need-returns-2 Inv-loop μ-loop

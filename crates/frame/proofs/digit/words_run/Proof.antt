@@ -6,7 +6,7 @@ use borrow.Author.Needs.{needs}
 use native.Mathlib.Omega.{arith}
 use lib.ListN.{drop}
 use lib.Seq.{drop-drop}
-use Rattle.frame.specs.Digit.{digitRun}
+use Rattle.frame.specs.DigitRuns.{digitRun}
 use Rattle.frame.proofs.Words.{run-two, run-two-small}
 use Rattle.frame.proofs.digit.words_run.Statement.{statement}
 use Rattle.frame.proofs.digit.words_run.Tie as tie

@@ -7,13 +7,14 @@ use borrow.Author.Needs.{needs}
 use native.Mathlib.Nat.{add-zero}
 use native.Mathlib.Omega.{arith}
 use lib.ListN.{drop}
-use Rattle.frame.specs.Hex.{sum, decoded}
+use Rattle.frame.specs.Hex.{sumOf}
+use Rattle.frame.specs.DigitRuns.{decoded}
 use Rattle.frame.proofs.HexLaws.{decoded-next}
 use Rattle.frame.proofs.hex.block_sum.Statement.{statement}
 use Rattle.frame.proofs.hex.block_sum.Tie as tie
 
 abbrev Inv-loop : tie.InvT-loop
-Inv-loop s at n₀ i₀ n i = (i ≤ 8) × (n ≤ 255 * i) × (n + sum (decoded (drop (at + 2 * i) s)) ≡ sum (decoded (drop at s)))
+Inv-loop s at n₀ i₀ n i = (i ≤ 8) × (n ≤ 255 * i) × (n + sumOf (decoded (drop (at + 2 * i) s)) ≡ sumOf (decoded (drop at s)))
 
 abbrev μ-loop : tie.MeasureT-loop
 μ-loop s at n₀ i₀ n i = 8 - i
@@ -47,7 +48,7 @@ loop-again c =
     let a = c .before .before .before .before .args in
     let i = c .before .before .loop .i in
     let two : a .at + 2 * (i + 1) ≡ a .at + 2 * i + 2 = omega arith in
-    (omega arith, omega arith, rw two (omega (arith, ap sum (decoded-next (a .s .now) (a .at + 2 * i) (omega arith)))))
+    (omega arith, omega arith, rw two (omega (arith, ap sumOf (decoded-next (a .s .now) (a .at + 2 * i) (omega arith)))))
 
 returns : tie.Need-returns Inv-loop μ-loop
 returns c =

@@ -5,13 +5,13 @@ use Prim.Native.Nat.{_+_, _-_, _*_, _≤_}
 use mathlib.Core.Path.{_≡_, ap}
 use native.Mathlib.Omega.{arith}
 use lib.ListN.{length, drop, drop-of-length-le}
-use Rattle.frame.specs.Hex.{sum}
+use Rattle.frame.specs.Hex.{sumOf}
 use Rattle.frame.proofs.Lists.{drop-next}
 use Rattle.frame.proofs.hex.byte_sum.Statement.{statement}
 use Rattle.frame.proofs.hex.byte_sum.Tie as tie
 
 abbrev Inv-loop : tie.InvT-loop
-Inv-loop s n₀ i₀ n i = (i ≤ length s) × (n ≤ 255 * i) × (n + sum (drop i s) ≡ sum s)
+Inv-loop s n₀ i₀ n i = (i ≤ length s) × (n ≤ 255 * i) × (n + sumOf (drop i s) ≡ sumOf s)
 
 abbrev μ-loop : tie.MeasureT-loop
 μ-loop s n₀ i₀ n i = length s - i
@@ -38,10 +38,10 @@ loop-again : tie.Need-loop-again Inv-loop μ-loop
 loop-again c =
     let i = c .before .before .loop .i in
     let s = c .before .before .before .args .s .now in
-    omega (arith, c .shared-slice-known .given i, ap sum (drop-next s i (omega arith)))
+    omega (arith, c .shared-slice-known .given i, ap sumOf (drop-next s i (omega arith)))
 
 returns : tie.Need-returns Inv-loop μ-loop
-returns c = omega (arith, ap sum (drop-of-length-le (c .before .before .args .s .now) (c .loop-test .left)))
+returns c = omega (arith, ap sumOf (drop-of-length-le (c .before .before .args .s .now) (c .loop-test .left)))
 
 pub byte-sum-spec : {M : Type 1} → statement M
 byte-sum-spec =

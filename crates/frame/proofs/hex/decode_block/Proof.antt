@@ -7,7 +7,7 @@ use borrow.Author.Needs.{needs}
 use native.Mathlib.Omega.{arith}
 use lib.ListN.{length, take, drop, replicate, length-set, length-replicate}
 use lib.Seq.{take-all}
-use Rattle.frame.specs.Hex.{decoded}
+use Rattle.frame.specs.DigitRuns.{decoded}
 use Rattle.frame.proofs.Lists.{wrote-next}
 use Rattle.frame.proofs.HexLaws.{block-at, length-block}
 use Rattle.frame.proofs.hex.decode_block.Statement.{statement}

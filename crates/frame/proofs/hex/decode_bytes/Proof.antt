@@ -8,7 +8,7 @@ use borrow.Author.Needs.{needs}
 use native.Mathlib.Omega.{arith}
 use lib.ListN.{length, take, drop, length-set}
 use lib.Seq.{take-length}
-use Rattle.frame.specs.Hex.{decoded}
+use Rattle.frame.specs.DigitRuns.{decoded}
 use Rattle.frame.proofs.Lists.{wrote-next}
 use Rattle.frame.proofs.HexLaws.{decoded-at, length-decoded}
 use Rattle.frame.proofs.hex.decode_bytes.Statement.{statement}

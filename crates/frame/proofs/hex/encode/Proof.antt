@@ -17,6 +17,14 @@ Inv-loop dst₀ at src i₀ dst i = (i ≤ length src) × (length dst ≡ length
 abbrev μ-loop : tie.MeasureT-loop
 μ-loop dst₀ at src i₀ dst i = length src - i
 
+-- The start of the call, from the loop's turn.
+abbrev start : tie.At-loop Inv-loop μ-loop → tie.Start Inv-loop μ-loop
+start c = c .before .before .before
+
+-- The loop's turn, from its end.
+abbrev turn : tie.After-slice-known2 Inv-loop μ-loop → tie.At-loop Inv-loop μ-loop
+turn c = c .before .before .before .before .before .before
+
 loop-holds : tie.Need-loop-holds Inv-loop μ-loop
 loop-holds c = let a = c .before .before .args in (omega arith, refl, paste-zero (a .dst .now) (a .at) (hex (a .src .now)))
 
@@ -40,8 +48,8 @@ loop-less c = omega arith
 
 loop-again : tie.Need-loop-again Inv-loop μ-loop
 loop-again c =
-    let a = c .before .before .before .before .before .before .before .before .before .args in
-    let i = c .before .before .before .before .before .before .loop .i in
+    let a = start (turn c) .args in
+    let i = turn c .loop .i in
     (omega arith, omega arith, cc (hexed-next (a .dst .now) (a .src .now) (a .at) i (omega arith) (omega arith)))
 
 same-length : tie.Need-same-length Inv-loop μ-loop
@@ -49,7 +57,7 @@ same-length c = omega arith
 
 returns : tie.Need-returns Inv-loop μ-loop
 returns c =
-    let a = c .before .before .before .before .args in
+    let a = start (c .before) .args in
     let all : c .before .loop .i ≡ length (a .src .now) = omega arith in
     cc (hexed-all (a .dst .now) (a .src .now) (a .at))
 

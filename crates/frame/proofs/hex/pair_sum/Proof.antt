@@ -6,25 +6,30 @@ use mathlib.Core.Path.{_≡_, ap, _∙_}
 use borrow.Author.Needs.{needs}
 use native.Mathlib.Omega.{arith}
 use lib.ListN.{length, drop}
-use Rattle.frame.specs.Hex.{sum, decoded}
+use Rattle.frame.specs.Hex.{sumOf}
+use Rattle.frame.specs.DigitRuns.{decoded}
 use Rattle.frame.proofs.HexLaws.{sum-block}
 use Rattle.frame.proofs.hex.pair_sum.Statement.{statement}
 use Rattle.frame.proofs.hex.pair_sum.Tie as tie
 
 abbrev Inv-loop : tie.InvT-loop
-Inv-loop s n₀ i₀ n i = (i ≤ length s) × (n ≤ 255 * i) × (n + sum (decoded (drop i s)) ≡ sum (decoded s))
+Inv-loop s n₀ i₀ n i = (i ≤ length s) × (n ≤ 255 * i) × (n + sumOf (decoded (drop i s)) ≡ sumOf (decoded s))
 
 abbrev μ-loop : tie.MeasureT-loop
 μ-loop s n₀ i₀ n i = length s - i
 
+-- The start of the call, from where a block's sum was made.
+abbrev start : tie.After-byte-sum Inv-loop μ-loop → tie.Start Inv-loop μ-loop
+start c = c .before .before .before .before .before .before
+
 -- The sum of the block.
-block-is : (c : tie.After-byte-sum Inv-loop μ-loop) → let s = c .before .before .before .before .before .before .args .s .now in
+block-is : (c : tie.After-byte-sum Inv-loop μ-loop) → let s = start c .args .s .now in
     let i = c .before .before .before .before .loop .i in
-    (c .byte-sum .result + sum (decoded (drop (i + 32) s)) ≡ sum (decoded (drop i s))) × (c .byte-sum .result ≤ 4080)
+    (c .byte-sum .result + sumOf (decoded (drop (i + 32) s)) ≡ sumOf (decoded (drop i s))) × (c .byte-sum .result ≤ 4080)
 block-is c =
-    let s = c .before .before .before .before .before .before .args .s .now in
+    let s = start c .args .s .now in
     let i = c .before .before .before .before .loop .i in
-    let is = c .byte-sum .ensures ∙ ap sum (c .before .before .decode-block .ensures) in
+    let is = c .byte-sum .ensures ∙ ap sumOf (c .before .before .decode-block .ensures) in
     omega (arith, is, sum-block s i (omega arith))
 
 loop-holds : tie.Need-loop-holds Inv-loop μ-loop

@@ -5,7 +5,7 @@ use native.Mathlib.Omega.{arith}
 use mathlib.Core.Path.{sym, ap, ap₂, _∙_}
 use borrow.Author.Needs.{needs}
 use lib.Seq.{length-take-le}
-use Rattle.frame.specs.Hex.{sum}
+use Rattle.frame.specs.Hex.{sumOf}
 use Rattle.frame.proofs.Lists.{take-rest}
 use Rattle.frame.proofs.HexLaws.{sum-most, sum-split}
 use Rattle.frame.proofs.Words.{bytes-by}
@@ -34,12 +34,12 @@ add-result : tie.Need-add-result
 add-result c = let s = c .before .before .before .before .before .args .two .now in
     let from = c .before .before .before .before .before .args .from in
     let most = sum-most s (bytes-by s (λ i. omega (arith, c .before .before .before .before .shared-slice-known .given i))) in
-    let rest = ap sum (take-rest s from) in
+    let rest = ap sumOf (take-rest s from) in
     omega (arith, c .before .before .byte-sum .ensures, c .byte-sum2 .ensures ∙ rest, sum-split 16 s, sum-split from s, most, c .before .before .before .before .before .pre .0)
 
 returns : tie.Need-returns
 returns c = let s = c .before .before .before .before .before .args .two .now in
-    ap₂ (λ (x y : _). x + y) (c .before .before .byte-sum .ensures) (c .byte-sum2 .ensures ∙ ap sum (take-rest s (c .before .before .before .before .before .args .from)))
+    ap₂ (λ (x y : _). x + y) (c .before .before .byte-sum .ensures) (c .byte-sum2 .ensures ∙ ap sumOf (take-rest s (c .before .before .before .before .before .args .from)))
 
 pub sum-of-two-spec : {M : Type 1} → statement M
 sum-of-two-spec =

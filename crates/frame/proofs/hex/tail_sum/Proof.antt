@@ -6,13 +6,14 @@ use mathlib.Core.Path.{_≡_, ap}
 use borrow.Author.Needs.{needs}
 use native.Mathlib.Omega.{arith}
 use lib.ListN.{length, drop, length-drop}
-use Rattle.frame.specs.Hex.{sum, decoded}
+use Rattle.frame.specs.Hex.{sumOf}
+use Rattle.frame.specs.DigitRuns.{decoded}
 use Rattle.frame.proofs.HexLaws.{decoded-next, decoded-short}
 use Rattle.frame.proofs.hex.tail_sum.Statement.{statement}
 use Rattle.frame.proofs.hex.tail_sum.Tie as tie
 
 abbrev Inv-loop : tie.InvT-loop
-Inv-loop s from n₀ i₀ n i = (i ≤ length s) × (n + 255 * from ≤ 255 * i) × (n + sum (decoded (drop i s)) ≡ sum (decoded (drop from s)))
+Inv-loop s from n₀ i₀ n i = (i ≤ length s) × (n + 255 * from ≤ 255 * i) × (n + sumOf (decoded (drop i s)) ≡ sumOf (decoded (drop from s)))
 
 abbrev μ-loop : tie.MeasureT-loop
 μ-loop s from n₀ i₀ n i = length s - i
@@ -42,13 +43,13 @@ loop-again : tie.Need-loop-again Inv-loop μ-loop
 loop-again c =
     let i = c .before .before .loop .i in
     let s = c .before .before .before .before .args .s .now in
-    omega (arith, ap sum (decoded-next s i (omega arith)))
+    omega (arith, ap sumOf (decoded-next s i (omega arith)))
 
 returns : tie.Need-returns Inv-loop μ-loop
 returns c =
     let i = c .before .loop .i in
     let s = c .before .before .before .args .s .now in
-    omega (arith, ap sum (decoded-short (drop i s) (simp length-drop (omega arith))))
+    omega (arith, ap sumOf (decoded-short (drop i s) (simp length-drop (omega arith))))
 
 pub tail-sum-spec : {M : Type 1} → statement M
 tail-sum-spec =

@@ -12,25 +12,34 @@ use borrow.Author.Needs.{needs}
 use Rattle.frame.proofs.reader.feed_chunk.Statement.{statement}
 use Rattle.frame.proofs.reader.feed_chunk.Tie as tie
 
+-- The start of the call, from the scan.
+abbrev start : tie.After-find → tie.Start
+start c = c .before .before .before .before .before
+
+-- The scan, from the return.
+abbrev scan-at : tie.After-slice-known4 → tie.After-find
+scan-at c = c .before .before .before .before .before .before .before
+
 -- All places of the chunk were scanned.
-is : (x : tie.After-find) → let a = x .before .before .before .before .before .args in
+is : (x : tie.After-find) → let a = start x .args in
     scanned (a .framing) (a .chunk .now) (x .find .result) ≡ scanFrom (judging false (a .framing)) (length (a .chunk .now)) 0 (a .reach) (a .chunk .now)
-is x = let a = x .before .before .before .before .before .args in from-first false (a .framing) (length (a .chunk .now)) (a .reach) (a .chunk .now) _ (x .find .ensures .0)
+is x = let a = start x .args in from-first false (a .framing) (length (a .chunk .now)) (a .reach) (a .chunk .now) _ (x .find .ensures .0)
 
 find-requires : tie.Need-find-requires
 find-requires c κs = search needs
 
 answer-requires : tie.Need-answer-requires
 answer-requires c κs =
-    let a = c .before .before .before .before .before .before .before .before .args in
+    let x = c .before .before .before in
+    let a = start x .args in
     let s = a .chunk .now in
-    let p = c .before .before .before .before .before .before .before .before .pre in
-    answerable (a .framing) s (length s) (a .reach) (scanned (a .framing) s (c .before .before .before .find .result)) _ (le-refl (length s)) (p .reached) (p .near)
-    (is (c .before .before .before)) zero-le (p .small)
+    let p = start x .pre in
+    answerable (a .framing) s (length s) (a .reach) (scanned (a .framing) s (x .find .result)) _ (le-refl (length s)) (p .reached) (p .near)
+    (is x) zero-le (p .small)
 
 keep-requires : tie.Need-keep-requires
 keep-requires c κs =
-    let k = c .answer .ensures in (k .inside, k .there, omega (arith, k .most, c .before .before .before .before .before .before .before .before .before .pre .long))
+    let k = c .answer .ensures in (k .inside, (k .there, omega (arith, k .most, start (c .before .before .before .before) .pre .long)))
 
 same-length : tie.Need-same-length
 same-length c = search needs
@@ -40,10 +49,12 @@ same-length-2 c = search needs
 
 returns : tie.Need-returns
 returns c =
-    let a = c .before .before .before .before .before .before .before .before .before .before .before .before .args in
+    let x = scan-at c in
+    let a = start x .args in
     let s = a .chunk .now in
-    chunk-leaves (a .framing) s (a .noise) (a .reach) (scanned (a .framing) s (c .before .before .before .before .before .before .before .find .result)) (c .before .before .before .answer .result) (a .buf .now) _ _ _
-    (is (c .before .before .before .before .before .before .before)) (c .before .before .before .answer .ensures) (c .before .before .before .before .before .before .before .find .ensures .1) (c .before .before .keep .ensures)
+    let answered = c .before .before .before .answer in
+    chunk-leaves (a .framing) s (a .noise) (a .reach) (scanned (a .framing) s (x .find .result)) (answered .result) (a .buf .now) _ _ _
+    (is x) (answered .ensures) (x .find .ensures .1) (c .before .before .keep .ensures)
 
 pub feed-chunk-spec : {M : Type 1} → statement M
 feed-chunk-spec =

@@ -10,7 +10,9 @@ use mathlib.Core.Path.{_≡_, sym, ap, _∙_, subst}
 use lib.ListN.{length, take, drop, length-append, length-take}
 use lib.Seq.{length-take-le}
 use Rattle.frame.specs.Framing.{limit}
-use Rattle.frame.specs.Scan.{judging, Stop, stopOf, stopBuffer, scanFrom, scanned, scanWhole, Leaves}
+use Rattle.frame.specs.Scan.{judging, Stop, stopOf, stopBuffer, scanFrom, scanned}
+use Rattle.frame.specs.Answer.{scanWhole}
+use Rattle.frame.specs.Feeding.{Leaves}
 use Rattle.frame.specs.declared.scan.ScanEnd.the-variants.{Passed}
 use Rattle.frame.proofs.Framings.{limit-most}
 use Rattle.frame.proofs.Scanning.{ScanFacts, scan-facts}
@@ -18,6 +20,25 @@ use Rattle.frame.proofs.Readers.{answerable, from-first, passed-end, lo
 use borrow.Author.Needs.{needs}
 use Rattle.frame.proofs.reader.feed_long.Statement.{statement}
 use Rattle.frame.proofs.reader.feed_long.Tie as tie
+
+-- The start of the call, from where the bytes were joined.
+abbrev start : tie.After-join → tie.Start
+start c = c .before .before .before .before .before
+
+-- Where they were joined, from where they were scanned.
+abbrev joined-at : tie.After-find → tie.After-join
+joined-at c = c .before .before .before .before .before
+
+-- Where they were scanned: from where the chunk is fed behind them, and from where the rest was kept.
+abbrev scan-at : tie.After-feed-chunk-arg2 → tie.After-find
+scan-at c = c .before .before .before .before .before .before
+
+abbrev kept-at : tie.After-slice-known6 → tie.After-find
+kept-at c = c .before .before .before .before .before .before .before .before
+
+-- Where the chunk is fed, from its return.
+abbrev fed-at : tie.After-slice-known5 → tie.After-feed-chunk-arg2
+fed-at c = c .before .before .before .before .before
 
 -- The held bytes are there.
 count-there : (c : tie.Start) → c .args .count ≤ length (c .args .held .now)
@@ -27,36 +48,36 @@ held-size : (c : tie.Start) → length (take (c .args .count) (c .args .held .no
 held-size c = length-take-le (c .args .count) (c .args .held .now) (count-there c)
 
 -- The joined bytes are those held and as many of the chunk as a frame can have.
-joined-size : (j : tie.After-join) → let a = j .before .before .before .before .before .args in
+joined-size : (j : tie.After-join) → let a = start j .args in
     length (take (j .join .result .size) (j .join .result .bytes)) ≡ a .count + min (limit (a .framing)) (length (a .chunk .now))
-joined-size j = let a = j .before .before .before .before .before .args in
+joined-size j = let a = start j .args in
     ap length (j .join .ensures .bytes)
     ∙ length-append (take (a .count) (a .held .now)) (take (limit (a .framing)) (a .chunk .now))
-    ∙ (λ i. held-size (j .before .before .before .before .before) i + length-take (limit (a .framing)) (a .chunk .now) i)
+    ∙ (λ i. held-size (start j) i + length-take (limit (a .framing)) (a .chunk .now) i)
 
 -- The held bytes' places were scanned.
 is : (x : tie.After-find) →
-    let a = x .before .before .before .before .before .before .before .before .before .before .args in
-    let j = x .before .before .before .before .before .join in
+    let a = start (joined-at x) .args in
+    let j = joined-at x .join in
     let w = take (j .result .size) (j .result .bytes) in
     scanned (a .framing) w (x .find .result) ≡ scanFrom (judging false (a .framing)) (a .count) 0 (a .count) w
-is x = let a = x .before .before .before .before .before .before .before .before .before .before .args in from-first false (a .framing) (a .count) (a .count) _ _ (x .find .ensures .0)
+is x = let a = start (joined-at x) .args in from-first false (a .framing) (a .count) (a .count) _ _ (x .find .ensures .0)
 
 facts : (x : tie.After-find) →
-    let a = x .before .before .before .before .before .before .before .before .before .before .args in
-    let j = x .before .before .before .before .before .join in
+    let a = start (joined-at x) .args in
+    let j = joined-at x .join in
     let w = take (j .result .size) (j .result .bytes) in
     ScanFacts false (a .framing) w (a .count) (a .count) (scanned (a .framing) w (x .find .result))
 facts x =
-    let a = x .before .before .before .before .before .before .before .before .before .before .args in
-    let long = joined-size (x .before .before .before .before .before) in
+    let a = start (joined-at x) .args in
+    let long = joined-size (joined-at x) in
     scan-facts false (a .framing) _ (a .count) (a .count) (omega (arith, long)) (omega (arith, long)) _ (is x)
 
 -- Where the scan did not pass, its end says so.
 not-passed : (m : tie.At-match-keys2) → m .before .before .before .find .result .end ≡ Passed → ⊥
 not-passed m e = ⊎-elim (λ (q : _). let z : _≡_ {A = ℕ} 2 0 = cc in omega arith) (λ q. let z : _≡_ {A = ℕ} 2 1 = cc in omega arith) (m .match .keys2)
 
-reach-far : (x : tie.After-find) → x .before .before .before .before .before .before .before .before .before .before .args .count ≤ x .find .result .reach
+reach-far : (x : tie.After-find) → start (joined-at x) .args .count ≤ x .find .result .reach
 reach-far x = facts x .far
 
 slice-reshare-prefix-join : tie.Need-slice-reshare-prefix-join
@@ -79,7 +100,7 @@ slice-aggregate-w c =
 find-requires : tie.Need-find-requires
 find-requires c κs =
     let long = joined-size (c .before .before .before .before) in
-    (zero-le, omega (arith, long), omega (arith, long), c .before .before .before .before .before .before .before .before .before .pre .room)
+    (zero-le, (omega (arith, long), (omega (arith, long), start (c .before .before .before .before) .pre .room)))
 
 enum-told : tie.Need-enum-told
 enum-told c = search needs
@@ -89,16 +110,17 @@ sub-feed-chunk c = reach-far (c .before .before .before .before .before)
 
 feed-chunk-requires : tie.Need-feed-chunk-requires
 feed-chunk-requires c κs =
-    let a = c .before .before .before .before .before .before .before .before .before .before .before .before .before .before .before .before .args in
-    let p = c .before .before .before .before .before .before .before .before .before .before .before .before .before .before .before .before .pre in
-    let h = facts (c .before .before .before .before .before .before) in
-    let long = joined-size (c .before .before .before .before .before .before .before .before .before .before .before) in
+    let x = scan-at c in
+    let s = start (joined-at x) in
+    let p = s .pre in
+    let h = facts x in
+    let long = joined-size (joined-at x) in
     record {
       long = p .long;
       reached = omega (arith, h .there, long);
       near = omega (arith, h .there, long);
-      small = omega (arith, p .fits, limit-most (a .framing));
-      room = omega (arith, p .room, c .before .before .before .before .before .before .find .kept .1 .1 .1 .1 .1 .1 .0);
+      small = omega (arith, p .fits, limit-most (s .args .framing));
+      room = omega (arith, p .room, x .find .kept .1 .1 .1 .1 .1 .1 .0);
     }
 
 same-length : tie.Need-same-length
@@ -109,30 +131,36 @@ same-length-2 c = search needs
 
 returns : tie.Need-returns
 returns c =
-    let a = c .before .before .before .before .before .before .before .before .before .before .before .before .before .before .before .before .before .before .before .before .before .args in
-    let j = c .before .before .before .before .before .before .before .before .before .before .before .before .before .before .before .before .join in
+    let x = scan-at (fed-at c) in
+    let s = start (joined-at x) in
+    let a = s .args in
+    let j = joined-at x .join in
     let w = take (j .result .size) (j .result .bytes) in
-    let x = c .before .before .before .before .before .before .before .before .before .before .before in
-    let passes = ap (stopOf (a .framing) (drop (x .find .result .place) w)) (c .before .before .before .before .before .before .before .enum-told .given .1) in
+    let fed = c .before .before .before .before .feed-chunk in
+    let passes = ap (stopOf (a .framing) (drop (x .find .result .place) w)) (fed-at c .before .before .enum-told .given .1) in
     let same = x .find .ensures .1 ∙ ap (λ (t : Stop). stopBuffer t (a .buf .now)) passes in
     leaves-same _ _ (a .buf .now) _ _ _
-    (long-passed (a .framing) (take (a .count) (a .held .now)) (a .chunk .now) w (a .count) (held-size (c .before .before .before .before .before .before .before .before .before .before .before .before .before .before .before .before .before .before .before .before .before)) (j .ensures .bytes)
+    (long-passed (a .framing) (take (a .count) (a .held .now)) (a .chunk .now) w (a .count) (held-size s) (j .ensures .bytes)
     (scanned (a .framing) w (x .find .result)) (is x) passes)
-    (subst (λ (b : List ℕ). Leaves (scanWhole (a .framing) 0 (a .count) (x .find .result .reach - a .count) (a .chunk .now)) b (c .before .before .before .before .feed-chunk .result) (c .before .before .before .before .feed-chunk .last .1 .0) (c .before .before .before .before .feed-chunk .last .1 .1 .1 .1 .1 .0)) same
-    (c .before .before .before .before .feed-chunk .ensures))
+    (subst
+    (λ (b : List ℕ). Leaves (scanWhole (a .framing) 0 (a .count) (x .find .result .reach - a .count) (a .chunk .now)) b (fed .result) (fed .last .1 .0)
+    (fed .last .1 .1 .1 .1 .1 .0))
+    same (fed .ensures))
 
 answer-requires : tie.Need-answer-requires
 answer-requires c κs =
-    let a = c .before .before .before .before .before .before .before .before .before .before .before .before .before .before .args in
-    let j = c .before .before .before .before .before .before .before .before .before .join in
+    let x = c .before .before .before .before in
+    let s = start (joined-at x) in
+    let a = s .args in
+    let j = joined-at x .join in
     let w = take (j .result .size) (j .result .bytes) in
-    let long = joined-size (c .before .before .before .before .before .before .before .before .before) in
-    answerable (a .framing) w (a .count) (a .count) (scanned (a .framing) w (c .before .before .before .before .find .result)) _ (omega (arith, long)) (omega (arith, long)) (c .before .before .before .before .before .before .before .before .before .before .before .before .before .before .pre .fits)
-    (is (c .before .before .before .before)) (le-refl (a .count)) zero-le
+    let long = joined-size (joined-at x) in
+    answerable (a .framing) w (a .count) (a .count) (scanned (a .framing) w (x .find .result)) _ (omega (arith, long)) (omega (arith, long)) (s .pre .fits)
+    (is x) (le-refl (a .count)) zero-le
 
 keep-requires : tie.Need-keep-requires
 keep-requires c κs =
-    let k = c .answer .ensures in (k .inside, k .there, omega (arith, k .most, c .before .before .before .before .before .before .before .before .before .before .before .before .before .before .before .pre .long))
+    let k = c .answer .ensures in (k .inside, (k .there, omega (arith, k .most, start (joined-at (c .before .before .before .before .before)) .pre .long)))
 
 same-length-3 : tie.Need-same-length-3
 same-length-3 c = search needs
@@ -142,13 +170,16 @@ same-length-4 c = search needs
 
 returns-2 : tie.Need-returns-2
 returns-2 c =
-    let a = c .before .before .before .before .before .before .before .before .before .before .before .before .before .before .before .before .before .before .args in
-    let j = c .before .before .before .before .before .before .before .before .before .before .before .before .before .join in
+    let x = kept-at c in
+    let s = start (joined-at x) in
+    let a = s .args in
+    let j = joined-at x .join in
     let w = take (j .result .size) (j .result .bytes) in
-    long-leaves (a .framing) (take (a .count) (a .held .now)) (a .chunk .now) w (a .count) (held-size (c .before .before .before .before .before .before .before .before .before .before .before .before .before .before .before .before .before .before)) (j .ensures .bytes)
-    (scanned (a .framing) w (c .before .before .before .before .before .before .before .before .find .result)) (is (c .before .before .before .before .before .before .before .before)) (c .before .before .before .answer .result) (a .buf .now) _ _ _
-    (λ q. not-passed (c .before .before .before .before .before) (passed-end (a .framing) _ (c .before .before .before .before .before .before .before .before .find .result .end) q))
-    (c .before .before .before .answer .ensures) (c .before .before .before .before .before .before .before .before .find .ensures .1) (c .before .before .keep .ensures)
+    let answered = c .before .before .before .answer in
+    long-leaves (a .framing) (take (a .count) (a .held .now)) (a .chunk .now) w (a .count) (held-size s) (j .ensures .bytes)
+    (scanned (a .framing) w (x .find .result)) (is x) (answered .result) (a .buf .now) _ _ _
+    (λ q. not-passed (c .before .before .before .before .before) (passed-end (a .framing) _ (x .find .result .end) q))
+    (answered .ensures) (x .find .ensures .1) (c .before .before .keep .ensures)
 
 pub feed-long-spec : {M : Type 1} → statement M
 feed-long-spec =

@@ -10,6 +10,10 @@ use borrow.Author.Needs.{needs}
 use Rattle.frame.proofs.reader.feed_on.Statement.{statement}
 use Rattle.frame.proofs.reader.feed_on.Tie as tie
 
+-- The start of the call, from where the chunk was fed alone.
+abbrev start : tie.After-slice-known2 → tie.Start
+start c = c .before .before .before .before .before .before .before .before
+
 feed-chunk-requires : tie.Need-feed-chunk-requires
 feed-chunk-requires c κs = search needs
 
@@ -18,7 +22,7 @@ same-length c = search needs
 
 returns : tie.Need-returns
 returns c =
-    let a = c .before .before .before .before .before .before .before .before .args in
+    let a = start c .args in
     leaves-same _ _ (a .buf .now) _ _ _
     (scan-chunk (a .framing) (a .chunk .now)
     ∙ ap (λ (n : ℕ). line (holding (a .framing) (take n (a .held .now))) (a .chunk .now)) (sym (c .before .before .before .before .before .if1 .taken)))

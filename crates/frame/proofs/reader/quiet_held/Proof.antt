@@ -20,31 +20,39 @@ use borrow.Author.Needs.{needs}
 use Rattle.frame.proofs.reader.quiet_held.Statement.{statement}
 use Rattle.frame.proofs.reader.quiet_held.Tie as tie
 
+-- The start of the call, from the scan.
+abbrev start : tie.After-find → tie.Start
+start c = c .before .before .before .before
+
+-- The scan, from where it stopped at a frame.
+abbrev frame-at : tie.After-known-told → tie.After-find
+frame-at c = c .before .before .before .before .before
+
 -- All places were scanned.
 is : (x : tie.After-find) →
-    let a = x .before .before .before .before .args in
+    let a = start x .args in
     scanned (a .framing) (a .s .now) (x .find .result) ≡ scanFrom (judging true (a .framing)) (length (a .s .now)) 0 0 (a .s .now)
-is x = let a = x .before .before .before .before .args in from-first true (a .framing) (length (a .s .now)) 0 (a .s .now) _ (x .find .ensures .0)
+is x = let a = start x .args in from-first true (a .framing) (length (a .s .now)) 0 (a .s .now) _ (x .find .ensures .0)
 
 -- What is known where the scan stopped at a frame.
 at-frame : (k : tie.After-known-told) →
-    let x = k .before .before .before .before .before in
-    let a = x .before .before .before .before .args in
+    let x = frame-at k in
+    let a = start x .args in
     let r = x .find .result in
     AtFrame (a .framing) (a .s .now) (length (a .s .now)) (r .place) (r .reach) (k .before .end .given .0 .0)
     (payloadAt (a .framing) (drop (r .place) (a .s .now)) (k .before .end .given .0 .1 .0))
 at-frame k =
-    let x = k .before .before .before .before .before in
-    let a = x .before .before .before .before .args in
+    let x = frame-at k in
+    let a = start x .args in
     let r = x .find .result in
     scan-found true (a .framing) (a .s .now) (length (a .s .now)) 0 (le-refl (length (a .s .now))) zero-le
     (scanned (a .framing) (a .s .now) r) (is x) _ _ (ap (stopOf (a .framing) (drop (r .place) (a .s .now))) (k .before .end .given .1))
 
 -- The frame's bytes are there.
-inside : (k : tie.After-known-told) → k .before .before .before .before .before .find .result .place + k .before .end .given .0 .0 ≤ length (k .before .before .before .before .before .before .before .before .before .args .s .now)
+inside : (k : tie.After-known-told) → frame-at k .find .result .place + k .before .end .given .0 .0 ≤ length (start (frame-at k) .args .s .now)
 inside k =
-    let a = k .before .before .before .before .before .before .before .before .before .args in
-    let h = scan-facts true (a .framing) (a .s .now) (length (a .s .now)) 0 (le-refl (length (a .s .now))) zero-le _ (is (k .before .before .before .before .before)) in
+    let a = start (frame-at k) .args in
+    let h = scan-facts true (a .framing) (a .s .now) (length (a .s .now)) 0 (le-refl (length (a .s .now))) zero-le _ (is (frame-at k)) in
     omega (arith, at-frame k .inside, h .there)
 
 find-requires : tie.Need-find-requires
@@ -67,8 +75,9 @@ part-hold-end c = search needs
 
 hold-requires : tie.Need-hold-requires
 hold-requires c κs =
-    let a = c .before .before .before .before .before .before .before .before .before .before .args in
-    let next = c .before .before .before .before .before .before .find .result .place + c .before .before .end .given .0 .0 in
+    let x = frame-at (c .before) in
+    let a = start x .args in
+    let next = x .find .result .place + c .before .before .end .given .0 .0 in
     subst (λ (l : List ℕ). length l ≤ 517) (sym (take-rest (a .s .now) next)) (omega (arith, length-drop next (a .s .now), limit-most (a .framing)))
 
 enum-told : tie.Need-enum-told
@@ -88,8 +97,8 @@ same-length c = search needs
 
 returns : tie.Need-returns
 returns c =
-    let x = c .before .before .before .before .before .before .before in
-    let a = x .before .before .before .before .args in
+    let x = frame-at (c .before .before) in
+    let a = start x .args in
     let r = x .find .result in
     let at = drop (r .place) (a .s .now) in
     let end = c .before .before .before .end in
@@ -113,7 +122,7 @@ same-length-2 c = search needs
 returns-2 : tie.Need-returns-2
 returns-2 c =
     let x = c .before .before .before .before .before in
-    let a = x .before .before .before .before .args in
+    let a = start x .args in
     let r = x .find .result in
     let u = scan-undecided true (a .framing) (a .s .now) (length (a .s .now)) 0 (le-refl (length (a .s .now))) zero-le
     (scanned (a .framing) (a .s .now) r) (is x) (ap (stopOf (a .framing) (drop (r .place) (a .s .now))) (c .before .enum-told .given .1))
@@ -126,7 +135,7 @@ same-length-3 c = search needs
 returns-3 : tie.Need-returns-3
 returns-3 c =
     let x = c .before .before .before .before .before in
-    let a = x .before .before .before .before .args in
+    let a = start x .args in
     let r = x .find .result in
     let stops = ap (stopOf (a .framing) (drop (r .place) (a .s .now))) (c .before .enum-told2 .given .1) in
     quiet-right (holding (a .framing) (a .s .now)) (quiet (holding (a .framing) (a .s .now))) (called 0 (output [] (r .place)) []) (a .buf .now) _ _

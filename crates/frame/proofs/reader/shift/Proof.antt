@@ -9,6 +9,10 @@ use borrow.Author.Needs.{needs}
 use Rattle.frame.proofs.reader.shift.Statement.{statement}
 use Rattle.frame.proofs.reader.shift.Tie as tie
 
+-- The start of the call, from where the part was moved.
+abbrev start : tie.After-slice-known2 → tie.Start
+start c = c .before .before .before .before .before .before .before
+
 sub-count : tie.Need-sub-count
 sub-count c = search needs
 
@@ -20,10 +24,10 @@ same-length c = search needs
 
 returns : tie.Need-returns
 returns c =
-    let a = c .before .before .before .before .before .before .before .args in
+    let a = start c .args in
     record {
       answer = refl;
-      count = sym (part-size (a .kept .from) (a .kept .end) (a .held .now) (c .before .before .before .before .before .before .before .pre .0) (c .before .before .before .before .before .before .before .pre .1));
+      count = sym (part-size (a .kept .from) (a .kept .end) (a .held .now) (start c .pre .0) (start c .pre .1));
       bytes = c .before .before .move-down .ensures;
     }
 

@@ -8,14 +8,14 @@ use mathlib.Core.Bool.{_&&_, and-true}
 use borrow.Author.Needs.{needs}
 use native.Mathlib.Omega.{arith}
 use lib.ListN.{take, drop}
-use Rattle.frame.specs.Judged.{every}
+use Rattle.frame.specs.DigitRuns.{allPass}
 use Rattle.frame.specs.Scan.{other}
-use Rattle.frame.proofs.Lists.{every-next}
+use Rattle.frame.proofs.Lists.{all-pass-next}
 use Rattle.frame.proofs.scan.block_lacks.Statement.{statement}
 use Rattle.frame.proofs.scan.block_lacks.Tie as tie
 
 abbrev Inv-loop : tie.InvT-loop
-Inv-loop s at b ok₀ i₀ ok i = (i ≤ 16) × (ok && every (other b) (take (16 - i) (drop (at + i) s)) ≡ every (other b) (take 16 (drop at s)))
+Inv-loop s at b ok₀ i₀ ok i = (i ≤ 16) × (ok && allPass (other b) (take (16 - i) (drop (at + i) s)) ≡ allPass (other b) (take 16 (drop at s)))
 
 abbrev μ-loop : tie.MeasureT-loop
 μ-loop s at b ok₀ i₀ ok i = 16 - i
@@ -39,7 +39,7 @@ loop-again : tie.Need-loop-again Inv-loop μ-loop
 loop-again c =
     let a = c .before .before .before .args in
     let l = c .before .before .loop in
-    (omega arith, every-next (other (a .b)) (l .ok) 16 (l .i) (a .at) (a .s .now) (omega arith) (omega arith) ∙ l .inv .1)
+    (omega arith, all-pass-next (other (a .b)) (l .ok) 16 (l .i) (a .at) (a .s .now) (omega arith) (omega arith) ∙ l .inv .1)
 
 returns : tie.Need-returns Inv-loop μ-loop
 returns c =
@@ -47,7 +47,7 @@ returns c =
     let l = c .before .loop in
     let all : 16 - l .i ≡ 0 = omega arith in
     sym (and-true (l .ok))
-    ∙ ap (λ (n : ℕ). l .ok && every (other (a .b)) (take n (drop (a .at + l .i) (a .s .now)))) (sym all)
+    ∙ ap (λ (n : ℕ). l .ok && allPass (other (a .b)) (take n (drop (a .at + l .i) (a .s .now)))) (sym all)
     ∙ l .inv .1
 
 pub block-lacks-spec : {M : Type 1} → statement M

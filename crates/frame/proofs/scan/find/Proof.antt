@@ -7,7 +7,7 @@ use mathlib.Core.List.{List}
 use mathlib.Core.Path.{_≡_, refl, sym, ap, _∙_, subst}
 use lib.ListN.{drop}
 use Rattle.frame.specs.Framing.{inFront}
-use Rattle.frame.specs.Judged.{payloadAt, Packed}
+use Rattle.frame.specs.Judged.{payloadAt, HasPayload}
 use Rattle.frame.specs.Scan.{stopOf, scanned, stopBuffer}
 use Rattle.frame.specs.declared.scan.ScanEnd.{ScanEnd}
 use Rattle.frame.specs.declared.scan.ScanEnd.the-variants.{Frame, Undecided, Passed}
@@ -19,17 +19,25 @@ use borrow.Author.Needs.{needs}
 use Rattle.frame.proofs.scan.find.Statement.{statement}
 use Rattle.frame.proofs.scan.find.Tie as tie
 
+-- The start of the call, from where a frame was found.
+abbrev start : tie.After-known-told → tie.Start
+start c = c .before .before .before .before .before .before
+
+-- Where the frame was found, from where its payload was taken out.
+abbrev frame-at : tie.After-slice-known2 → tie.After-known-told
+frame-at c = c .before .before .before .before .before
+
 -- What is known where the scan stopped at a frame.
 at-frame : (k : tie.After-known-told) →
-    let a = k .before .before .before .before .before .before .args in
+    let a = start k .args in
     let r = k .before .before .before .scan .result in
     AtFrame (a .framing) (a .s .now) (a .stop) (r .place) (r .reach) (k .before .end .given .0 .0)
     (payloadAt (a .framing) (drop (r .place) (a .s .now)) (k .before .end .given .0 .1 .0))
 at-frame k =
-    let a = k .before .before .before .before .before .before .args in
+    let a = start k .args in
     let r = k .before .before .before .scan .result in
-    let pre = k .before .before .before .before .before .before .pre in
-    scan-found-from (a .ended) (a .framing) (a .s .now) (a .stop) (a .from) (a .reach) (pre .1) (pre .2) (pre .0) (scanned (a .framing) (a .s .now) r)
+    let pre = start k .pre in
+    scan-found-from (a .ended) (a .framing) (a .s .now) (a .stop) (a .from) (a .reach) (pre .1 .0) (pre .1 .1 .0) (pre .0) (scanned (a .framing) (a .s .now) r)
     (k .before .before .before .scan .ensures) _ _ (ap (stopOf (a .framing) (drop (r .place) (a .s .now))) (k .before .end .given .1))
 
 -- Where it stopped at no frame, the buffer is as it came.
@@ -55,13 +63,14 @@ part-unpack-end c = search needs
 
 unpack-requires : tie.Need-unpack-requires
 unpack-requires c κs =
-    let a = c .before .before .before .before .before .before .before .before .args in
-    let place = c .before .before .before .before .before .scan .result .place in
+    let k = c .before .before in
+    let a = start k .args in
+    let place = k .before .before .before .scan .result .place in
     let at = drop place (a .s .now) in
-    let used = c .before .before .before .end .given .0 .0 in
-    let len = c .before .before .before .end .given .0 .1 .0 in
-    let e = at-frame (c .before .before) .is-frame in (
-      subst (λ (l : List ℕ). Packed (a .framing) l len) (sym (take-rest (a .s .now) place)) (payload-packed (a .framing) at used len e),
+    let used = k .before .end .given .0 .0 in
+    let len = k .before .end .given .0 .1 .0 in
+    let e = at-frame k .is-frame in (
+      subst (λ (l : List ℕ). HasPayload (a .framing) l len) (sym (take-rest (a .s .now) place)) (payload-packed (a .framing) at used len e),
       omega (arith, payload-there (a .framing) at used len e .1, payload-size (a .framing) at (payloadAt (a .framing) at len) used e .1),
     )
 
@@ -70,14 +79,16 @@ same-length c = search needs
 
 returns : tie.Need-returns
 returns c =
-    let a = c .before .before .before .before .before .before .before .before .before .before .before .args in
-    let r = c .before .before .before .before .before .before .before .before .scan .result in
+    let k = frame-at c in
+    let a = start k .args in
+    let found = k .before .before .before .scan in
+    let r = found .result in
     let at = drop (r .place) (a .s .now) in
-    let len = c .before .before .before .before .before .before .end .given .0 .1 .0 in (
-      c .before .before .before .before .before .before .before .before .scan .ensures,
+    let len = k .before .end .given .0 .1 .0 in (
+      found .ensures,
       c .before .before .unpack .ensures
           ∙ ap (λ (l : List ℕ). inFront (payloadAt (a .framing) l len) (a .buf .now)) (take-rest (a .s .now) (r .place))
-          ∙ sym (ap (λ (e : ScanEnd). stopBuffer (stopOf (a .framing) at e) (a .buf .now)) (c .before .before .before .before .before .before .end .given .1)),
+          ∙ sym (ap (λ (e : ScanEnd). stopBuffer (stopOf (a .framing) at e) (a .buf .now)) (k .before .end .given .1)),
     )
 
 returns-2 : tie.Need-returns-2

@@ -8,9 +8,9 @@ use mathlib.Core.Path.{_≡_, sym, ap, _∙_, subst}
 use lib.ListN.{length, getD, drop}
 use Rattle.frame.specs.Checks.{Verdict, refused}
 use Rattle.frame.specs.Framing.{judge}
-use Rattle.frame.specs.Judged.{verdictOf, payloadAt, handedOut}
+use Rattle.frame.specs.Judged.{verdictOf, payloadAt, handedOut, startOf, passedBy}
 use Rattle.frame.specs.Refusal.{numberOf}
-use Rattle.frame.specs.Scan.{judging, found, scannedTo, scanFrom, scanned, judgedBytes, startOf, passedBy, stopBuffer}
+use Rattle.frame.specs.Scan.{judging, found, scannedTo, scanFrom, scanned, judgedBytes, stopBuffer}
 use Rattle.frame.specs.declared.scan.ScanResult.{ScanResult}
 use Rattle.frame.specs.declared.framing.Judged.{Judged}
 use Rattle.frame.proofs.Prefixes.{judged-there, refused-sized}
@@ -20,6 +20,28 @@ use borrow.Author.Needs.{needs}
 use Rattle.frame.proofs.scan.find_first.Statement.{statement}
 use Rattle.frame.proofs.scan.find_first.Tie as tie
 
+-- The start of the call, from where the front was judged.
+abbrev start : tie.After-extract → tie.Start
+start c = c .before .before .before .before .before .before .before .before
+
+-- Where the front was judged: from its end undecided, from its refusal, and from its frame.
+abbrev undecided-at : tie.After-stopped2 → tie.After-extract
+undecided-at c = c .before .before .before .before .before
+
+abbrev refused-at : tie.After-judged → tie.After-extract
+refused-at c = c .before .before .before .before
+
+abbrev frame-at : tie.After-stopped3 → tie.After-extract
+frame-at c = c .before .before .before .before .before .before .before
+
+-- The places that a refused front passes over, from where the others were scanned.
+abbrev passed : tie.After-slice-known4 → tie.After-passed-by
+passed c = c .before .before .before .before .before .before
+
+-- The start of the call, from where a front that starts no frame was scanned with the others.
+abbrev find-start : tie.After-slice-known2 → tie.Start
+find-start c = c .before .before .before .before .before .before .before .before .before .before
+
 -- From the first place on, all places are left.
 whole : (c : tie.Start) → let a = c .args in let n = length (a .s .now) in
     scanFrom (judging false (a .framing)) (n - 0) 0 (a .reach) (a .s .now) ≡ scanFrom (judging false (a .framing)) n 0 (a .reach) (a .s .now)
@@ -27,21 +49,23 @@ whole c = let a = c .args in ap (λ (k : ℕ). scanFrom (judging false (a .frami
 
 -- The verdict on the front of s, where it was told so.
 verdict-is : (x : tie.After-extract) (r : Judged) → x .extract .result ≡ r →
-    judge (x .before .before .before .before .before .before .before .before .args .framing) (x .before .before .before .before .before .before .before .before .args .s .now) ≡ verdictOf (x .before .before .before .before .before .before .before .before .args .framing) (x .before .before .before .before .before .before .before .before .args .s .now) r
-verdict-is x r e = x .extract .ensures .0 ∙ ap (verdictOf (x .before .before .before .before .before .before .before .before .args .framing) (x .before .before .before .before .before .before .before .before .args .s .now)) e
+    let a = start x .args in
+    judge (a .framing) (a .s .now) ≡ verdictOf (a .framing) (a .s .now) r
+verdict-is x r e = x .extract .ensures .0 ∙ ap (verdictOf (start x .args .framing) (start x .args .s .now)) e
 
 -- It fails.
 failed : (k : tie.After-judged) →
-    judge (k .before .before .before .before .before .before .before .before .before .before .before .before .args .framing) (k .before .before .before .before .before .before .before .before .before .before .before .before .args .s .now) ≡ refused (k .judged .given .0 .1 .0) (numberOf (k .judged .given .0 .0))
-failed k = verdict-is (k .before .before .before .before) _ (k .judged .given .1)
+    let a = start (refused-at k) .args in
+    judge (a .framing) (a .s .now) ≡ refused (k .judged .given .0 .1 .0) (numberOf (k .judged .given .0 .0))
+failed k = verdict-is (refused-at k) _ (k .judged .given .1)
 
 -- The buffer is as it came.
-untouched : (k : tie.After-judged) → k .before .before .before .before .extract .last .1 .1 .0 ≡ k .before .before .before .before .before .before .before .before .before .before .before .before .args .buf .now
-untouched k = k .before .before .before .before .extract .ensures .1 ∙ ap (λ (v : Verdict). handedOut v (k .before .before .before .before .before .before .before .before .before .before .before .before .args .buf .now)) (failed k)
+untouched : (k : tie.After-judged) → refused-at k .extract .last .1 .1 .0 ≡ start (refused-at k) .args .buf .now
+untouched k = refused-at k .extract .ensures .1 ∙ ap (λ (v : Verdict). handedOut v (start (refused-at k) .args .buf .now)) (failed k)
 
 -- It begins with a start.
-started : (k : tie.After-judged) → getD (k .before .before .before .before .before .before .before .before .before .before .before .before .args .s .now) 0 0 ≡ startOf (k .before .before .before .before .before .before .before .before .before .before .before .before .args .framing)
-started k = k .before .before .before .before .before .before .if2 .left ∙ k .before .before .before .before .before .before .before .start-of .ensures
+started : (k : tie.After-judged) → getD (start (refused-at k) .args .s .now) 0 0 ≡ startOf (start (refused-at k) .args .framing)
+started k = refused-at k .before .before .if2 .left ∙ refused-at k .before .before .before .start-of .ensures
 
 stopped-requires : tie.Need-stopped-requires
 stopped-requires c κs = search needs
@@ -52,7 +76,7 @@ returns c =
     let s = a .s .now in
     let r = c .stopped .ensures in (
       ap (scanned (a .framing) s) r ∙ sym (step-end (judging false (a .framing)) (length s) 0 (a .reach) s (omega arith)) ∙ whole (c .before .before .before .before),
-      sym (ap (λ (x : ScanResult). stopBuffer (scanned (a .framing) s x .stop) (a .buf .now)) r),
+      sym (ap (λ (y : ScanResult). stopBuffer (scanned (a .framing) s y .stop) (a .buf .now)) r),
     )
 
 shared-slice-read-if2 : tie.Need-shared-slice-read-if2
@@ -69,7 +93,7 @@ same-length c = search needs
 
 returns-2 : tie.Need-returns-2
 returns-2 c =
-    (c .before .before .find .ensures .0 ∙ whole (c .before .before .before .before .before .before .before .before .before .before), c .before .before .find .ensures .1)
+    (c .before .before .find .ensures .0 ∙ whole (find-start c), c .before .before .find .ensures .1)
 
 extract-requires : tie.Need-extract-requires
 extract-requires c κs = search needs
@@ -85,7 +109,7 @@ enum-known-judged c = search needs
 
 passed-by-requires : tie.Need-passed-by-requires
 passed-by-requires c κs =
-    let a = c .before .before .before .before .before .before .before .before .before .before .before .before .before .args in
+    let a = start (refused-at (c .before)) .args in
     refused-sized (a .framing) (a .s .now) _ _ (failed (c .before)) .some
 
 smaller-requires : tie.Need-smaller-requires
@@ -96,12 +120,11 @@ larger-requires c κs = search needs
 
 find-requires-2 : tie.Need-find-requires-2
 find-requires-2 c κs =
-    let a = c .before .before .before .before .before .before .before .before .before .before .before .before .before .before .before .before .before .args in
-    let there = subst (λ (v : Verdict). judgedBytes v ≤ length (a .s .now)) (failed (c .before .before .before .before .before)) (judged-there (a .framing) (a .s .now)) in (
+    let k = c .before .before .before .before .before in
+    let a = start (refused-at k) .args in
+    let there = subst (λ (v : Verdict). judgedBytes v ≤ length (a .s .now)) (failed k) (judged-there (a .framing) (a .s .now)) in (
       omega (arith, c .before .before .smaller .ensures),
-      omega arith,
-      omega (arith, c .before .larger .ensures, there),
-      omega (arith, ap length (untouched (c .before .before .before .before .before))),
+      (omega arith, (omega (arith, c .before .larger .ensures, there), omega (arith, ap length (untouched k)))),
     )
 
 enum-known-used : tie.Need-enum-known-used
@@ -118,14 +141,15 @@ same-length-2 c = search needs
 
 returns-3 : tie.Need-returns-3
 returns-3 c =
-    let a = c .before .before .before .before .before .before .before .before .before .before .before .before .before .args in
+    let x = undecided-at c in
+    let a = start x .args in
     let s = a .s .now in
-    let e = verdict-is (c .before .before .before .before .before) _ (c .before .enum-told .given .1) in
+    let e = verdict-is x _ (c .before .enum-told .given .1) in
     let r = c .stopped2 .ensures in (
       ap (scanned (a .framing) s) r
-          ∙ sym (step-undecided (a .framing) (length s) 0 (a .reach) s (omega arith) e) ∙ whole (c .before .before .before .before .before .before .before .before .before .before .before .before .before),
-      c .before .before .before .before .before .extract .ensures .1 ∙ ap (λ (v : Verdict). handedOut v (a .buf .now)) e
-          ∙ sym (ap (λ (x : ScanResult). stopBuffer (scanned (a .framing) s x .stop) (a .buf .now)) r),
+          ∙ sym (step-undecided (a .framing) (length s) 0 (a .reach) s (omega arith) e) ∙ whole (start x),
+      x .extract .ensures .1 ∙ ap (λ (v : Verdict). handedOut v (a .buf .now)) e
+          ∙ sym (ap (λ (y : ScanResult). stopBuffer (scanned (a .framing) s y .stop) (a .buf .now)) r),
     )
 
 same-length-3 : tie.Need-same-length-3
@@ -133,21 +157,23 @@ same-length-3 c = search needs
 
 returns-4 : tie.Need-returns-4
 returns-4 c =
-    let a = c .before .before .before .before .before .before .before .before .before .before .before .before .before .before .before .before .before .before .before .before .args in
+    let k = passed c .before .before in
+    let a = start (refused-at k) .args in
     let s = a .s .now in
-    let k = c .before .before .before .before .before .before .before .before in
+    let least = c .before .before .before .before .before .smaller in
+    let most = c .before .before .before .before .larger in
     let judged = k .judged .given .0 .1 .0 in
     let to = min (0 + passedBy (a .framing) judged) (length s) in
-    let next : c .before .before .before .before .before .smaller .result ≡ to =
-    c .before .before .before .before .before .smaller .ensures ∙ ap (λ (n : ℕ). min n (length s)) (c .before .before .before .before .before .before .passed-by .ensures ∙ sym (zero-add (passedBy (a .framing) judged)))
+    let next : least .result ≡ to =
+    least .ensures ∙ ap (λ (n : ℕ). min n (length s)) (passed c .passed-by .ensures ∙ sym (zero-add (passedBy (a .framing) judged)))
     in
-    let far : c .before .before .before .before .larger .result ≡ max (a .reach) (0 + judged) = c .before .before .before .before .larger .ensures ∙ ap (max (a .reach)) (sym (zero-add judged)) in
+    let far : most .result ≡ max (a .reach) (0 + judged) = most .ensures ∙ ap (max (a .reach)) (sym (zero-add judged)) in
     let h = c .before .before .find2 .ensures in (
       h .0
-          ∙ ap (λ (n : ℕ). scanFrom (judging false (a .framing)) (length s - n) n (c .before .before .before .before .larger .result) (drop n s)) next
+          ∙ ap (λ (n : ℕ). scanFrom (judging false (a .framing)) (length s - n) n (most .result) (drop n s)) next
           ∙ ap (λ (n : ℕ). scanFrom (judging false (a .framing)) (length s - to) to n (drop to s)) far
           ∙ sym (scan-fails false (a .framing) s (length s) (le-refl (length s)) 0 (a .reach) judged _ (omega arith) (started k) (failed k))
-          ∙ whole (c .before .before .before .before .before .before .before .before .before .before .before .before .before .before .before .before .before .before .before .before),
+          ∙ whole (start (refused-at k)),
       h .1 ∙ ap (stopBuffer (scanned (a .framing) s (c .before .before .find2 .result) .stop)) (untouched k),
     )
 
@@ -156,18 +182,19 @@ same-length-4 c = search needs
 
 returns-5 : tie.Need-returns-5
 returns-5 c =
-    let a = c .before .before .before .before .before .before .before .before .before .before .before .before .before .before .before .args in
+    let x = frame-at c in
+    let a = start x .args in
     let s = a .s .now in
     let used = c .before .before .before .used .given .0 .0 in
     let p = payloadAt (a .framing) s (c .before .before .before .used .given .0 .1 .0) in
-    let e = verdict-is (c .before .before .before .before .before .before .before) _ (c .before .before .before .used .given .1) in
+    let e = verdict-is x _ (c .before .before .before .used .given .1) in
     let r = c .stopped3 .ensures in (
       ap (scanned (a .framing) s) r
           ∙ ap (λ (n : ℕ). scannedTo 0 n (found used p)) (c .before .larger2 .ensures ∙ ap (max (a .reach)) (sym (zero-add used)))
           ∙ sym (step-frame false (a .framing) (length s) 0 (a .reach) s (omega arith) used p e)
-          ∙ whole (c .before .before .before .before .before .before .before .before .before .before .before .before .before .before .before),
-      c .before .before .before .before .before .before .before .extract .ensures .1 ∙ ap (λ (v : Verdict). handedOut v (a .buf .now)) e
-          ∙ sym (ap (λ (x : ScanResult). stopBuffer (scanned (a .framing) s x .stop) (a .buf .now)) r),
+          ∙ whole (start x),
+      x .extract .ensures .1 ∙ ap (λ (v : Verdict). handedOut v (a .buf .now)) e
+          ∙ sym (ap (λ (y : ScanResult). stopBuffer (scanned (a .framing) s y .stop) (a .buf .now)) r),
     )
 
 pub find-first-spec : {M : Type 1} → statement M

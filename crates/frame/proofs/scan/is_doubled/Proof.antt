@@ -11,7 +11,7 @@ add-if1 : tie.Need-add-if1
 add-if1 c = search needs
 
 returns : tie.Need-returns
-returns c = λ e. absurd (false≢true e)
+returns c = (λ e. absurd (false≢true e), λ e. absurd (false≢true e))
 
 add-result : tie.Need-add-result
 add-result c = search needs
@@ -23,7 +23,7 @@ shared-slice-read-result-2 : tie.Need-shared-slice-read-result-2
 shared-slice-read-result-2 c = search needs
 
 returns-2 : tie.Need-returns-2
-returns-2 c = λ e. (omega (arith, c .before .before .if1 .left), eqb-true _ _ e)
+returns-2 c = (λ e. omega (arith, c .before .before .if1 .left), λ e. eqb-true _ _ e)
 
 pub is-doubled-spec : {M : Type 1} → statement M
 is-doubled-spec =

@@ -21,9 +21,10 @@ doubled-refusal-requires c κs = search needs
 returns : tie.Need-returns
 returns c =
     let a = c .before .before .before .before .args in
-    let d = (c .before .before .is-doubled .ensures) (c .before .if1 .taken) in
+    let d = c .before .before .is-doubled .ensures in
+    let t = c .before .if1 .taken in
     let e = c .before .before .before .before .pre .1 in
-    doubled-fails (a .framing) (a .s .now) (a .place) (d .0) e (d .1 ∙ e) ∙ ap (refused 2) (sym (c .doubled-refusal .ensures))
+    doubled-fails (a .framing) (a .s .now) (a .place) (d .0 t) e (d .1 t ∙ e) ∙ ap (refused 2) (sym (c .doubled-refusal .ensures))
 
 sub-judge : tie.Need-sub-judge
 sub-judge c = search needs

@@ -1,6 +1,6 @@
 -- `frame::scan::scan` meets its contract: at each turn the scan from the present place gives what the whole scan gives.
 -- Assumes nothing.
-use Prim.Native.Nat.{ℕ, _+_, _-_, _≤_, max, min}
+use Prim.Native.Nat.{ℕ, _+_, _-_, _≤_, _<_, max, min}
 use native.Mathlib.Omega.{arith}
 use mathlib.Core.Bool.{Bool, true}
 use mathlib.Core.Path.{_≡_, refl, sym, ap, _∙_, subst}
@@ -9,9 +9,9 @@ use borrow.Author.Tests.{not-true, not-false}
 use lib.ListN.{length, getD, drop, length-drop}
 use Rattle.frame.specs.Checks.{Verdict, refused}
 use Rattle.frame.specs.Framing.{judge}
-use Rattle.frame.specs.Judged.{verdictOf, payloadAt}
+use Rattle.frame.specs.Judged.{verdictOf, payloadAt, startOf, passedBy}
 use Rattle.frame.specs.Refusal.{numberOf}
-use Rattle.frame.specs.Scan.{judging, Scanned, scannedTo, found, scanFrom, scanned, judgedBytes, startOf, passedBy, Skips}
+use Rattle.frame.specs.Scan.{judging, Scanned, scannedTo, found, scanFrom, scanned, judgedBytes, Skips}
 use Rattle.frame.specs.declared.framing.Judged.{Judged}
 use Rattle.frame.proofs.Prefixes.{judged-there, refused-sized}
 use Rattle.frame.proofs.Scanning.{step-end, step-frame, step-undecided, step-ended}
@@ -27,52 +27,94 @@ Inv-loop framing s from stop reach ended start place₀ far₀ place far =
 abbrev μ-loop : tie.MeasureT-loop
 μ-loop framing s from stop reach ended start place₀ far₀ place far = stop - place
 
+-- The start of the call and the loop's turn, from where the place was judged.
+abbrev start : tie.After-judge-place Inv-loop μ-loop → tie.Start Inv-loop μ-loop
+start c = c .before .before .before .before .before .before .before
+
+abbrev turn : tie.After-judge-place Inv-loop μ-loop → tie.At-loop Inv-loop μ-loop
+turn c = c .before .before .before .before
+
+-- Where the place was judged: from the stop at an undecided place, from the turn behind one that ends the segment, from a refusal, which is seen from where
+-- the scan goes on too, and from the stop at a frame.
+abbrev undecided-at : tie.After-stopped Inv-loop μ-loop → tie.After-judge-place Inv-loop μ-loop
+undecided-at c = c .before .before .before .before
+
+abbrev ended-at : tie.After-larger2 Inv-loop μ-loop → tie.After-judge-place Inv-loop μ-loop
+ended-at c = c .before .before .before .before
+
+abbrev refused-at : tie.After-known-told Inv-loop μ-loop → tie.After-judge-place Inv-loop μ-loop
+refused-at c = c .before .before .before
+
+abbrev passed-at : tie.After-smaller Inv-loop μ-loop → tie.After-known-told Inv-loop μ-loop
+passed-at c = c .before .before .before
+
+abbrev frame-at : tie.After-stopped2 Inv-loop μ-loop → tie.After-judge-place Inv-loop μ-loop
+frame-at c = c .before .before .before .before .before
+
+-- The loop's turn, from where bytes that start no frame were passed.
+abbrev skip-turn : tie.After-larger Inv-loop μ-loop → tie.At-loop Inv-loop μ-loop
+skip-turn c = c .before .before .before .before .before
+
 -- The verdict at the present place, where it was told so.
 verdict-is : (j : tie.After-judge-place Inv-loop μ-loop) (r : Judged) → j .judge-place .result ≡ r →
-    let at = drop (j .before .before .before .before .loop .place) (j .before .before .before .before .before .before .before .args .s .now) in judge (j .before .before .before .before .before .before .before .args .framing) at ≡ verdictOf (j .before .before .before .before .before .before .before .args .framing) at r
-verdict-is j r e = j .judge-place .ensures ∙ ap (verdictOf (j .before .before .before .before .before .before .before .args .framing) (drop (j .before .before .before .before .loop .place) (j .before .before .before .before .before .before .before .args .s .now))) e
+    let at = drop (turn j .loop .place) (start j .args .s .now) in judge (start j .args .framing) at ≡ verdictOf (start j .args .framing) at r
+verdict-is j r e = j .judge-place .ensures ∙ ap (verdictOf (start j .args .framing) (drop (turn j .loop .place) (start j .args .s .now))) e
+
+-- The place is before the last one.
+before-stop : (j : tie.After-judge-place Inv-loop μ-loop) → turn j .loop .place < start j .args .stop
+before-stop j = j .before .before .before .loop-test .taken
 
 -- The bytes judged for a decision are there.
-inside : (j : tie.After-judge-place Inv-loop μ-loop) →
-    let a = j .before .before .before .before .before .before .before .args in
-    let place = j .before .before .before .before .loop .place in
-    place + judgedBytes (verdictOf (a .framing) (drop place (a .s .now)) (j .judge-place .result)) ≤ length (a .s .now)
-inside j =
-    let a = j .before .before .before .before .before .before .before .args in
-    let place = j .before .before .before .before .loop .place in
+inside : (j : tie.After-judge-place Inv-loop μ-loop) (r : Judged) → j .judge-place .result ≡ r →
+    let a = start j .args in
+    let place = turn j .loop .place in
+    place + judgedBytes (verdictOf (a .framing) (drop place (a .s .now)) r) ≤ length (a .s .now)
+inside j r e =
+    let a = start j .args in
+    let place = turn j .loop .place in
     let h =
-    subst (λ (v : Verdict). judgedBytes v ≤ length (drop place (a .s .now))) (verdict-is j _ refl) (judged-there (a .framing) (drop place (a .s .now)))
+    subst (λ (v : Verdict). judgedBytes v ≤ length (drop place (a .s .now))) (verdict-is j r e) (judged-there (a .framing) (drop place (a .s .now)))
     in
     omega (arith, h, length-drop place (a .s .now))
 
 -- A failed start's verdict.
 failed : (k : tie.After-known-told Inv-loop μ-loop) →
-    let a = k .before .before .before .before .before .before .before .before .before .before .args in
-    let place = k .before .before .before .before .before .before .before .loop .place in
+    let a = start (refused-at k) .args in
+    let place = turn (refused-at k) .loop .place in
     judge (a .framing) (drop place (a .s .now)) ≡ refused (k .before .judged .given .0 .1 .0) (numberOf (k .before .judged .given .0 .0))
-failed k = verdict-is (k .before .before .before) _ (k .before .judged .given .1)
+failed k = verdict-is (refused-at k) _ (k .before .judged .given .1)
+
+-- The bytes judged for it are there.
+failed-inside : (k : tie.After-known-told Inv-loop μ-loop) →
+    turn (refused-at k) .loop .place + k .before .judged .given .0 .1 .0 ≤ length (start (refused-at k) .args .s .now)
+failed-inside k = inside (refused-at k) _ (k .before .judged .given .1)
 
 -- It begins with the byte that starts a frame.
-started : (k : tie.After-known-told Inv-loop μ-loop) → getD (k .before .before .before .before .before .before .before .before .before .before .args .s .now) (k .before .before .before .before .before .before .before .loop .place) 0 ≡ startOf (k .before .before .before .before .before .before .before .before .before .before .args .framing)
-started k = k .before .before .before .before .if1 .left ∙ k .before .before .before .before .before .before .before .before .start-of .ensures
+started : (k : tie.After-known-told Inv-loop μ-loop) →
+    let j = refused-at k in
+    getD (start j .args .s .now) (turn j .loop .place) 0 ≡ startOf (start j .args .framing)
+started k = refused-at k .before .if1 .left ∙ turn (refused-at k) .before .start-of .ensures
 
 -- The places that it passes over.
 over : (k : tie.After-known-told Inv-loop μ-loop) →
-    let a = k .before .before .before .before .before .before .before .before .before .before .args in
-    let place = k .before .before .before .before .before .before .before .loop .place in
+    let a = start (refused-at k) .args in
+    let place = turn (refused-at k) .loop .place in
     let judged = k .before .judged .given .0 .1 .0 in
     Skips (startOf (a .framing)) (a .s .now) (place + 1) (a .stop) (min (place + passedBy (a .framing) judged) (a .stop))
     × (passedBy (a .framing) judged ≤ judged)
 over k =
-    let a = k .before .before .before .before .before .before .before .before .before .before .args in
-    fails-over (a .framing) (a .s .now) (a .stop) (k .before .before .before .before .before .before .before .loop .place) _ _ (omega arith) (k .before .before .before .before .before .before .loop-test .taken) (started k) (failed k)
+    let j = refused-at k in
+    let a = start j .args in
+    fails-over (a .framing) (a .s .now) (a .stop) (turn j .loop .place) _ _ (omega arith) (before-stop j) (started k) (failed k)
 
 -- The place where the scan goes on.
 onward : (m : tie.After-smaller Inv-loop μ-loop) →
-    let a = m .before .before .before .before .before .before .before .before .before .before .before .before .before .args in
-    m .smaller .result ≡ min (m .before .before .before .before .before .before .before .before .before .before .loop .place + passedBy (a .framing) (m .before .before .before .before .judged .given .0 .1 .0)) (a .stop)
+    let j = refused-at (passed-at m) in
+    let a = start j .args in
+    m .smaller .result ≡ min (turn j .loop .place + passedBy (a .framing) (passed-at m .before .judged .given .0 .1 .0)) (a .stop)
 onward m =
-    m .smaller .ensures ∙ ap (λ (n : ℕ). min (m .before .before .before .before .before .before .before .before .before .before .loop .place + n) (m .before .before .before .before .before .before .before .before .before .before .before .before .before .args .stop)) (m .before .passed-by .ensures)
+    let j = refused-at (passed-at m) in
+    m .smaller .ensures ∙ ap (λ (n : ℕ). min (turn j .loop .place + n) (start j .args .stop)) (m .before .passed-by .ensures)
 
 start-of-requires : tie.Need-start-of-requires Inv-loop μ-loop
 start-of-requires c κs = search needs
@@ -97,10 +139,10 @@ loop-less c = omega (arith, c .before .skip .ensures .onward)
 
 loop-again : tie.Need-loop-again Inv-loop μ-loop
 loop-again c =
-    let a = c .before .before .before .before .before .before .before .before .args in
-    let l = c .before .before .before .before .before .loop in
+    let a = skip-turn c .before .before .before .args in
+    let l = skip-turn c .loop in
     let to = c .before .skip .result in
-    let is = c .before .before .before .before .before .before .start-of .ensures in
+    let is = skip-turn c .before .start-of .ensures in
     let skips = subst (λ (b : ℕ). Skips b (a .s .now) (l .place + 1) (a .stop) to) is (c .before .skip .ensures) in (
       c .before .skip .ensures .inside,
       ap (λ (far : ℕ). scanFrom (judging (a .ended) (a .framing)) (a .stop - to) to far (drop to (a .s .now))) (c .larger .ensures)
@@ -120,11 +162,12 @@ stopped-requires c κs = search needs
 
 returns : tie.Need-returns Inv-loop μ-loop
 returns c =
-    let a = c .before .before .before .before .before .before .before .before .before .before .before .args in
-    let l = c .before .before .before .before .before .before .before .before .loop in
+    let j = undecided-at c in
+    let a = start j .args in
+    let l = turn j .loop in
     ap (scanned (a .framing) (a .s .now)) (c .stopped .ensures)
-    ∙ sym (step-undecided (a .framing) (a .stop) (l .place) (l .far) (a .s .now) (c .before .before .before .before .before .before .before .loop-test .taken)
-    (verdict-is (c .before .before .before .before) _ (c .before .before .enum-told .given .1)))
+    ∙ sym (step-undecided (a .framing) (a .stop) (l .place) (l .far) (a .s .now) (before-stop j)
+    (verdict-is j _ (c .before .before .enum-told .given .1)))
     ∙ ap (λ (e : Bool). scanFrom (judging e (a .framing)) (a .stop - l .place) (l .place) (l .far) (drop (l .place) (a .s .now)))
     (sym (not-true (a .ended) (c .before .if2 .taken)))
     ∙ l .inv .1
@@ -140,8 +183,9 @@ loop-less-2 c = search needs
 
 loop-again-2 : tie.Need-loop-again-2 Inv-loop μ-loop
 loop-again-2 c =
-    let a = c .before .before .before .before .before .before .before .before .before .before .before .args in
-    let l = c .before .before .before .before .before .before .before .before .loop in
+    let j = ended-at c in
+    let a = start j .args in
+    let l = turn j .loop in
     let here : Bool → Scanned = λ e. scanFrom (judging e (a .framing)) (a .stop - l .place) (l .place) (l .far) (drop (l .place) (a .s .now)) in
     let next : Bool → ℕ → Scanned =
     λ e far. scanFrom (judging e (a .framing)) (a .stop - (l .place + 1)) (l .place + 1) far (drop (l .place + 1) (a .s .now))
@@ -150,8 +194,8 @@ loop-again-2 c =
       omega arith,
       ap (next (a .ended)) (c .larger2 .ensures)
           ∙ ap (λ (e : Bool). next e (max (l .far) (l .place))) is
-          ∙ sym (step-ended (a .framing) (a .stop) (l .place) (l .far) (a .s .now) (c .before .before .before .before .before .before .before .loop-test .taken)
-          (verdict-is (c .before .before .before .before) _ (c .before .before .enum-told .given .1)))
+          ∙ sym (step-ended (a .framing) (a .stop) (l .place) (l .far) (a .s .now) (before-stop j)
+          (verdict-is j _ (c .before .before .enum-told .given .1)))
           ∙ ap here (sym is)
           ∙ l .inv .1,
     )
@@ -160,37 +204,40 @@ enum-known-judged : tie.Need-enum-known-judged Inv-loop μ-loop
 enum-known-judged c = search needs
 
 add-larger : tie.Need-add-larger Inv-loop μ-loop
-add-larger c = omega (arith, rw (c .before .judged .given .1) at (inside (c .before .before .before)))
+add-larger c = omega (arith, failed-inside c)
 
 larger-requires-3 : tie.Need-larger-requires-3 Inv-loop μ-loop
 larger-requires-3 c κs = search needs
 
 passed-by-requires : tie.Need-passed-by-requires Inv-loop μ-loop
 passed-by-requires c κs =
-    let a = c .before .before .before .before .before .before .before .before .before .before .before .args in
-    refused-sized (a .framing) (drop (c .before .before .before .before .before .before .before .before .loop .place) (a .s .now)) _ _ (failed (c .before)) .some
+    let k = c .before in
+    let a = start (refused-at k) .args in
+    refused-sized (a .framing) (drop (turn (refused-at k) .loop .place) (a .s .now)) _ _ (failed k) .some
 
 add-smaller : tie.Need-add-smaller Inv-loop μ-loop
 add-smaller c =
-    omega (arith, c .passed-by .ensures, over (c .before .before) .1, rw (c .before .before .before .judged .given .1) at (inside (c .before .before .before .before .before)))
+    omega (arith, c .passed-by .ensures, over (c .before .before) .1, failed-inside (c .before .before))
 
 smaller-requires : tie.Need-smaller-requires Inv-loop μ-loop
 smaller-requires c κs = search needs
 
 loop-less-3 : tie.Need-loop-less-3 Inv-loop μ-loop
-loop-less-3 c = omega (arith, onward c, over (c .before .before .before) .0 .onward)
+loop-less-3 c = omega (arith, onward c, over (passed-at c) .0 .onward)
 
 loop-again-3 : tie.Need-loop-again-3 Inv-loop μ-loop
 loop-again-3 c =
-    let a = c .before .before .before .before .before .before .before .before .before .before .before .before .before .args in
-    let l = c .before .before .before .before .before .before .before .before .before .before .loop in
-    let judged = c .before .before .before .before .judged .given .0 .1 .0 in
+    let k = passed-at c in
+    let j = refused-at k in
+    let a = start j .args in
+    let l = turn j .loop in
+    let judged = k .before .judged .given .0 .1 .0 in
     let to = min (l .place + passedBy (a .framing) judged) (a .stop) in (
       omega (arith, onward c),
       ap (λ (n : ℕ). scanFrom (judging (a .ended) (a .framing)) (a .stop - n) n (c .before .before .larger3 .result) (drop n (a .s .now))) (onward c)
           ∙ ap (λ (far : ℕ). scanFrom (judging (a .ended) (a .framing)) (a .stop - to) to far (drop to (a .s .now))) (c .before .before .larger3 .ensures)
           ∙ sym (scan-fails (a .ended) (a .framing) (a .s .now) (a .stop) (omega arith) (l .place) (l .far) judged _
-          (c .before .before .before .before .before .before .before .before .before .loop-test .taken) (started (c .before .before .before)) (failed (c .before .before .before)))
+          (before-stop j) (started k) (failed k))
           ∙ l .inv .1,
     )
 
@@ -198,7 +245,7 @@ enum-known-used : tie.Need-enum-known-used Inv-loop μ-loop
 enum-known-used c = search needs
 
 add-larger-2 : tie.Need-add-larger-2 Inv-loop μ-loop
-add-larger-2 c = omega (arith, rw (c .before .used .given .1) at (inside (c .before .before .before)))
+add-larger-2 c = let h = inside (c .before .before .before) _ (c .before .used .given .1) in omega (arith, h)
 
 larger-requires-4 : tie.Need-larger-requires-4 Inv-loop μ-loop
 larger-requires-4 c κs = search needs
@@ -208,14 +255,15 @@ stopped-requires-2 c κs = search needs
 
 returns-2 : tie.Need-returns-2 Inv-loop μ-loop
 returns-2 c =
-    let a = c .before .before .before .before .before .before .before .before .before .before .before .before .args in
-    let l = c .before .before .before .before .before .before .before .before .before .loop in
+    let j = frame-at c in
+    let a = start j .args in
+    let l = turn j .loop in
     let used = c .before .before .before .used .given .0 .0 in
     let p = payloadAt (a .framing) (drop (l .place) (a .s .now)) (c .before .before .before .used .given .0 .1 .0) in
     ap (scanned (a .framing) (a .s .now)) (c .stopped2 .ensures)
     ∙ ap (λ (k : ℕ). scannedTo (l .place) k (found used p)) (c .before .larger4 .ensures)
-    ∙ sym (step-frame (a .ended) (a .framing) (a .stop) (l .place) (l .far) (a .s .now) (c .before .before .before .before .before .before .before .before .loop-test .taken) used p
-    (verdict-is (c .before .before .before .before .before) _ (c .before .before .before .used .given .1)))
+    ∙ sym (step-frame (a .ended) (a .framing) (a .stop) (l .place) (l .far) (a .s .now) (before-stop j) used p
+    (verdict-is j _ (c .before .before .before .used .given .1)))
     ∙ l .inv .1
 
 stopped-requires-3 : tie.Need-stopped-requires-3 Inv-loop μ-loop

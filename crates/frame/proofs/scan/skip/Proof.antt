@@ -14,6 +14,10 @@ Inv-loop s b from stop at₀ at = Skips b s from stop at
 abbrev μ-loop : tie.MeasureT-loop
 μ-loop s b from stop at₀ at = stop - at
 
+-- The start of the call, from where the byte was another.
+abbrev start : tie.Else1 Inv-loop μ-loop → tie.Start Inv-loop μ-loop
+start c = c .before .before .before .before .before .before
+
 skip-blocks-requires : tie.Need-skip-blocks-requires Inv-loop μ-loop
 skip-blocks-requires c κs = search needs
 
@@ -34,7 +38,7 @@ loop-less c = search needs
 
 loop-again : tie.Need-loop-again Inv-loop μ-loop
 loop-again c =
-    let a = c .before .before .before .before .before .before .args in
+    let a = start c .args in
     let l = c .before .before .before .loop in
     skips-one (a .b) (a .s .now) (a .from) (a .stop) (l .at) (l .inv) (c .before .before .loop-test .taken) (omega arith) (c .if1 .left)
 

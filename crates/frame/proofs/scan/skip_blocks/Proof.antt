@@ -16,6 +16,10 @@ Inv-loop s b from stop at₀ at = Skips b s from stop at
 abbrev μ-loop : tie.MeasureT-loop
 μ-loop s b from stop at₀ at = stop - at
 
+-- The start of the call, from where the block was tested.
+abbrev start : tie.After-block-lacks Inv-loop μ-loop → tie.Start Inv-loop μ-loop
+start c = c .before .before .before .before .before
+
 loop-holds : tie.Need-loop-holds Inv-loop μ-loop
 loop-holds c = let a = c .before .args in skips-none (a .b) (a .s .now) (a .from) (a .stop) (omega arith)
 
@@ -39,7 +43,7 @@ loop-less c = search needs
 
 loop-again : tie.Need-loop-again Inv-loop μ-loop
 loop-again c =
-    let a = c .before .before .before .before .before .before .args in
+    let a = start (c .before) .args in
     let l = c .before .before .before .before .loop in
     skips-more (a .b) (a .s .now) (a .from) (a .stop) (l .at) 16 (l .inv) (omega arith)
     (sym (c .before .block-lacks .ensures) ∙ not-false _ (c .if2 .left))

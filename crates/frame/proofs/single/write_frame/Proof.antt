@@ -10,6 +10,10 @@ use Rattle.frame.proofs.Singles.{writes-payload, writes-short, writes-f
 use Rattle.frame.proofs.single.write_frame.Statement.{statement}
 use Rattle.frame.proofs.single.write_frame.Tie as tie
 
+-- The start of the call, from where the frame's length is known.
+abbrev start : tie.After-frame-len → tie.Start
+start c = c .before .before .before .before .before
+
 returns : tie.Need-returns
 returns c =
     let a = c .before .before .before .args in
@@ -25,7 +29,7 @@ frame-len-requires c κs = search needs
 
 returns-3 : tie.Need-returns-3
 returns-3 c =
-    let a = c .before .before .before .before .before .before .args in
+    let a = start (c .before) .args in
     writes-short (a .framing) (a .payload .now) (a .buf .now) (omega arith) (omega arith)
     (omega (arith, length-layout (a .framing) (a .payload .now), c .before .frame-len .ensures, c .if3 .taken))
 
@@ -37,10 +41,11 @@ same-length c = search needs
 
 returns-4 : tie.Need-returns-4
 returns-4 c =
-    let a = c .before .before .before .before .before .before .before .before .before .before .args in
+    let n = c .before .before .before .before .before in
+    let a = start n .args in
     subst (Writes (a .framing) (a .payload .now) (a .buf .now) _) (sym (c .before .before .pack .ensures))
-    (writes-frame (a .framing) (a .payload .now) (a .buf .now) (omega arith) (omega arith) (c .before .before .before .before .before .frame-len .result)
-    (length-layout (a .framing) (a .payload .now) ∙ sym (c .before .before .before .before .before .frame-len .ensures)) (c .before .before .before .before .if3 .left))
+    (writes-frame (a .framing) (a .payload .now) (a .buf .now) (omega arith) (omega arith) (n .frame-len .result)
+    (length-layout (a .framing) (a .payload .now) ∙ sym (n .frame-len .ensures)) (c .before .before .before .before .if3 .left))
 
 pub write-frame-spec : {M : Type 1} → statement M
 write-frame-spec =

@@ -11,6 +11,10 @@ use borrow.Author.Needs.{needs}
 use Rattle.frame.proofs.view.feed_view.Statement.{statement}
 use Rattle.frame.proofs.view.feed_view.Tie as tie
 
+-- The start of the call, from the scan.
+abbrev start : tie.After-find-first → tie.Start
+start c = c .before .before .before .before
+
 find-first-requires : tie.Need-find-first-requires
 find-first-requires c κs = search needs
 
@@ -19,24 +23,26 @@ sub-t10 c = search needs
 
 answer-requires : tie.Need-answer-requires
 answer-requires c κs =
-    let a = c .before .before .before .before .before .before .args in
+    let s = c .before .before in
+    let a = start s .args in
     let w = a .w .now in
-    let p = c .before .before .before .before .before .before .pre in
-    answerable (a .framing) w (length w) (a .count) (scanned (a .framing) w (c .before .before .find-first .result)) _ (le-refl (length w)) (p .0) (p .1)
-    (c .before .before .find-first .ensures .0) (le-refl (a .count)) zero-le
+    let p = start s .pre in
+    answerable (a .framing) w (length w) (a .count) (scanned (a .framing) w (s .find-first .result)) _ (le-refl (length w)) (p .0) (p .1 .0)
+    (s .find-first .ensures .0) (le-refl (a .count)) zero-le
 
 same-length : tie.Need-same-length
 same-length c = search needs
 
 returns : tie.Need-returns
 returns c =
-    let a = c .before .before .before .before .before .before .before .args in
+    let s = c .before .before .before in
+    let a = start s .args in
     let w = a .w .now in
-    let p = c .before .before .before .before .before .before .before .pre in
-    let x = scanned (a .framing) w (c .before .before .before .find-first .result) in
+    let p = start s .pre in
+    let h = s .find-first .ensures in
+    let x = scanned (a .framing) w (s .find-first .result) in
     view-keeps (a .framing) w (a .count) x (c .answer .result) (a .buf .now) _ (p .0)
-    (scan-facts false (a .framing) w (length w) (a .count) (le-refl (length w)) (p .0) x (c .before .before .before .find-first .ensures .0) .far)
-    (c .before .before .before .find-first .ensures .0) (c .answer .ensures) (c .before .before .before .find-first .ensures .1)
+    (scan-facts false (a .framing) w (length w) (a .count) (le-refl (length w)) (p .0) x (h .0) .far) (h .0) (c .answer .ensures) (h .1)
 
 pub feed-view-spec : {M : Type 1} → statement M
 feed-view-spec =

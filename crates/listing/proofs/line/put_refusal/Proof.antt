@@ -1,9 +1,9 @@
 -- `listing::line::put_refusal` meets its contract: the word, then the number.
 -- Assumes nothing.
 use borrow.Author.Needs.{needs}
-use Rattle.message.specs.Examples.{text}
+use Rattle.message.specs.Text.{text}
 use Rattle.message.specs.Refusal.{numberOf}
-use Rattle.listing.proofs.Texts.{going, going-room, going-part, going-next, going-last}
+use Rattle.listing.proofs.Texts.{partly-put, partly-put-room, partly-put-part, partly-put-next, partly-put-last}
 use Rattle.listing.proofs.Lines.{refusal-parts}
 use Rattle.listing.proofs.line.put_refusal.Statement.{statement}
 use Rattle.listing.proofs.line.put_refusal.Tie as tie
@@ -17,25 +17,30 @@ slice-aggregate-put-text c = search needs
 put-text-requires : tie.Need-put-text-requires
 put-text-requires c κs =
     let s = c .before .before .before .before in
-    going-part (text "refused ") _ (s .pre) (going (s .args .out .now) (s .args .at) (refusal-parts (numberOf (s .args .refusal))))
+    partly-put-part (text "refused ") _ (s .pre) (partly-put (s .args .out .now) (s .args .at) (refusal-parts (numberOf (s .args .refusal))))
 
 cast-put-decimal : tie.Need-cast-put-decimal
 cast-put-decimal c = search needs
 
 put-decimal-requires : tie.Need-put-decimal-requires
 put-decimal-requires c κs =
-    let s = c .before .before .before .before .before .before .before .before in
-    let g = going-next (s .pre) (going (s .args .out .now) (s .args .at) (refusal-parts (numberOf (s .args .refusal)))) (c .before .before .before .put-text .ensures) in
-    rw (c .before .before .before .before .before .before .number .ensures) (going-room (s .pre) g)
+    let t = c .before .before .before in
+    let n = t .before .before .before in
+    let s = n .before .before in
+    let g = partly-put-next (s .pre) (partly-put (s .args .out .now) (s .args .at) (refusal-parts (numberOf (s .args .refusal)))) (t .put-text .ensures) in
+    rw (n .number .ensures) (partly-put-room (s .pre) g)
 
 same-length : tie.Need-same-length
 same-length c = search needs
 
 returns : tie.Need-returns
 returns c =
-    let s = c .before .before .before .before .before .before .before .before .before .before .before in
-    let g = going-next (s .pre) (going (s .args .out .now) (s .args .at) (refusal-parts (numberOf (s .args .refusal)))) (c .before .before .before .before .before .before .put-text .ensures) in
-    going-last (s .pre) g (rw (c .before .before .before .before .before .before .before .before .before .number .ensures) at (c .before .before .put-decimal .ensures))
+    let d = c .before .before in
+    let t = d .before .before .before .before in
+    let n = t .before .before .before in
+    let s = n .before .before in
+    let g = partly-put-next (s .pre) (partly-put (s .args .out .now) (s .args .at) (refusal-parts (numberOf (s .args .refusal)))) (t .put-text .ensures) in
+    partly-put-last (s .pre) g (rw (n .number .ensures) at (d .put-decimal .ensures))
 
 pub put-refusal-spec : {M : Type 1} → statement M
 put-refusal-spec =

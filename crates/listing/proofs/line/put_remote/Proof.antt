@@ -1,70 +1,57 @@
--- `listing::line::put_remote` meets its contract: the word and the fields, then the end of the line.
+-- `listing::line::put_remote` meets its contract: the line is the word and the fields, and its end.
 -- Assumes nothing.
+use Prim.Native.Nat.{ℕ, _+_, _≤_}
+use mathlib.Core.Path.{_≡_, sym, ap, subst}
+use mathlib.Core.List.{List, _++_}
 use borrow.Author.Needs.{needs}
-use Rattle.listing.proofs.Texts.{going, going-room, going-part, going-next, going-last}
-use Rattle.listing.proofs.Lines.{remoteRow, remote-parts}
+use lib.ListN.{length, take}
+use Rattle.listing.specs.Line.{remoteLine}
+use Rattle.listing.proofs.Lines.{newline, remoteRow, remote-parts}
 use Rattle.listing.proofs.line.put_remote.Statement.{statement}
 use Rattle.listing.proofs.line.put_remote.Tie as tie
 
-cast-t12 : tie.Need-cast-t12
-cast-t12 c = search needs
+-- The entry, and the fields' bytes, seen from the call of `put_row_line`.
+abbrev entry : tie.After-bytes → tie.Start
+entry c = c .before .before .before .before .before
 
-cast-t15 : tie.Need-cast-t15
-cast-t15 c = search needs
+abbrev made : tie.After-bytes → tie.After-status-bytes
+made c = c .before .before .before
 
-cast-t18 : tie.Need-cast-t18
-cast-t18 c = search needs
+-- The line is the row and the end of the line.
+parts : (c : tie.After-bytes) → remoteRow (made c .status-bytes .result) ++ newline ≡ remoteLine (entry c .args .status) ++ newline
+parts c = remote-parts (entry c .args .status) (made c .status-bytes .ensures)
 
-cast-t20 : tie.Need-cast-t20
-cast-t20 c = search needs
+status-bytes-requires : tie.Need-status-bytes-requires
+status-bytes-requires c κs = search needs
 
-cast-t23 : tie.Need-cast-t23
-cast-t23 c = search needs
+slice-aggregate-put-row-line : tie.Need-slice-aggregate-put-row-line
+slice-aggregate-put-row-line c = search needs
 
-cast-t25 : tie.Need-cast-t25
-cast-t25 c = search needs
+array-share-prefix-bytes : tie.Need-array-share-prefix-bytes
+array-share-prefix-bytes c = search needs
 
-slice-aggregate-put-row : tie.Need-slice-aggregate-put-row
-slice-aggregate-put-row c = search needs
+slice-aggregate-put-row-line-2 : tie.Need-slice-aggregate-put-row-line-2
+slice-aggregate-put-row-line-2 c = sym (ap (λ (l : List ℕ). length (take 8 l)) (made c .status-bytes .ensures))
 
-slice-aggregate-put-row-2 : tie.Need-slice-aggregate-put-row-2
-slice-aggregate-put-row-2 c = search needs
-
-put-row-requires : tie.Need-put-row-requires
-put-row-requires c κs =
-    let s = c .before .before .before .before in
-    going-part (remoteRow (s .args .status)) _ (s .pre) (going (s .args .out .now) (s .args .at) (remote-parts (s .args .status)))
-
-slice-aggregate-put-text : tie.Need-slice-aggregate-put-text
-slice-aggregate-put-text c = search needs
-
-put-text-requires : tie.Need-put-text-requires
-put-text-requires c κs =
-    let s = c .before .before .before .before .before .before .before .before .before in
-    going-room (s .pre) (going-next (s .pre) (going (s .args .out .now) (s .args .at) (remote-parts (s .args .status))) (c .before .before .before .before .put-row .ensures))
+put-row-line-requires : tie.Need-put-row-line-requires
+put-row-line-requires c κs = let s = entry c in subst (λ (l : List ℕ). s .args .at + length l ≤ length (s .args .out .now)) (sym (parts c)) (s .pre)
 
 same-length : tie.Need-same-length
 same-length c = search needs
 
 returns : tie.Need-returns
 returns c =
-    let s = c .before .before .before .before .before .before .before .before .before .before .before .before in
-    going-last (s .pre) (going-next (s .pre) (going (s .args .out .now) (s .args .at) (remote-parts (s .args .status))) (c .before .before .before .before .before .before .before .put-row .ensures)) (c .before .before .put-text .ensures)
+    let k = c .before .before in
+    rw (parts (k .before)) at (k .put-row-line .ensures)
 
 pub put-remote-spec : {M : Type 1} → statement M
 put-remote-spec =
     tie.close
     (tie.spec
-    cast-t12
-    cast-t15
-    cast-t18
-    cast-t20
-    cast-t23
-    cast-t25
-    slice-aggregate-put-row
-    slice-aggregate-put-row-2
-    put-row-requires
-    slice-aggregate-put-text
-    put-text-requires
+    status-bytes-requires
+    slice-aggregate-put-row-line
+    array-share-prefix-bytes
+    slice-aggregate-put-row-line-2
+    put-row-line-requires
     same-length
     returns)

@@ -2,7 +2,7 @@
 -- Assumes nothing.
 use mathlib.Core.Path.{refl}
 use borrow.Author.Needs.{needs}
-use Rattle.listing.proofs.Texts.{going, going-room, going-part, going-next, going-last}
+use Rattle.listing.proofs.Texts.{partly-put, partly-put-room, partly-put-part, partly-put-next, partly-put-last}
 use Rattle.listing.proofs.Lines.{responseRow, response-parts}
 use Rattle.listing.proofs.line.put_response.Statement.{statement}
 use Rattle.listing.proofs.line.put_response.Tie as tie
@@ -16,7 +16,7 @@ slice-aggregate-put-row-2 c = search needs
 put-row-requires : tie.Need-put-row-requires
 put-row-requires c κs =
     let s = c .before .before .before .before in
-    going-part (responseRow (s .args .response)) _ (s .pre) (going (s .args .out .now) (s .args .at) (response-parts (s .args .response) refl))
+    partly-put-part (responseRow (s .args .response)) _ (s .pre) (partly-put (s .args .out .now) (s .args .at) (response-parts (s .args .response) refl))
 
 enum-told : tie.Need-enum-told
 enum-told c = search needs
@@ -26,8 +26,10 @@ slice-aggregate-put-text c = search needs
 
 put-text-requires : tie.Need-put-text-requires
 put-text-requires c κs =
-    let s = c .before .before .before .before .before .before .before .before .before .before .before in
-    going-room (s .pre) (going-next (s .pre) (going (s .args .out .now) (s .args .at) (response-parts (s .args .response) (c .before .before .enum-told .given .1))) (c .before .before .before .before .before .before .put-row .ensures))
+    let o = c .before .before in
+    let r = o .before .before .before .before in
+    let s = r .before .before .before .before .before in
+    partly-put-room (s .pre) (partly-put-next (s .pre) (partly-put (s .args .out .now) (s .args .at) (response-parts (s .args .response) (o .enum-told .given .1))) (r .put-row .ensures))
 
 enum-told-2 : tie.Need-enum-told-2
 enum-told-2 c = search needs
@@ -37,28 +39,34 @@ slice-aggregate-put-text-2 c = search needs
 
 put-text-requires-2 : tie.Need-put-text-requires-2
 put-text-requires-2 c κs =
-    let s = c .before .before .before .before .before .before .before .before .before .before .before in
-    going-room (s .pre) (going-next (s .pre) (going (s .args .out .now) (s .args .at) (response-parts (s .args .response) (c .before .before .enum-told2 .given .1))) (c .before .before .before .before .before .before .put-row .ensures))
+    let o = c .before .before in
+    let r = o .before .before .before .before in
+    let s = r .before .before .before .before .before in
+    partly-put-room (s .pre) (partly-put-next (s .pre) (partly-put (s .args .out .now) (s .args .at) (response-parts (s .args .response) (o .enum-told2 .given .1))) (r .put-row .ensures))
 
 same-length : tie.Need-same-length
 same-length c = search needs
 
 returns : tie.Need-returns
 returns c =
-    let s = c .before .before .before .before .before .before .before .before .before .before .before .before .before .before in
-    let parts = response-parts (s .args .response) (c .before .before .before .before .before .enum-told .given .1) in
-    let row = c .before .before .before .before .before .before .before .before .before .put-row in
-    going-last (s .pre) (going-next (s .pre) (going (s .args .out .now) (s .args .at) parts) (row .ensures)) (c .before .before .put-text .ensures)
+    let t = c .before .before in
+    let o = t .before .before .before in
+    let r = o .before .before .before .before in
+    let s = r .before .before .before .before .before in
+    let parts = response-parts (s .args .response) (o .enum-told .given .1) in
+    partly-put-last (s .pre) (partly-put-next (s .pre) (partly-put (s .args .out .now) (s .args .at) parts) (r .put-row .ensures)) (t .put-text .ensures)
 
 same-length-2 : tie.Need-same-length-2
 same-length-2 c = search needs
 
 returns-2 : tie.Need-returns-2
 returns-2 c =
-    let s = c .before .before .before .before .before .before .before .before .before .before .before .before .before .before in
-    let parts = response-parts (s .args .response) (c .before .before .before .before .before .enum-told2 .given .1) in
-    let row = c .before .before .before .before .before .before .before .before .before .put-row in
-    going-last (s .pre) (going-next (s .pre) (going (s .args .out .now) (s .args .at) parts) (row .ensures)) (c .before .before .put-text2 .ensures)
+    let t = c .before .before in
+    let o = t .before .before .before in
+    let r = o .before .before .before .before in
+    let s = r .before .before .before .before .before in
+    let parts = response-parts (s .args .response) (o .enum-told2 .given .1) in
+    partly-put-last (s .pre) (partly-put-next (s .pre) (partly-put (s .args .out .now) (s .args .at) parts) (r .put-row .ensures)) (t .put-text2 .ensures)
 
 pub put-response-spec : {M : Type 1} → statement M
 put-response-spec =

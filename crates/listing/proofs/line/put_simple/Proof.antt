@@ -1,10 +1,14 @@
 -- `listing::line::put_simple` meets its contract: the word and the fields, then the data.
 -- Assumes nothing.
 use borrow.Author.Needs.{needs}
-use Rattle.listing.proofs.Texts.{going, going-room, going-part, going-next, going-last}
+use Rattle.listing.proofs.Texts.{partly-put, partly-put-room, partly-put-part, partly-put-next, partly-put-last}
 use Rattle.listing.proofs.Lines.{simpleRow, simple-parts}
 use Rattle.listing.proofs.line.put_simple.Statement.{statement}
 use Rattle.listing.proofs.line.put_simple.Tie as tie
+
+-- The entry, seen from the call of `put_row`.
+abbrev entry : tie.After-bytes → tie.Start
+entry c = c .before .before .before .before .before
 
 slice-aggregate-put-row : tie.Need-slice-aggregate-put-row
 slice-aggregate-put-row c = search needs
@@ -14,21 +18,24 @@ slice-aggregate-put-row-2 c = search needs
 
 put-row-requires : tie.Need-put-row-requires
 put-row-requires c κs =
-    let s = c .before .before .before .before .before in
-    going-part (simpleRow (s .args .message)) _ (s .pre) (going (s .args .out .now) (s .args .at) (simple-parts (s .args .message) (s .args .«data» .now)))
+    let s = entry c in
+    partly-put-part (simpleRow (s .args .message)) _ (s .pre) (partly-put (s .args .out .now) (s .args .at) (simple-parts (s .args .message) (s .args .«data» .now)))
 
 put-data-requires : tie.Need-put-data-requires
 put-data-requires c κs =
-    let s = c .before .before .before .before .before .before .before .before .before in
-    going-room (s .pre) (going-next (s .pre) (going (s .args .out .now) (s .args .at) (simple-parts (s .args .message) (s .args .«data» .now))) (c .before .before .before .put-row .ensures))
+    let r = c .before .before .before in
+    let s = entry (r .before) in
+    partly-put-room (s .pre) (partly-put-next (s .pre) (partly-put (s .args .out .now) (s .args .at) (simple-parts (s .args .message) (s .args .«data» .now))) (r .put-row .ensures))
 
 same-length : tie.Need-same-length
 same-length c = search needs
 
 returns : tie.Need-returns
 returns c =
-    let s = c .before .before .before .before .before .before .before .before .before .before .before .before in
-    going-last (s .pre) (going-next (s .pre) (going (s .args .out .now) (s .args .at) (simple-parts (s .args .message) (s .args .«data» .now))) (c .before .before .before .before .before .before .put-row .ensures)) (c .before .before .put-data .ensures)
+    let d = c .before .before in
+    let r = d .before .before .before .before in
+    let s = entry (r .before) in
+    partly-put-last (s .pre) (partly-put-next (s .pre) (partly-put (s .args .out .now) (s .args .at) (simple-parts (s .args .message) (s .args .«data» .now))) (r .put-row .ensures)) (d .put-data .ensures)
 
 pub put-simple-spec : {M : Type 1} → statement M
 put-simple-spec =

@@ -8,14 +8,15 @@ use mathlib.Core.Path.{_≡_, refl, sym, ap, _∙_, subst}
 use borrow.Author.Needs.{needs}
 use lib.ListN.{length, drop, length-drop}
 use Rattle.io.proofs.Counting.{front}
-use Rattle.frame.specs.Draining.{drain, Says}
+use Rattle.frame.specs.Draining.{Reports}
 use Rattle.frame.specs.Framing.{limit}
 use Rattle.frame.specs.Reader.{Settled, stateOf, line, after, Holds, frameValues, feedValuesOf, feedRefusal, Feeds}
-use Rattle.frame.proofs.Theorems.{feed-tells, feed-stays-in-limit, taken-is-inside}
-use Rattle.listing.specs.Parts.{Midway, Room, HeldListed}
+use Rattle.frame.specs.Drain.{drain}
+use Rattle.frame.proofs.Theorems.{feed-reports, feed-stays-in-limit, taken-is-inside}
+use Rattle.listing.specs.Parts.{PartlyDrained, Room, HeldListed}
 use Rattle.listing.specs.declared.list.Part.{Part}
 use Rattle.listing.proofs.Fits.{rest-is}
-use Rattle.listing.proofs.Chunks.{midway, frame-room, frame-noise, frame-step, frame-less, none-noise, none-lists}
+use Rattle.listing.proofs.Chunks.{partly-drained, frame-room, frame-noise, frame-step, frame-less, none-noise, none-lists}
 use Rattle.listing.proofs.Chunks.{says-frame, says-none, says-inside, says-taken, says-next, says-refused, feed-free, feed-next, feed-left}
 use Rattle.listing.proofs.list.list_held.Statement.{statement}
 use Rattle.listing.proofs.list.list_held.Tie as tie
@@ -23,53 +24,99 @@ use Rattle.listing.proofs.list.list_held.Tie as tie
 abbrev Inv-loop : tie.InvT-loop
 Inv-loop chunk out₀ buf₀ state₀ done₀ end₀ total₀ out buf state done end total =
     (length buf ≡ 256) × (done ≤ length chunk) × (state .count ≤ limit (state .framing)) × (state .framing ≡ state₀ .framing)
-    × Midway (drain (stateOf state₀) chunk) (stateOf state) (drop done chunk) out₀ 0 0 end total out
+    × PartlyDrained (drain (stateOf state₀) chunk) (stateOf state) (drop done chunk) out₀ 0 0 end total out
 
 abbrev μ-loop : tie.MeasureT-loop
 μ-loop chunk out₀ buf₀ state₀ done₀ end₀ total₀ out buf state done end total = length (drain (stateOf state) (drop done chunk) .out .frames)
 
+-- Earlier places of the code, seen from later ones.
+abbrev loop-at-feed : tie.After-feed Inv-loop μ-loop → tie.At-loop Inv-loop μ-loop
+loop-at-feed c = c .before .before .before .before .before
+
+abbrev feed-at-known-told2 : tie.After-known-told2 Inv-loop μ-loop → tie.After-feed Inv-loop μ-loop
+feed-at-known-told2 c = c .before .before .before .before .before
+
+abbrev feed-at-part-at2 : tie.After-part-at2 Inv-loop μ-loop → tie.After-feed Inv-loop μ-loop
+feed-at-part-at2 c = c .before .before .before .before .before
+
+abbrev feed-at-buf2 : tie.After-buf2 Inv-loop μ-loop → tie.After-feed Inv-loop μ-loop
+feed-at-buf2 c = c .before
+
+abbrev feed-at-buf3 : tie.After-buf3 Inv-loop μ-loop → tie.After-feed Inv-loop μ-loop
+feed-at-buf3 c = feed-at-buf2 (c .before .before .before .before .before)
+
+abbrev feed-at-part-at : tie.After-part-at Inv-loop μ-loop → tie.After-feed Inv-loop μ-loop
+feed-at-part-at c = feed-at-buf2 (c .before .before .before .before .before)
+
+abbrev entry-at-shared-slice-known : tie.After-shared-slice-known Inv-loop μ-loop → tie.Start Inv-loop μ-loop
+entry-at-shared-slice-known c = c .before
+
+abbrev entry-at-part-at3 : tie.After-part-at3 Inv-loop μ-loop → tie.Start Inv-loop μ-loop
+entry-at-part-at3 c = entry-at-shared-slice-known (c .before .before .before .before .before)
+
+abbrev feed-at-put-line-arg : tie.After-put-line-arg Inv-loop μ-loop → tie.After-feed Inv-loop μ-loop
+feed-at-put-line-arg c = feed-at-buf3 (c .before)
+
+abbrev answer-at-buf3 : tie.After-buf3 Inv-loop μ-loop → tie.After-answer Inv-loop μ-loop
+answer-at-buf3 c = c .before .before
+
+abbrev answer-at-slice-known2 : tie.After-slice-known2 Inv-loop μ-loop → tie.After-answer Inv-loop μ-loop
+answer-at-slice-known2 c = answer-at-buf3 (c .before .before .before .before .before)
+
+abbrev entry-at-loop : tie.At-loop Inv-loop μ-loop → tie.Start Inv-loop μ-loop
+entry-at-loop c = c .before .before .before
+
+abbrev entry-at-feed : tie.After-feed Inv-loop μ-loop → tie.Start Inv-loop μ-loop
+entry-at-feed c = entry-at-loop (c .before .before .before .before .before)
+
+abbrev feed-at-put-line-arg2 : tie.After-put-line-arg2 Inv-loop μ-loop → tie.After-feed Inv-loop μ-loop
+feed-at-put-line-arg2 c = feed-at-buf3 (c .before .before)
+
+abbrev feed-at-slice-known2 : tie.After-slice-known2 Inv-loop μ-loop → tie.After-feed Inv-loop μ-loop
+feed-at-slice-known2 c = feed-at-buf3 (c .before .before .before .before .before)
+
 -- The promise of a call over the chunk's rest, what its answer says, and that it is not refused.
 feeds : (f : tie.After-feed Inv-loop μ-loop) →
-    Feeds (f .before .before .before .before .before .loop .state) (drop (f .before .before .before .before .before .loop .done) (f .before .before .before .before .before .before .before .before .args .chunk .now)) (f .before .before .before .before .before .loop .buf) (f .feed .result) (f .feed .last .1 .1 .0)
+    Feeds (loop-at-feed f .loop .state) (drop (loop-at-feed f .loop .done) (entry-at-feed f .args .chunk .now)) (loop-at-feed f .loop .buf) (f .feed .result) (f .feed .last .1 .1 .0)
 feeds f =
-    subst (λ (l : List ℕ). Feeds (f .before .before .before .before .before .loop .state) l (f .before .before .before .before .before .loop .buf) (f .feed .result) (f .feed .last .1 .1 .0))
-    (rest-is (f .before .before .before .before .before .before .before .before .args .chunk .now) (f .before .before .before .before .before .loop .done) (f .before .before .before .before .before .loop .inv .1)) (f .feed .ensures)
+    subst (λ (l : List ℕ). Feeds (loop-at-feed f .loop .state) l (loop-at-feed f .loop .buf) (f .feed .result) (f .feed .last .1 .1 .0))
+    (rest-is (entry-at-feed f .args .chunk .now) (loop-at-feed f .loop .done) (loop-at-feed f .loop .inv .1)) (f .feed .ensures)
 
 says : (f : tie.After-feed Inv-loop μ-loop) →
-    let r = f .before .before .before .before .before .loop .state in
-    let rest = drop (f .before .before .before .before .before .loop .done) (f .before .before .before .before .before .before .before .before .args .chunk .now) in
-    Says (feedRefusal r (length (f .before .before .before .before .before .loop .buf)) (length rest)) (line (stateOf r) rest) (Holds (after (stateOf r) (line (stateOf r) rest))) r
-    (f .before .before .before .before .before .loop .buf) (feedValuesOf (f .feed .result .answer)) (f .feed .result .reader) (f .feed .last .1 .1 .0)
-says f = feed-tells (f .before .before .before .before .before .loop .state) _ (f .before .before .before .before .before .loop .buf) (f .feed .result) _ (feeds f)
+    let r = loop-at-feed f .loop .state in
+    let rest = drop (loop-at-feed f .loop .done) (entry-at-feed f .args .chunk .now) in
+    Reports (feedRefusal r (length (loop-at-feed f .loop .buf)) (length rest)) (line (stateOf r) rest) (Holds (after (stateOf r) (line (stateOf r) rest))) r
+    (loop-at-feed f .loop .buf) (feedValuesOf (f .feed .result .answer)) (f .feed .result .reader) (f .feed .last .1 .1 .0)
+says f = feed-reports (loop-at-feed f .loop .state) _ (loop-at-feed f .loop .buf) (f .feed .result) _ (feeds f)
 
 free : (f : tie.After-feed Inv-loop μ-loop) →
-    feedRefusal (f .before .before .before .before .before .loop .state) (length (f .before .before .before .before .before .loop .buf)) (length (drop (f .before .before .before .before .before .loop .done) (f .before .before .before .before .before .before .before .before .args .chunk .now))) ≡ 0
+    feedRefusal (loop-at-feed f .loop .state) (length (loop-at-feed f .loop .buf)) (length (drop (loop-at-feed f .loop .done) (entry-at-feed f .args .chunk .now))) ≡ 0
 free f =
-    feed-free (f .before .before .before .before .before .loop .state) (drop (f .before .before .before .before .before .loop .done) (f .before .before .before .before .before .before .before .before .args .chunk .now)) (f .before .before .before .before .before .loop .buf) (f .before .before .before .before .before .loop .inv .2) (f .before .before .before .before .before .loop .inv .0)
-    (omega (arith, length-drop (f .before .before .before .before .before .loop .done) (f .before .before .before .before .before .before .before .before .args .chunk .now), f .before .before .before .before .before .before .before .before .pre .small))
+    feed-free (loop-at-feed f .loop .state) (drop (loop-at-feed f .loop .done) (entry-at-feed f .args .chunk .now)) (loop-at-feed f .loop .buf) (loop-at-feed f .loop .inv .2) (loop-at-feed f .loop .inv .0)
+    (omega (arith, length-drop (loop-at-feed f .loop .done) (entry-at-feed f .args .chunk .now), entry-at-feed f .pre .small))
 
 still : (f : tie.After-feed Inv-loop μ-loop) → length (f .feed .last .1 .1 .0) ≡ 256
-still f = f .feed .kept .1 .1 .0 ∙ f .before .before .before .before .before .loop .inv .0
+still f = f .feed .kept .1 .1 .0 ∙ loop-at-feed f .loop .inv .0
 
-fits : (f : tie.After-feed Inv-loop μ-loop) → Room (drain (stateOf (f .before .before .before .before .before .before .before .before .args .reader)) (f .before .before .before .before .before .before .before .before .args .chunk .now)) 0 0 (f .before .before .before .before .before .before .before .before .args .out .now)
-fits f = f .before .before .before .before .before .before .before .before .pre .fits
+fits : (f : tie.After-feed Inv-loop μ-loop) → Room (drain (stateOf (entry-at-feed f .args .reader)) (entry-at-feed f .args .chunk .now)) 0 0 (entry-at-feed f .args .out .now)
+fits f = entry-at-feed f .pre .fits
 
 -- The framing stays, and the bytes held are within its limit.
 limits : (f : tie.After-feed Inv-loop μ-loop) →
-    (f .feed .result .reader .framing ≡ f .before .before .before .before .before .loop .state .framing) × (f .feed .result .reader .count ≤ limit (f .before .before .before .before .before .loop .state .framing))
-limits f = feed-stays-in-limit (f .before .before .before .before .before .loop .state) _ (f .before .before .before .before .before .loop .buf) (f .feed .result) _ (feeds f) (f .before .before .before .before .before .loop .inv .2)
+    (f .feed .result .reader .framing ≡ loop-at-feed f .loop .state .framing) × (f .feed .result .reader .count ≤ limit (loop-at-feed f .loop .state .framing))
+limits f = feed-stays-in-limit (loop-at-feed f .loop .state) _ (loop-at-feed f .loop .buf) (f .feed .result) _ (feeds f) (loop-at-feed f .loop .inv .2)
 
 -- The bytes taken are within the chunk.
 taken-inside : (f : tie.After-feed Inv-loop μ-loop) {taken more len : ℕ} → feedValuesOf (f .feed .result .answer) ≡ frameValues taken more len →
-    f .before .before .before .before .before .loop .done + taken ≤ length (f .before .before .before .before .before .before .before .before .args .chunk .now)
+    loop-at-feed f .loop .done + taken ≤ length (entry-at-feed f .args .chunk .now)
 taken-inside f e =
-    let chunk = f .before .before .before .before .before .before .before .before .args .chunk .now in
-    let done = f .before .before .before .before .before .loop .done in
-    omega (arith, says-taken _ (says f) (free f) e, taken-is-inside (stateOf (f .before .before .before .before .before .loop .state)) (drop done chunk), length-drop done chunk, f .before .before .before .before .before .loop .inv .1)
+    let chunk = entry-at-feed f .args .chunk .now in
+    let done = loop-at-feed f .loop .done in
+    omega (arith, says-taken _ (says f) (free f) e, taken-is-inside (stateOf (loop-at-feed f .loop .state)) (drop done chunk), length-drop done chunk, loop-at-feed f .loop .inv .1)
 
 loop-holds : tie.Need-loop-holds Inv-loop μ-loop
 loop-holds c =
-    (refl, zero-le, c .before .before .pre .within, refl, midway (stateOf (c .before .before .args .reader)) _ _ _ _)
+    (refl, zero-le, c .before .before .pre .within, refl, partly-drained (stateOf (c .before .before .args .reader)) _ _ _ _)
 
 sub-feed : tie.Need-sub-feed Inv-loop μ-loop
 sub-feed c = c .before .before .loop .inv .1
@@ -90,44 +137,44 @@ enum-known-answer : tie.Need-enum-known-answer Inv-loop μ-loop
 enum-known-answer c = search needs
 
 slice-aggregate-whole : tie.Need-slice-aggregate-whole Inv-loop μ-loop
-slice-aggregate-whole c = sym (still (c .before .before .before .before .before .before))
+slice-aggregate-whole c = sym (still (feed-at-buf3 c))
 
 slice-aggregate-put-line : tie.Need-slice-aggregate-put-line Inv-loop μ-loop
 slice-aggregate-put-line c =
-    front _ _ (says-inside _ (says (c .before .before .before .before .before .before .before)) (free (c .before .before .before .before .before .before .before)) (ap feedValuesOf (c .before .before .before .answer .given .1)))
+    front _ _ (says-inside _ (says (feed-at-put-line-arg c)) (free (feed-at-put-line-arg c)) (ap feedValuesOf (c .before .before .before .answer .given .1)))
 
 put-line-requires : tie.Need-put-line-requires Inv-loop μ-loop
 put-line-requires c κs =
-    frame-room (c .before .before .before .before .before .before .before .before .before .before .before .before .before .loop .inv .4) (fits (c .before .before .before .before .before .before .before .before)) _ _ (says-frame _ (says (c .before .before .before .before .before .before .before .before)) (free (c .before .before .before .before .before .before .before .before)) (ap feedValuesOf (c .before .before .before .before .answer .given .1)))
+    frame-room (loop-at-feed (feed-at-put-line-arg2 c) .loop .inv .4) (fits (feed-at-put-line-arg2 c)) _ _ (says-frame _ (says (feed-at-put-line-arg2 c)) (free (feed-at-put-line-arg2 c)) (ap feedValuesOf (c .before .before .before .before .answer .given .1)))
 
 add-done : tie.Need-add-done Inv-loop μ-loop
 add-done c =
-    omega (arith, taken-inside (c .before .before .before .before .before .before .before .before .before .before .before) (ap feedValuesOf (c .before .before .before .before .before .before .before .answer .given .1)))
+    omega (arith, taken-inside (feed-at-slice-known2 c) (ap feedValuesOf (answer-at-slice-known2 c .answer .given .1)))
 
 add-total : tie.Need-add-total Inv-loop μ-loop
 add-total c =
-    omega (arith, frame-noise (c .before .before .before .before .before .before .before .before .before .before .before .before .before .before .before .before .loop .inv .4) (fits (c .before .before .before .before .before .before .before .before .before .before .before)) _ _ (says-frame _ (says (c .before .before .before .before .before .before .before .before .before .before .before)) (free (c .before .before .before .before .before .before .before .before .before .before .before)) (ap feedValuesOf (c .before .before .before .before .before .before .before .answer .given .1))))
+    omega (arith, frame-noise (loop-at-feed (feed-at-slice-known2 c) .loop .inv .4) (fits (feed-at-slice-known2 c)) _ _ (says-frame _ (says (feed-at-slice-known2 c)) (free (feed-at-slice-known2 c)) (ap feedValuesOf (answer-at-slice-known2 c .answer .given .1))))
 
 loop-less : tie.Need-loop-less Inv-loop μ-loop
 loop-less c =
-    let f = c .before .before .before .before .before .before .before .before .before .before .before in
-    let l = c .before .before .before .before .before .before .before .before .before .before .before .before .before .before .before .before .loop in
-    let e = ap feedValuesOf (c .before .before .before .before .before .before .before .answer .given .1) in
+    let f = feed-at-slice-known2 c in
+    let l = loop-at-feed (feed-at-slice-known2 c) .loop in
+    let e = ap feedValuesOf (answer-at-slice-known2 c .answer .given .1) in
     let less = frame-less (l .inv .4) (fits f) _ _ (says-frame _ (says f) (free f) e) in
-    let same = feed-left (l .state) (c .before .before .before .before .before .before .before .before .before .before .before .before .before .before .before .before .before .before .before .args .chunk .now) (l .done) _ (f .feed .result .reader) (says-next _ (says f) (free f)) (says-taken _ (says f) (free f) e) in
+    let same = feed-left (l .state) (entry-at-feed (feed-at-slice-known2 c) .args .chunk .now) (l .done) _ (f .feed .result .reader) (says-next _ (says f) (free f)) (says-taken _ (says f) (free f) e) in
     omega (arith, less, ap (λ (st : Settled). length (st .out .frames)) same)
 
 loop-again : tie.Need-loop-again Inv-loop μ-loop
 loop-again c =
-    let f = c .before .before .before .before .before .before .before .before .before .before .before in
-    let l = c .before .before .before .before .before .before .before .before .before .before .before .before .before .before .before .before .loop in
-    let e = ap feedValuesOf (c .before .before .before .before .before .before .before .answer .given .1) in
+    let f = feed-at-slice-known2 c in
+    let l = loop-at-feed (feed-at-slice-known2 c) .loop in
+    let e = ap feedValuesOf (answer-at-slice-known2 c .answer .given .1) in
     let kept = limits f in (
       still f,
       taken-inside f e,
       rw (kept .0) (kept .1),
       kept .0 ∙ l .inv .3,
-      feed-next (l .state) (c .before .before .before .before .before .before .before .before .before .before .before .before .before .before .before .before .before .before .before .args .chunk .now) (l .done) _ (f .feed .result .reader) (says-next _ (says f) (free f)) (says-taken _ (says f) (free f) e)
+      feed-next (l .state) (entry-at-feed (feed-at-slice-known2 c) .args .chunk .now) (l .done) _ (f .feed .result .reader) (says-next _ (says f) (free f)) (says-taken _ (says f) (free f) e)
           (frame-step (l .inv .4) (fits f) _ _ (says-frame _ (says f) (free f) e) (c .before .before .put-line .ensures)),
     )
 
@@ -136,20 +183,20 @@ enum-known-answer-2 c = search needs
 
 add-part-at : tie.Need-add-part-at Inv-loop μ-loop
 add-part-at c =
-    omega (arith, none-noise (c .before .before .before .before .before .before .before .before .before .before .loop .inv .4) (fits (c .before .before .before .before .before)) _ (says-none _ (says (c .before .before .before .before .before)) (free (c .before .before .before .before .before)) (ap feedValuesOf (c .before .answer2 .given .1))))
+    omega (arith, none-noise (loop-at-feed (feed-at-known-told2 c) .loop .inv .4) (fits (c .before .before .before .before .before)) _ (says-none _ (says (c .before .before .before .before .before)) (free (c .before .before .before .before .before)) (ap feedValuesOf (c .before .answer2 .given .1))))
 
 part-at-requires : tie.Need-part-at-requires Inv-loop μ-loop
 part-at-requires c κs = search needs
 
 same-length : tie.Need-same-length Inv-loop μ-loop
 same-length c =
-    c .before .before .before .before .before .before .before .before .before .before .before .loop .inv .4 .progress .text .long
+    loop-at-feed (feed-at-part-at c) .loop .inv .4 .progress .text .long
 
 returns : tie.Need-returns Inv-loop μ-loop
 returns c =
-    let f = c .before .before .before .before .before .before in
-    let l = c .before .before .before .before .before .before .before .before .before .before .before .loop in
-    let a = c .before .before .before .before .before .before .before .before .before .before .before .before .before .before .args in
+    let f = feed-at-part-at c in
+    let l = loop-at-feed (feed-at-part-at c) .loop in
+    let a = entry-at-feed (feed-at-part-at c) .args in
     subst (λ (p : Part). HeldListed (a .reader) (a .chunk .now) (a .out .now) p (l .out)) (sym (c .part-at .ensures))
     (record {
       inside = l .inv .1;
@@ -167,7 +214,7 @@ part-at-requires-2 c κs = search needs
 
 same-length-2 : tie.Need-same-length-2 Inv-loop μ-loop
 same-length-2 c =
-    c .before .before .before .before .before .before .before .before .before .before .loop .inv .4 .progress .text .long
+    loop-at-feed (feed-at-part-at2 c) .loop .inv .4 .progress .text .long
 
 returns-2 : tie.Need-returns-2 Inv-loop μ-loop
 returns-2 c =
@@ -182,7 +229,7 @@ same-length-3 c = c .before .before .before .loop .inv .4 .progress .text .long
 returns-3 : tie.Need-returns-3 Inv-loop μ-loop
 returns-3 c =
     let l = c .before .before .before .loop in
-    let a = c .before .before .before .before .before .before .args in
+    let a = entry-at-part-at3 c .args in
     subst (λ (p : Part). HeldListed (a .reader) (a .chunk .now) (a .out .now) p (l .out)) (sym (c .part-at3 .ensures))
     (record {
       inside = l .inv .1;

@@ -9,12 +9,13 @@ use borrow.Author.Needs.{needs}
 use borrow.Author.Tests.{not-true, not-false}
 use lib.ListN.{length, take}
 use Rattle.io.proofs.Counting.{front}
-use Rattle.frame.specs.Draining.{ruleAfter, Says}
+use Rattle.frame.specs.Draining.{Reports}
 use Rattle.frame.specs.Framing.{limit}
 use Rattle.frame.specs.Rule.{Output, join}
 use Rattle.frame.specs.Reader.{stateOf, quiet, AfterQuiet, newReader, sound, frameValues, noFrameValues, quietValuesOf, quietRefusal}
+use Rattle.frame.specs.Drain.{ruleAfter}
 use Rattle.frame.specs.declared.refusal.Refusal.the-variants.{State, Buffer}
-use Rattle.frame.proofs.Theorems.{quiet-tells, quiet-stays-in-limit}
+use Rattle.frame.proofs.Theorems.{quiet-reports, quiet-stays-in-limit}
 use Rattle.listing.specs.Line.{linesOf}
 use Rattle.listing.specs.Parts.{Progress}
 use Rattle.listing.proofs.Chunks.{one, sound-count, quiet-room, progress, progress-room, progress-frame, progress-noise, says-frame, says-none, says-inside}
@@ -30,57 +31,94 @@ Inv-loop out₀ buf₀ state₀ end₀ total₀ out buf state end total =
 abbrev μ-loop : tie.MeasureT-loop
 μ-loop out₀ buf₀ state₀ end₀ total₀ out buf state end total = length (ruleAfter (stateOf state) [] .frames)
 
+-- Earlier places of the code, seen from later ones.
+abbrev loop-at-quiet : tie.After-quiet Inv-loop μ-loop → tie.At-loop Inv-loop μ-loop
+loop-at-quiet c = c .before .before
+
+abbrev quiet-at-buf2 : tie.After-buf2 Inv-loop μ-loop → tie.After-quiet Inv-loop μ-loop
+quiet-at-buf2 c = c .before
+
+abbrev quiet-at-buf3 : tie.After-buf3 Inv-loop μ-loop → tie.After-quiet Inv-loop μ-loop
+quiet-at-buf3 c = quiet-at-buf2 (c .before .before .before .before .before)
+
+abbrev quiet-at-lines : tie.After-lines Inv-loop μ-loop → tie.After-quiet Inv-loop μ-loop
+quiet-at-lines c = quiet-at-buf2 (c .before .before .before .before .before)
+
+abbrev quiet-at-refused3 : tie.After-refused3 Inv-loop μ-loop → tie.After-quiet Inv-loop μ-loop
+quiet-at-refused3 c = quiet-at-buf2 (c .before .before .before .before .before)
+
+abbrev entry-at-is-sound : tie.After-is-sound Inv-loop μ-loop → tie.Start Inv-loop μ-loop
+entry-at-is-sound c = c .before .before
+
+abbrev entry-at-quiet : tie.After-quiet Inv-loop μ-loop → tie.Start Inv-loop μ-loop
+entry-at-quiet c = entry-at-is-sound (c .before .before .before .before .before)
+
+abbrev quiet-at-put-line-arg : tie.After-put-line-arg Inv-loop μ-loop → tie.After-quiet Inv-loop μ-loop
+quiet-at-put-line-arg c = quiet-at-buf3 (c .before)
+
+abbrev answer-at-buf3 : tie.After-buf3 Inv-loop μ-loop → tie.After-answer Inv-loop μ-loop
+answer-at-buf3 c = c .before .before
+
+abbrev answer-at-slice-known2 : tie.After-slice-known2 Inv-loop μ-loop → tie.After-answer Inv-loop μ-loop
+answer-at-slice-known2 c = answer-at-buf3 (c .before .before .before .before .before)
+
+abbrev quiet-at-put-line-arg2 : tie.After-put-line-arg2 Inv-loop μ-loop → tie.After-quiet Inv-loop μ-loop
+quiet-at-put-line-arg2 c = quiet-at-buf3 (c .before .before)
+
+abbrev quiet-at-slice-known2 : tie.After-slice-known2 Inv-loop μ-loop → tie.After-quiet Inv-loop μ-loop
+quiet-at-slice-known2 c = quiet-at-buf3 (c .before .before .before .before .before)
+
 -- The state is sound.
 yes : (c : tie.Else1 Inv-loop μ-loop) → sound (c .before .before .before .args .reader) ≡ true
 yes c = sym (c .before .is-sound .ensures) ∙ not-false _ (c .if1 .left)
 
 -- What the answer of a call says, that it is not refused, and that the buffer keeps its length.
 says : (q : tie.After-quiet Inv-loop μ-loop) →
-    let r = q .before .before .loop .state in
-    Says (quietRefusal r (length (q .before .before .loop .buf))) (quiet (stateOf r)) (AfterQuiet (stateOf r) (quiet (stateOf r)) (quiet (stateOf r) .out .frames)) r
-    (q .before .before .loop .buf) (quietValuesOf (q .quiet .result .answer)) (q .quiet .result .reader) (q .quiet .last .1 .0)
-says q = quiet-tells (q .before .before .loop .state) (q .before .before .loop .buf) (q .quiet .result) _ (q .quiet .ensures)
+    let r = loop-at-quiet q .loop .state in
+    Reports (quietRefusal r (length (loop-at-quiet q .loop .buf))) (quiet (stateOf r)) (AfterQuiet (stateOf r) (quiet (stateOf r)) (quiet (stateOf r) .out .frames)) r
+    (loop-at-quiet q .loop .buf) (quietValuesOf (q .quiet .result .answer)) (q .quiet .result .reader) (q .quiet .last .1 .0)
+says q = quiet-reports (loop-at-quiet q .loop .state) (loop-at-quiet q .loop .buf) (q .quiet .result) _ (q .quiet .ensures)
 
-free : (q : tie.After-quiet Inv-loop μ-loop) → quietRefusal (q .before .before .loop .state) (length (q .before .before .loop .buf)) ≡ 0
-free q = quiet-free (q .before .before .loop .state) (q .before .before .loop .buf) (q .before .before .loop .inv .1) (q .before .before .loop .inv .0)
+free : (q : tie.After-quiet Inv-loop μ-loop) → quietRefusal (loop-at-quiet q .loop .state) (length (loop-at-quiet q .loop .buf)) ≡ 0
+free q = quiet-free (loop-at-quiet q .loop .state) (loop-at-quiet q .loop .buf) (loop-at-quiet q .loop .inv .1) (loop-at-quiet q .loop .inv .0)
 
 still : (q : tie.After-quiet Inv-loop μ-loop) → length (q .quiet .last .1 .0) ≡ 256
-still q = q .quiet .kept .1 .0 ∙ q .before .before .loop .inv .0
+still q = q .quiet .kept .1 .0 ∙ loop-at-quiet q .loop .inv .0
 
 limits : (q : tie.After-quiet Inv-loop μ-loop) →
-    (q .quiet .result .reader .framing ≡ q .before .before .loop .state .framing) × (q .quiet .result .reader .count ≤ limit (q .before .before .loop .state .framing))
-limits q = quiet-stays-in-limit (q .before .before .loop .state) (q .before .before .loop .buf) (q .quiet .result) _ (q .quiet .ensures) (q .before .before .loop .inv .1)
+    (q .quiet .result .reader .framing ≡ loop-at-quiet q .loop .state .framing) × (q .quiet .result .reader .count ≤ limit (loop-at-quiet q .loop .state .framing))
+limits q = quiet-stays-in-limit (loop-at-quiet q .loop .state) (loop-at-quiet q .loop .buf) (q .quiet .result) _ (q .quiet .ensures) (loop-at-quiet q .loop .inv .1)
 
 -- There is room for all lines, and little noise.
 room : (q : tie.After-quiet Inv-loop μ-loop) →
-    (0 + length (linesOf (ruleAfter (stateOf (q .before .before .before .before .before .before .before .args .reader)) [] .frames)) ≤ length (q .before .before .before .before .before .before .before .args .out .now))
-    × (ruleAfter (stateOf (q .before .before .before .before .before .before .before .args .reader)) [] .noise ≤ 517)
-room q = quiet-room (q .before .before .before .before .before .before .before .args .reader) (q .before .before .before .before .before .before .before .args .out .now) (sound-count (q .before .before .before .before .before .before .before .args .reader) (yes (q .before .before .before .before))) (q .before .before .before .if2 .left)
+    (0 + length (linesOf (ruleAfter (stateOf (entry-at-quiet q .args .reader)) [] .frames)) ≤ length (entry-at-quiet q .args .out .now))
+    × (ruleAfter (stateOf (entry-at-quiet q .args .reader)) [] .noise ≤ 517)
+room q = quiet-room (entry-at-quiet q .args .reader) (entry-at-quiet q .args .out .now) (sound-count (entry-at-quiet q .args .reader) (yes (q .before .before .before .before))) (q .before .before .before .if2 .left)
 
 -- With a frame: what is left begins with it.
 frame-left : (q : tie.After-quiet Inv-loop μ-loop) {taken more len : ℕ} → quietValuesOf (q .quiet .result .answer) ≡ frameValues taken more len →
-    ruleAfter (stateOf (q .before .before .loop .state)) [] ≡ join (one (take len (q .quiet .last .1 .0)) more) (ruleAfter (stateOf (q .quiet .result .reader)) [])
-frame-left q e = quiet-next (q .before .before .loop .state) (q .quiet .result .reader) (says-next _ (says q) (free q)) _ _ (says-frame _ (says q) (free q) e)
+    ruleAfter (stateOf (loop-at-quiet q .loop .state)) [] ≡ join (one (take len (q .quiet .last .1 .0)) more) (ruleAfter (stateOf (q .quiet .result .reader)) [])
+frame-left q e = quiet-next (loop-at-quiet q .loop .state) (q .quiet .result .reader) (says-next _ (says q) (free q)) _ _ (says-frame _ (says q) (free q) e)
 
 frame-few : (q : tie.After-quiet Inv-loop μ-loop) {taken more len : ℕ} → quietValuesOf (q .quiet .result .answer) ≡ frameValues taken more len →
-    q .before .before .loop .total + more ≤ 517
+    loop-at-quiet q .loop .total + more ≤ 517
 unfolding join
 frame-few q {more = more} e =
-    let l : more ≤ ruleAfter (stateOf (q .before .before .loop .state)) [] .noise = omega (arith, ap (λ (o : Output (List ℕ)). o .noise) (frame-left q e)) in
-    omega (arith, progress-noise (q .before .before .loop .inv .3) more l, room q .1)
+    let l : more ≤ ruleAfter (stateOf (loop-at-quiet q .loop .state)) [] .noise = omega (arith, ap (λ (o : Output (List ℕ)). o .noise) (frame-left q e)) in
+    omega (arith, progress-noise (loop-at-quiet q .loop .inv .3) more l, room q .1)
 
 frame-less : (q : tie.After-quiet Inv-loop μ-loop) {taken more len : ℕ} → quietValuesOf (q .quiet .result .answer) ≡ frameValues taken more len →
-    length (ruleAfter (stateOf (q .quiet .result .reader)) [] .frames) < length (ruleAfter (stateOf (q .before .before .loop .state)) [] .frames)
+    length (ruleAfter (stateOf (q .quiet .result .reader)) [] .frames) < length (ruleAfter (stateOf (loop-at-quiet q .loop .state)) [] .frames)
 unfolding join
 frame-less q e = omega (arith, ap (λ (o : Output (List ℕ)). length (o .frames)) (frame-left q e))
 
 -- Without one: noise is all that is left.
 none-few : (q : tie.After-quiet Inv-loop μ-loop) {taken more : ℕ} → quietValuesOf (q .quiet .result .answer) ≡ noFrameValues taken more →
-    q .before .before .loop .total + more ≤ 517
+    loop-at-quiet q .loop .total + more ≤ 517
 none-few q {more = more} e =
-    let end = quiet-end (q .before .before .loop .state) (q .quiet .result .reader) (says-next _ (says q) (free q)) more (says-none _ (says q) (free q) e) in
-    let l : more ≤ ruleAfter (stateOf (q .before .before .loop .state)) [] .noise = omega (arith, ap (λ (o : Output (List ℕ)). o .noise) (end .0)) in
-    omega (arith, progress-noise (q .before .before .loop .inv .3) more l, room q .1)
+    let end = quiet-end (loop-at-quiet q .loop .state) (q .quiet .result .reader) (says-next _ (says q) (free q)) more (says-none _ (says q) (free q) e) in
+    let l : more ≤ ruleAfter (stateOf (loop-at-quiet q .loop .state)) [] .noise = omega (arith, ap (λ (o : Output (List ℕ)). o .noise) (end .0)) in
+    omega (arith, progress-noise (loop-at-quiet q .loop .inv .3) more l, room q .1)
 
 is-sound-requires : tie.Need-is-sound-requires Inv-loop μ-loop
 is-sound-requires c κs = search needs
@@ -92,7 +130,7 @@ returns : tie.Need-returns Inv-loop μ-loop
 returns c =
     let a = c .before .before .before .before .args in
     refused-lists (ruleAfter (stateOf (a .reader)) []) (a .reader) (a .out .now) (c .refused .result) State
-    (end-state (a .reader) (length (a .out .now)) 0 (sym (c .before .before .is-sound .ensures) ∙ not-true _ (c .before .if1 .taken))) (c .refused .ensures .0) (c .refused .ensures .1)
+    (end-state (a .reader) (length (a .out .now)) (sym (c .before .before .is-sound .ensures) ∙ not-true _ (c .before .if1 .taken))) (c .refused .ensures .0) (c .refused .ensures .1)
 
 refused-requires-2 : tie.Need-refused-requires-2 Inv-loop μ-loop
 refused-requires-2 c κs = search needs
@@ -101,7 +139,7 @@ returns-2 : tie.Need-returns-2 Inv-loop μ-loop
 returns-2 c =
     let a = c .before .before .before .before .before .args in
     refused-lists (ruleAfter (stateOf (a .reader)) []) (a .reader) (a .out .now) (c .refused2 .result) Buffer
-    (end-buffer (a .reader) (length (a .out .now)) 0 (yes (c .before .before)) (c .before .if2 .taken)) (c .refused2 .ensures .0) (c .refused2 .ensures .1)
+    (end-buffer (a .reader) (length (a .out .now)) (yes (c .before .before)) (c .before .if2 .taken)) (c .refused2 .ensures .0) (c .refused2 .ensures .1)
 
 loop-holds : tie.Need-loop-holds Inv-loop μ-loop
 loop-holds c =
@@ -117,33 +155,33 @@ enum-known-answer : tie.Need-enum-known-answer Inv-loop μ-loop
 enum-known-answer c = search needs
 
 slice-aggregate-whole : tie.Need-slice-aggregate-whole Inv-loop μ-loop
-slice-aggregate-whole c = sym (still (c .before .before .before .before .before .before))
+slice-aggregate-whole c = sym (still (quiet-at-buf3 c))
 
 slice-aggregate-put-line : tie.Need-slice-aggregate-put-line Inv-loop μ-loop
 slice-aggregate-put-line c =
-    front _ _ (says-inside _ (says (c .before .before .before .before .before .before .before)) (free (c .before .before .before .before .before .before .before)) (ap quietValuesOf (c .before .before .before .answer .given .1)))
+    front _ _ (says-inside _ (says (quiet-at-put-line-arg c)) (free (quiet-at-put-line-arg c)) (ap quietValuesOf (c .before .before .before .answer .given .1)))
 
 put-line-requires : tie.Need-put-line-requires Inv-loop μ-loop
 put-line-requires c κs =
-    progress-room (c .before .before .before .before .before .before .before .before .before .before .loop .inv .3) (room (c .before .before .before .before .before .before .before .before) .0) _ _ _ (frame-left (c .before .before .before .before .before .before .before .before) (ap quietValuesOf (c .before .before .before .before .answer .given .1)))
+    progress-room (loop-at-quiet (quiet-at-put-line-arg2 c) .loop .inv .3) (room (quiet-at-put-line-arg2 c) .0) _ _ _ (frame-left (quiet-at-put-line-arg2 c) (ap quietValuesOf (c .before .before .before .before .answer .given .1)))
 
 add-total : tie.Need-add-total Inv-loop μ-loop
 add-total c =
-    omega (arith, frame-few (c .before .before .before .before .before .before .before .before .before .before .before) (ap quietValuesOf (c .before .before .before .before .before .before .before .answer .given .1)))
+    omega (arith, frame-few (quiet-at-slice-known2 c) (ap quietValuesOf (answer-at-slice-known2 c .answer .given .1)))
 
 loop-less : tie.Need-loop-less Inv-loop μ-loop
 loop-less c =
-    frame-less (c .before .before .before .before .before .before .before .before .before .before .before) (ap quietValuesOf (c .before .before .before .before .before .before .before .answer .given .1))
+    frame-less (quiet-at-slice-known2 c) (ap quietValuesOf (answer-at-slice-known2 c .answer .given .1))
 
 loop-again : tie.Need-loop-again Inv-loop μ-loop
 loop-again c =
-    let q = c .before .before .before .before .before .before .before .before .before .before .before in
-    let l = c .before .before .before .before .before .before .before .before .before .before .before .before .before .loop in
+    let q = quiet-at-slice-known2 c in
+    let l = loop-at-quiet (quiet-at-slice-known2 c) .loop in
     let kept = limits q in (
       still q,
       rw (kept .0) (kept .1),
       kept .0 ∙ l .inv .2,
-      progress-frame (l .inv .3) (room q .0) _ _ _ (frame-left q (ap quietValuesOf (c .before .before .before .before .before .before .before .answer .given .1))) (c .before .before .put-line .ensures),
+      progress-frame (l .inv .3) (room q .0) _ _ _ (frame-left q (ap quietValuesOf (answer-at-slice-known2 c .answer .given .1))) (c .before .before .put-line .ensures),
     )
 
 enum-known-answer-2 : tie.Need-enum-known-answer-2 Inv-loop μ-loop
@@ -157,15 +195,15 @@ lines-requires : tie.Need-lines-requires Inv-loop μ-loop
 lines-requires c κs = search needs
 
 same-length : tie.Need-same-length Inv-loop μ-loop
-same-length c = c .before .before .before .before .before .before .before .before .loop .inv .3 .text .long
+same-length c = loop-at-quiet (quiet-at-lines c) .loop .inv .3 .text .long
 
 returns-3 : tie.Need-returns-3 Inv-loop μ-loop
 returns-3 c =
-    let q = c .before .before .before .before .before .before in
-    let l = c .before .before .before .before .before .before .before .before .loop in
-    let a = c .before .before .before .before .before .before .before .before .before .before .before .before .before .args in
+    let q = quiet-at-lines c in
+    let l = loop-at-quiet (quiet-at-lines c) .loop in
+    let a = entry-at-quiet (quiet-at-lines c) .args in
     let e = quiet-end (l .state) (q .quiet .result .reader) (says-next _ (says q) (free q)) _ (says-none _ (says q) (free q) (ap quietValuesOf (c .before .before .answer2 .given .1))) in
-    quiet-lists (a .reader) (a .out .now) (c .lines .result) _ (l .inv .3) (sound-count (a .reader) (yes (c .before .before .before .before .before .before .before .before .before .before))) (c .before .before .before .before .before .before .before .before .before .if2 .left) (e .0)
+    quiet-lists (a .reader) (a .out .now) (c .lines .result) _ (l .inv .3) (sound-count (a .reader) (yes (quiet-at-lines c .before .before .before .before))) (quiet-at-lines c .before .before .before .if2 .left) (e .0)
     (c .lines .ensures .0 ∙ e .1 ∙ ap newReader (l .inv .2)) (c .lines .ensures .1)
 
 enum-known-answer-3 : tie.Need-enum-known-answer-3 Inv-loop μ-loop
@@ -175,11 +213,11 @@ refused-requires-3 : tie.Need-refused-requires-3 Inv-loop μ-loop
 refused-requires-3 c κs = search needs
 
 same-length-2 : tie.Need-same-length-2 Inv-loop μ-loop
-same-length-2 c = c .before .before .before .before .before .before .before .before .loop .inv .3 .text .long
+same-length-2 c = loop-at-quiet (quiet-at-refused3 c) .loop .inv .3 .text .long
 
 returns-4 : tie.Need-returns-4 Inv-loop μ-loop
 returns-4 c =
-    absurd (says-refused _ (says (c .before .before .before .before .before .before)) (free (c .before .before .before .before .before .before)) (c .before .before .answer3 .given .0 .0) (ap quietValuesOf (c .before .before .answer3 .given .1)))
+    absurd (says-refused _ (says (quiet-at-refused3 c)) (free (quiet-at-refused3 c)) (c .before .before .answer3 .given .0 .0) (ap quietValuesOf (c .before .before .answer3 .given .1)))
 
 pub list-quiet-spec : {M : Type 1} → statement M
 list-quiet-spec =

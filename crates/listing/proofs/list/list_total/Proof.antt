@@ -6,7 +6,7 @@ use borrow.Author.Needs.{needs}
 use borrow.Author.Tests.{le-leb, lt-leb}
 use lib.ListN.{length, length-append}
 use Rattle.listing.specs.Line.{noiseLine}
-use Rattle.listing.proofs.Texts.{going, going-next, going-last}
+use Rattle.listing.proofs.Texts.{partly-put, partly-put-next, partly-put-last}
 use Rattle.listing.proofs.Lines.{decimal-few, noise-parts, noise-room}
 use Rattle.listing.proofs.Chunks.{puts-front}
 use Rattle.listing.proofs.list.list_total.Statement.{statement}
@@ -26,8 +26,9 @@ put-text-requires c κs = omega arith
 
 put-decimal-requires : tie.Need-put-decimal-requires
 put-decimal-requires c κs =
-    let s = c .before .before .before .before .before .before .before .before in
-    let p = c .before .before .before .put-text in
+    let t = c .before .before .before in
+    let s = t .before .before .before .before .before in
+    let p = t .put-text in
     simp length-append (omega (arith, p .ensures .ends, p .kept .0, decimal-few (s .args .noise)))
 
 same-length : tie.Need-same-length
@@ -35,12 +36,15 @@ same-length c = search needs
 
 returns-2 : tie.Need-returns-2
 returns-2 c =
-    let s = c .before .before .before .before .before .before .before .before .before .before .before in
+    let d = c .before .before in
+    let t = d .before .before .before .before in
+    let i = t .before .before .before in
+    let s = i .before .before in
     let o = s .args .out .now in
-    let long = le-leb 27 (length o) (c .before .before .before .before .before .before .before .before .before .if1 .left) in
-    let room = noise-room (s .args .noise) o (c .before .before .before .before .before .before .before .before .before .if1 .left) in
-    let g = going-next room (going o 0 (noise-parts (s .args .noise))) (c .before .before .before .before .before .before .put-text .ensures) in
-    let front = puts-front o (noiseLine (s .args .noise)) _ _ (going-last room g (c .before .before .put-decimal .ensures)) in
+    let long = le-leb 27 (length o) (i .if1 .left) in
+    let room = noise-room (s .args .noise) o (i .if1 .left) in
+    let g = partly-put-next room (partly-put o 0 (noise-parts (s .args .noise))) (t .put-text .ensures) in
+    let front = puts-front o (noiseLine (s .args .noise)) _ _ (partly-put-last room g (d .put-decimal .ensures)) in
     record {
       answers = rw long (λ i. record { number = 0; len = front .0 i });
       leaves = rw long (front .1);

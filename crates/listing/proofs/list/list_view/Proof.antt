@@ -6,12 +6,13 @@ use mathlib.Core.Path.{_≡_, refl, sym, ap, _∙_}
 use borrow.Author.Needs.{needs}
 use lib.ListN.{length, drop}
 use Rattle.io.proofs.Counting.{front}
-use Rattle.frame.specs.Draining.{drain, Says}
+use Rattle.frame.specs.Draining.{Reports}
 use Rattle.frame.specs.Reader.{State, Settled, feedValuesOf}
 use Rattle.frame.specs.View.{inside, viewed, viewCall, Follows, viewRefusal}
-use Rattle.frame.proofs.Theorems.{view-tells, view-stays-inside}
-use Rattle.listing.specs.Parts.{Midway, Room, viewDrain}
-use Rattle.listing.proofs.Chunks.{midway, frame-room, frame-noise, frame-step, frame-less, none-noise, none-lists}
+use Rattle.frame.specs.Drain.{drain}
+use Rattle.frame.proofs.Theorems.{view-reports, view-stays-inside}
+use Rattle.listing.specs.Parts.{PartlyDrained, Room, viewDrain}
+use Rattle.listing.proofs.Chunks.{partly-drained, frame-room, frame-noise, frame-step, frame-less, none-noise, none-lists}
 use Rattle.listing.proofs.Chunks.{says-frame, says-none, says-inside, says-next, says-refused, view-free, view-next, view-left, view-holds}
 use Rattle.listing.proofs.list.list_view.Statement.{statement}
 use Rattle.listing.proofs.list.list_view.Tie as tie
@@ -19,31 +20,71 @@ use Rattle.listing.proofs.list.list_view.Tie as tie
 abbrev Inv-loop : tie.InvT-loop
 Inv-loop chunk start before out₀ buf₀ view₀ end₀ total₀ out buf view end total =
     (length buf ≡ 256) × (inside view (length chunk) ≡ true) × (view .framing ≡ view₀ .framing)
-    × Midway (viewDrain view₀ chunk) (viewed view chunk) (drop (view .end) chunk) out₀ start before end total out
+    × PartlyDrained (viewDrain view₀ chunk) (viewed view chunk) (drop (view .end) chunk) out₀ start before end total out
 
 abbrev μ-loop : tie.MeasureT-loop
 μ-loop chunk start before out₀ buf₀ view₀ end₀ total₀ out buf view end total = length (drain (viewed view chunk) (drop (view .end) chunk) .out .frames)
 
+-- Earlier places of the code, seen from later ones.
+abbrev loop-at-feed : tie.After-feed Inv-loop μ-loop → tie.At-loop Inv-loop μ-loop
+loop-at-feed c = c .before .before
+
+abbrev entry-at-feed : tie.After-feed Inv-loop μ-loop → tie.Start Inv-loop μ-loop
+entry-at-feed c = c .before .before .before .before .before
+
+abbrev feed-at-buf2 : tie.After-buf2 Inv-loop μ-loop → tie.After-feed Inv-loop μ-loop
+feed-at-buf2 c = c .before
+
+abbrev feed-at-buf3 : tie.After-buf3 Inv-loop μ-loop → tie.After-feed Inv-loop μ-loop
+feed-at-buf3 c = feed-at-buf2 (c .before .before .before .before .before)
+
+abbrev feed-at-reader : tie.After-reader Inv-loop μ-loop → tie.After-feed Inv-loop μ-loop
+feed-at-reader c = feed-at-buf2 (c .before .before .before .before .before)
+
+abbrev feed-at-put-line-arg : tie.After-put-line-arg Inv-loop μ-loop → tie.After-feed Inv-loop μ-loop
+feed-at-put-line-arg c = feed-at-buf3 (c .before)
+
+abbrev answer-at-buf3 : tie.After-buf3 Inv-loop μ-loop → tie.After-answer Inv-loop μ-loop
+answer-at-buf3 c = c .before .before
+
+abbrev answer-at-slice-known2 : tie.After-slice-known2 Inv-loop μ-loop → tie.After-answer Inv-loop μ-loop
+answer-at-slice-known2 c = answer-at-buf3 (c .before .before .before .before .before)
+
+abbrev feed-at-lines : tie.After-lines Inv-loop μ-loop → tie.After-feed Inv-loop μ-loop
+feed-at-lines c = feed-at-reader (c .before)
+
+abbrev feed-at-view : tie.After-view Inv-loop μ-loop → tie.After-feed Inv-loop μ-loop
+feed-at-view c = c .before .before
+
+abbrev feed-at-refused : tie.After-refused Inv-loop μ-loop → tie.After-feed Inv-loop μ-loop
+feed-at-refused c = feed-at-view (c .before .before .before .before .before)
+
+abbrev feed-at-put-line-arg2 : tie.After-put-line-arg2 Inv-loop μ-loop → tie.After-feed Inv-loop μ-loop
+feed-at-put-line-arg2 c = feed-at-buf3 (c .before .before)
+
+abbrev feed-at-slice-known2 : tie.After-slice-known2 Inv-loop μ-loop → tie.After-feed Inv-loop μ-loop
+feed-at-slice-known2 c = feed-at-buf3 (c .before .before .before .before .before)
+
 -- What the answer of a call says, that it is not refused, and that the buffer keeps its length.
 says : (f : tie.After-feed Inv-loop μ-loop) →
-    let v = f .before .before .loop .view in
-    let chunk = f .before .before .before .before .before .args .chunk .now in
-    Says (viewRefusal v (length (f .before .before .loop .buf)) (length chunk)) (viewCall v chunk) (Follows v chunk (viewCall v chunk)) v (f .before .before .loop .buf)
+    let v = loop-at-feed f .loop .view in
+    let chunk = entry-at-feed f .args .chunk .now in
+    Reports (viewRefusal v (length (loop-at-feed f .loop .buf)) (length chunk)) (viewCall v chunk) (Follows v chunk (viewCall v chunk)) v (loop-at-feed f .loop .buf)
     (feedValuesOf (f .feed .result .answer)) (f .feed .result .view) (f .feed .last .1 .1 .0)
-says f = view-tells (f .before .before .loop .view) (f .before .before .before .before .before .args .chunk .now) (f .before .before .loop .buf) (f .feed .result) _ (f .feed .ensures)
+says f = view-reports (loop-at-feed f .loop .view) (entry-at-feed f .args .chunk .now) (loop-at-feed f .loop .buf) (f .feed .result) _ (f .feed .ensures)
 
-free : (f : tie.After-feed Inv-loop μ-loop) → viewRefusal (f .before .before .loop .view) (length (f .before .before .loop .buf)) (length (f .before .before .before .before .before .args .chunk .now)) ≡ 0
-free f = view-free (f .before .before .loop .view) (f .before .before .before .before .before .args .chunk .now) (f .before .before .loop .buf) (f .before .before .loop .inv .1) (f .before .before .loop .inv .0) (f .before .before .before .before .before .pre .small)
+free : (f : tie.After-feed Inv-loop μ-loop) → viewRefusal (loop-at-feed f .loop .view) (length (loop-at-feed f .loop .buf)) (length (entry-at-feed f .args .chunk .now)) ≡ 0
+free f = view-free (loop-at-feed f .loop .view) (entry-at-feed f .args .chunk .now) (loop-at-feed f .loop .buf) (loop-at-feed f .loop .inv .1) (loop-at-feed f .loop .inv .0) (entry-at-feed f .pre .small)
 
 still : (f : tie.After-feed Inv-loop μ-loop) → length (f .feed .last .1 .1 .0) ≡ 256
-still f = f .feed .kept .1 .1 .0 ∙ f .before .before .loop .inv .0
+still f = f .feed .kept .1 .1 .0 ∙ loop-at-feed f .loop .inv .0
 
-fits : (f : tie.After-feed Inv-loop μ-loop) → Room (viewDrain (f .before .before .before .before .before .args .first) (f .before .before .before .before .before .args .chunk .now)) (f .before .before .before .before .before .args .start) (f .before .before .before .before .before .args .before) (f .before .before .before .before .before .args .out .now)
-fits f = f .before .before .before .before .before .pre .fits
+fits : (f : tie.After-feed Inv-loop μ-loop) → Room (viewDrain (entry-at-feed f .args .first) (entry-at-feed f .args .chunk .now)) (entry-at-feed f .args .start) (entry-at-feed f .args .before) (entry-at-feed f .args .out .now)
+fits f = entry-at-feed f .pre .fits
 
 loop-holds : tie.Need-loop-holds Inv-loop μ-loop
 loop-holds c =
-    (refl, c .before .before .pre .lies, refl, midway (viewed (c .before .before .args .first) (c .before .before .args .chunk .now)) _ _ _ _)
+    (refl, c .before .before .pre .within, refl, partly-drained (viewed (c .before .before .args .first) (c .before .before .args .chunk .now)) _ _ _ _)
 
 slice-aggregate-feed : tie.Need-slice-aggregate-feed Inv-loop μ-loop
 slice-aggregate-feed c = sym (c .before .loop .inv .0)
@@ -55,39 +96,39 @@ enum-known-answer : tie.Need-enum-known-answer Inv-loop μ-loop
 enum-known-answer c = search needs
 
 slice-aggregate-whole : tie.Need-slice-aggregate-whole Inv-loop μ-loop
-slice-aggregate-whole c = sym (still (c .before .before .before .before .before .before))
+slice-aggregate-whole c = sym (still (feed-at-buf3 c))
 
 slice-aggregate-put-line : tie.Need-slice-aggregate-put-line Inv-loop μ-loop
 slice-aggregate-put-line c =
-    front _ _ (says-inside _ (says (c .before .before .before .before .before .before .before)) (free (c .before .before .before .before .before .before .before)) (ap feedValuesOf (c .before .before .before .answer .given .1)))
+    front _ _ (says-inside _ (says (feed-at-put-line-arg c)) (free (feed-at-put-line-arg c)) (ap feedValuesOf (c .before .before .before .answer .given .1)))
 
 put-line-requires : tie.Need-put-line-requires Inv-loop μ-loop
 put-line-requires c κs =
-    frame-room (c .before .before .before .before .before .before .before .before .before .before .loop .inv .3) (fits (c .before .before .before .before .before .before .before .before)) _ _ (says-frame _ (says (c .before .before .before .before .before .before .before .before)) (free (c .before .before .before .before .before .before .before .before)) (ap feedValuesOf (c .before .before .before .before .answer .given .1)))
+    frame-room (loop-at-feed (feed-at-put-line-arg2 c) .loop .inv .3) (fits (feed-at-put-line-arg2 c)) _ _ (says-frame _ (says (feed-at-put-line-arg2 c)) (free (feed-at-put-line-arg2 c)) (ap feedValuesOf (c .before .before .before .before .answer .given .1)))
 
 add-total : tie.Need-add-total Inv-loop μ-loop
 add-total c =
-    omega (arith, frame-noise (c .before .before .before .before .before .before .before .before .before .before .before .before .before .loop .inv .3) (fits (c .before .before .before .before .before .before .before .before .before .before .before)) _ _ (says-frame _ (says (c .before .before .before .before .before .before .before .before .before .before .before)) (free (c .before .before .before .before .before .before .before .before .before .before .before)) (ap feedValuesOf (c .before .before .before .before .before .before .before .answer .given .1))))
+    omega (arith, frame-noise (loop-at-feed (feed-at-slice-known2 c) .loop .inv .3) (fits (feed-at-slice-known2 c)) _ _ (says-frame _ (says (feed-at-slice-known2 c)) (free (feed-at-slice-known2 c)) (ap feedValuesOf (answer-at-slice-known2 c .answer .given .1))))
 
 loop-less : tie.Need-loop-less Inv-loop μ-loop
 loop-less c =
-    let f = c .before .before .before .before .before .before .before .before .before .before .before in
-    let l = c .before .before .before .before .before .before .before .before .before .before .before .before .before .loop in
-    let less = frame-less (l .inv .3) (fits f) _ _ (says-frame _ (says f) (free f) (ap feedValuesOf (c .before .before .before .before .before .before .before .answer .given .1))) in
-    let same = view-left (l .view) (c .before .before .before .before .before .before .before .before .before .before .before .before .before .before .before .before .args .chunk .now) (f .feed .result .view) (says-next _ (says f) (free f)) in
+    let f = feed-at-slice-known2 c in
+    let l = loop-at-feed (feed-at-slice-known2 c) .loop in
+    let less = frame-less (l .inv .3) (fits f) _ _ (says-frame _ (says f) (free f) (ap feedValuesOf (answer-at-slice-known2 c .answer .given .1))) in
+    let same = view-left (l .view) (entry-at-feed (feed-at-slice-known2 c) .args .chunk .now) (f .feed .result .view) (says-next _ (says f) (free f)) in
     omega (arith, less, ap (λ (st : Settled). length (st .out .frames)) same)
 
 loop-again : tie.Need-loop-again Inv-loop μ-loop
 loop-again c =
-    let f = c .before .before .before .before .before .before .before .before .before .before .before in
-    let l = c .before .before .before .before .before .before .before .before .before .before .before .before .before .loop in
-    let a = c .before .before .before .before .before .before .before .before .before .before .before .before .before .before .before .before .args in
+    let f = feed-at-slice-known2 c in
+    let l = loop-at-feed (feed-at-slice-known2 c) .loop in
+    let a = entry-at-feed (feed-at-slice-known2 c) .args in
     let next = says-next _ (says f) (free f) in (
       still f,
       view-stays-inside (l .view) (a .chunk .now) (l .buf) (f .feed .result) _ (f .feed .ensures) (l .inv .1),
       ap (λ (s : State). s .framing) (next .state) ∙ l .inv .2,
       view-next (l .view) (a .chunk .now) (f .feed .result .view) next
-          (frame-step (l .inv .3) (fits f) _ _ (says-frame _ (says f) (free f) (ap feedValuesOf (c .before .before .before .before .before .before .before .answer .given .1))) (c .before .before .put-line .ensures)),
+          (frame-step (l .inv .3) (fits f) _ _ (says-frame _ (says f) (free f) (ap feedValuesOf (answer-at-slice-known2 c .answer .given .1))) (c .before .before .put-line .ensures)),
     )
 
 enum-known-answer-2 : tie.Need-enum-known-answer-2 Inv-loop μ-loop
@@ -98,20 +139,20 @@ reader-requires c κs = search needs
 
 add-lines : tie.Need-add-lines Inv-loop μ-loop
 add-lines c =
-    omega (arith, none-noise (c .before .before .before .before .before .before .before .before .loop .inv .3) (fits (c .before .before .before .before .before .before)) _ (says-none _ (says (c .before .before .before .before .before .before)) (free (c .before .before .before .before .before .before)) (ap feedValuesOf (c .before .before .answer2 .given .1))))
+    omega (arith, none-noise (loop-at-feed (feed-at-reader c) .loop .inv .3) (fits (feed-at-reader c)) _ (says-none _ (says (feed-at-reader c)) (free (feed-at-reader c)) (ap feedValuesOf (c .before .before .answer2 .given .1))))
 
 lines-requires : tie.Need-lines-requires Inv-loop μ-loop
 lines-requires c κs = search needs
 
 same-length : tie.Need-same-length Inv-loop μ-loop
 same-length c =
-    c .before .before .before .before .before .before .before .before .before .loop .inv .3 .progress .text .long
+    loop-at-feed (feed-at-lines c) .loop .inv .3 .progress .text .long
 
 returns : tie.Need-returns Inv-loop μ-loop
 returns c =
-    let f = c .before .before .before .before .before .before .before in
-    let l = c .before .before .before .before .before .before .before .before .before .loop in
-    let a = c .before .before .before .before .before .before .before .before .before .before .before .before .args in
+    let f = feed-at-lines c in
+    let l = loop-at-feed (feed-at-lines c) .loop in
+    let a = entry-at-feed (feed-at-lines c) .args in
     none-lists (l .inv .3) (fits f) _ (says-none _ (says f) (free f) (ap feedValuesOf (c .before .before .before .answer2 .given .1))) (viewed (a .first) (a .chunk .now))
     (c .before .reader .result) (c .lines .result) (l .inv .2)
     (view-holds (l .view) (a .chunk .now) (f .feed .result .view) (c .before .reader .result) (says-next _ (says f) (free f))
@@ -129,11 +170,11 @@ refused-requires c κs = search needs
 
 same-length-2 : tie.Need-same-length-2 Inv-loop μ-loop
 same-length-2 c =
-    c .before .before .before .before .before .before .before .before .before .loop .inv .3 .progress .text .long
+    loop-at-feed (feed-at-refused c) .loop .inv .3 .progress .text .long
 
 returns-2 : tie.Need-returns-2 Inv-loop μ-loop
 returns-2 c =
-    absurd (says-refused _ (says (c .before .before .before .before .before .before .before)) (free (c .before .before .before .before .before .before .before)) (c .before .before .before .answer3 .given .0 .0) (ap feedValuesOf (c .before .before .before .answer3 .given .1)))
+    absurd (says-refused _ (says (feed-at-refused c)) (free (feed-at-refused c)) (c .before .before .before .answer3 .given .0 .0) (ap feedValuesOf (c .before .before .before .answer3 .given .1)))
 
 pub list-view-spec : {M : Type 1} → statement M
 list-view-spec =

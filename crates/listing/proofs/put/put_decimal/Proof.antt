@@ -4,7 +4,7 @@ use native.Mathlib.Omega.{arith}
 use borrow.Author.Needs.{needs}
 use mathlib.Core.Path.{refl, ap, _∙_}
 use lib.ListN.{length, length-append}
-use Rattle.listing.proofs.Texts.{going, going-room, going-next, going-last}
+use Rattle.listing.proofs.Texts.{partly-put, partly-put-room, partly-put-next, partly-put-last}
 use Rattle.listing.proofs.Lines.{decimal-is}
 use Rattle.listing.proofs.put.put_decimal.Statement.{statement}
 use Rattle.listing.proofs.put.put_decimal.Tie as tie
@@ -30,21 +30,26 @@ slice-aggregate-put-text-2 c = search needs
 
 put-text-requires-2 : tie.Need-put-text-requires-2
 put-text-requires-2 c κs =
-    let s = c .before .before .before .before .before .before .before .before .before .before in
-    let d = c .before .before .before .before .before .before .before .decimal in
+    let t = c .before .before .before .before in
+    let m = t .before .before .before in
+    let s = m .before .before .before in
+    let d = m .decimal in
     let is = d .ensures .1 .1 ∙ decimal-is (d .result) (s .args .n) (d .ensures .1 .0) (omega arith) in
-    going-room (s .pre) (going-next (s .pre) (going (s .args .out .now) (s .args .at) refl) (rw is at (c .before .before .before .before .put-text .ensures)))
+    partly-put-room (s .pre) (partly-put-next (s .pre) (partly-put (s .args .out .now) (s .args .at) refl) (rw is at (t .put-text .ensures)))
 
 same-length : tie.Need-same-length
 same-length c = search needs
 
 returns : tie.Need-returns
 returns c =
-    let s = c .before .before .before .before .before .before .before .before .before .before .before .before .before in
-    let d = c .before .before .before .before .before .before .before .before .before .before .decimal in
+    let e = c .before .before in
+    let t = e .before .before .before .before .before in
+    let m = t .before .before .before in
+    let s = m .before .before .before in
+    let d = m .decimal in
     let is = d .ensures .1 .1 ∙ decimal-is (d .result) (s .args .n) (d .ensures .1 .0) (omega arith) in
-    let g = going-next (s .pre) (going (s .args .out .now) (s .args .at) refl) (rw is at (c .before .before .before .before .before .before .before .put-text .ensures)) in
-    going-last (s .pre) g (c .before .before .put-text2 .ensures)
+    let g = partly-put-next (s .pre) (partly-put (s .args .out .now) (s .args .at) refl) (rw is at (t .put-text .ensures)) in
+    partly-put-last (s .pre) g (e .put-text2 .ensures)
 
 pub put-decimal-spec : {M : Type 1} → statement M
 put-decimal-spec =

@@ -7,29 +7,30 @@ use mathlib.Core.Path.{refl}
 use borrow.Author.Needs.{needs}
 use lib.ListN.{length, drop}
 use Rattle.frame.specs.Hex.{hex}
-use Rattle.listing.specs.Parts.{Going}
-use Rattle.listing.proofs.Texts.{going, going-room, going-next, going-done, hex-next, drop-all}
+use Rattle.listing.specs.Parts.{PartlyPut}
+use Rattle.listing.proofs.Texts.{partly-put, partly-put-room, partly-put-next, partly-put-done, hex-next, drop-all}
 use Rattle.listing.proofs.put.put_digits.Statement.{statement}
 use Rattle.listing.proofs.put.put_digits.Tie as tie
 
 abbrev Inv-loop : tie.InvT-loop
-Inv-loop out₀ at «data» end₀ i₀ out end i = (i ≤ length «data») × Going out₀ at (hex «data») (hex (drop i «data»)) end out
+Inv-loop out₀ at «data» end₀ i₀ out end i = (i ≤ length «data») × PartlyPut out₀ at (hex «data») (hex (drop i «data»)) end out
 
 abbrev μ-loop : tie.MeasureT-loop
 μ-loop out₀ at «data» end₀ i₀ out end i = length «data» - i
 
 loop-holds : tie.Need-loop-holds Inv-loop μ-loop
-loop-holds c = let a = c .before .before .args in (omega arith, going (a .out .now) (a .at) refl)
+loop-holds c = let a = c .before .before .args in (omega arith, partly-put (a .out .now) (a .at) refl)
 
 shared-slice-read-put-pair : tie.Need-shared-slice-read-put-pair Inv-loop μ-loop
 shared-slice-read-put-pair c = search needs
 
 put-pair-requires : tie.Need-put-pair-requires Inv-loop μ-loop
 put-pair-requires c κs =
-    let s = c .before .before .before .before .before .before in
-    let l = c .before .before .before .loop in
+    let t = c .before .before .before in
+    let s = t .before .before .before in
+    let l = t .loop in
     let more = hex-next (s .args .«data» .now) (l .i) (omega arith) in
-    omega (arith, rw more at (going-room (s .pre) (l .inv .1)))
+    omega (arith, rw more at (partly-put-room (s .pre) (l .inv .1)))
 
 add-i : tie.Need-add-i Inv-loop μ-loop
 add-i c = search needs
@@ -39,10 +40,12 @@ loop-less c = search needs
 
 loop-again : tie.Need-loop-again Inv-loop μ-loop
 loop-again c =
-    let s = c .before .before .before .before .before .before .before .before .before in
-    let l = c .before .before .before .before .before .before .loop in
+    let p = c .before .before in
+    let t = p .before .before .before .before in
+    let s = t .before .before .before in
+    let l = t .loop in
     let more = hex-next (s .args .«data» .now) (l .i) (omega arith) in
-    (omega arith, going-next (s .pre) (rw more at (l .inv .1)) (c .before .before .put-pair .ensures))
+    (omega arith, partly-put-next (s .pre) (rw more at (l .inv .1)) (p .put-pair .ensures))
 
 same-length : tie.Need-same-length Inv-loop μ-loop
 same-length c = c .before .loop .inv .1 .long
@@ -52,7 +55,7 @@ returns c =
     let s = c .before .before .before .before in
     let l = c .before .loop in
     let none = drop-all (s .args .«data» .now) (l .i) (omega arith) in
-    going-done (s .pre) (rw none at (l .inv .1))
+    partly-put-done (s .pre) (rw none at (l .inv .1))
 
 pub put-digits-spec : {M : Type 1} → statement M
 put-digits-spec =

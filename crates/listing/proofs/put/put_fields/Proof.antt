@@ -6,26 +6,26 @@ use native.Mathlib.Omega.{arith}
 use mathlib.Core.Path.{refl}
 use borrow.Author.Needs.{needs}
 use lib.ListN.{length, drop, length-append}
-use Rattle.listing.specs.Parts.{fields, Going}
-use Rattle.listing.proofs.Texts.{going, going-room, going-next, going-done, fields-next, drop-all}
+use Rattle.listing.specs.Parts.{fields, PartlyPut}
+use Rattle.listing.proofs.Texts.{partly-put, partly-put-room, partly-put-next, partly-put-done, fields-next, drop-all}
 use Rattle.listing.proofs.put.put_fields.Statement.{statement}
 use Rattle.listing.proofs.put.put_fields.Tie as tie
 
 abbrev Inv-loop : tie.InvT-loop
-Inv-loop out₀ at bytes starts end₀ left₀ i₀ out end left i = (i ≤ length bytes) × Going out₀ at (fields starts bytes) (fields left (drop i bytes)) end out
+Inv-loop out₀ at bytes starts end₀ left₀ i₀ out end left i = (i ≤ length bytes) × PartlyPut out₀ at (fields starts bytes) (fields left (drop i bytes)) end out
 
 abbrev μ-loop : tie.MeasureT-loop
 μ-loop out₀ at bytes starts end₀ left₀ i₀ out end left i = length bytes - i
 
 loop-holds : tie.Need-loop-holds Inv-loop μ-loop
-loop-holds c = let a = c .before .before .args in (omega arith, going (a .out .now) (a .at) refl)
+loop-holds c = let a = c .before .before .args in (omega arith, partly-put (a .out .now) (a .at) refl)
 
 put-space-requires : tie.Need-put-space-requires Inv-loop μ-loop
 put-space-requires c κs =
     let s = c .before .before .before .before .before in
     let l = c .before .before .loop in
     let more = fields-next (l .left) (s .args .bytes .now) (l .i) (omega arith) in
-    omega (arith, simp length-append at (rw more at (going-room (s .pre) (l .inv .1))))
+    omega (arith, simp length-append at (rw more at (partly-put-room (s .pre) (l .inv .1))))
 
 shared-slice-read-put-pair : tie.Need-shared-slice-read-put-pair Inv-loop μ-loop
 shared-slice-read-put-pair c = search needs
@@ -33,10 +33,11 @@ shared-slice-read-put-pair c = search needs
 put-pair-requires : tie.Need-put-pair-requires Inv-loop μ-loop
 put-pair-requires c κs =
     let p = c .before .before .before .before in
-    let s = p .before .before .before .before .before .before in
-    let l = p .before .before .before .loop in
+    let t = p .before .before .before in
+    let s = t .before .before .before in
+    let l = t .loop in
     let more = fields-next (l .left) (s .args .bytes .now) (l .i) (omega arith) in
-    omega (arith, going-room (s .pre) (going-next (s .pre) (rw more at (l .inv .1)) (p .put-space .ensures)))
+    omega (arith, partly-put-room (s .pre) (partly-put-next (s .pre) (rw more at (l .inv .1)) (p .put-space .ensures)))
 
 add-i : tie.Need-add-i Inv-loop μ-loop
 add-i c = search needs
@@ -46,12 +47,14 @@ loop-less c = search needs
 
 loop-again : tie.Need-loop-again Inv-loop μ-loop
 loop-again c =
-    let p = c .before .before .before .before .before .before .before in
-    let s = p .before .before .before .before .before .before in
-    let l = p .before .before .before .loop in
+    let q = c .before .before in
+    let p = q .before .before .before .before .before in
+    let t = p .before .before .before in
+    let s = t .before .before .before in
+    let l = t .loop in
     let more = fields-next (l .left) (s .args .bytes .now) (l .i) (omega arith) in
-    let g = going-next (s .pre) (rw more at (l .inv .1)) (p .put-space .ensures) in
-    (omega arith, going-next (s .pre) g (c .before .before .put-pair .ensures))
+    let g = partly-put-next (s .pre) (rw more at (l .inv .1)) (p .put-space .ensures) in
+    (omega arith, partly-put-next (s .pre) g (q .put-pair .ensures))
 
 same-length : tie.Need-same-length Inv-loop μ-loop
 same-length c = c .before .loop .inv .1 .long
@@ -61,7 +64,7 @@ returns c =
     let s = c .before .before .before .before in
     let l = c .before .loop in
     let none = drop-all (s .args .bytes .now) (l .i) (omega arith) in
-    going-done (s .pre) (rw none at (l .inv .1))
+    partly-put-done (s .pre) (rw none at (l .inv .1))
 
 pub put-fields-spec : {M : Type 1} → statement M
 put-fields-spec =

@@ -4,7 +4,7 @@ use native.Mathlib.Omega.{arith}
 use mathlib.Core.Path.{refl}
 use borrow.Author.Needs.{needs}
 use lib.ListN.{length-append}
-use Rattle.listing.proofs.Texts.{going, going-room, going-next, going-last}
+use Rattle.listing.proofs.Texts.{partly-put, partly-put-room, partly-put-next, partly-put-last}
 use Rattle.listing.proofs.put.put_row.Statement.{statement}
 use Rattle.listing.proofs.put.put_row.Tie as tie
 
@@ -17,17 +17,18 @@ put-fields-requires : tie.Need-put-fields-requires
 put-fields-requires c κs =
     let p = c .before .before .before in
     let s = p .before .before .before .before .before in
-    going-room (s .pre) (going-next (s .pre) (going (s .args .out .now) (s .args .at) refl) (p .put-text .ensures))
+    partly-put-room (s .pre) (partly-put-next (s .pre) (partly-put (s .args .out .now) (s .args .at) refl) (p .put-text .ensures))
 
 same-length : tie.Need-same-length
 same-length c = search needs
 
 returns : tie.Need-returns
 returns c =
-    let p = c .before .before .before .before .before .before in
+    let f = c .before .before in
+    let p = f .before .before .before .before in
     let s = p .before .before .before .before .before in
-    let g = going-next (s .pre) (going (s .args .out .now) (s .args .at) refl) (p .put-text .ensures) in
-    going-last (s .pre) g (c .before .before .put-fields .ensures)
+    let g = partly-put-next (s .pre) (partly-put (s .args .out .now) (s .args .at) refl) (p .put-text .ensures) in
+    partly-put-last (s .pre) g (f .put-fields .ensures)
 
 pub put-row-spec : {M : Type 1} → statement M
 put-row-spec = tie.close (tie.spec put-text-requires put-fields-requires same-length returns)

@@ -1,7 +1,9 @@
 -- `message::from_module::read_from_module` meets its contract: each way out is one of the cases of what reading gives.
 -- Assumes nothing.
+use Prim.Native.Nat.{ℕ}
 use native.Mathlib.Omega.{arith}
 use borrow.Author.Needs.{needs}
+use mathlib.Core.List.{List}
 use mathlib.Core.Path.{_≡_, sym, _∙_}
 use borrow.Author.Tests.{not-true, not-false}
 use Rattle.message.specs.FromModule.{senderMeaning, readFromModule}
@@ -10,11 +12,17 @@ use Rattle.message.proofs.ReportLaws.{sender-simple, sender-status, sen
 use Rattle.message.proofs.from_module.read_from_module.Statement.{statement}
 use Rattle.message.proofs.from_module.read_from_module.Tie as tie
 
--- Behind the address, where it is plain.
-plain : (c : tie.Else4) → let p = c .before .before .before .before .before .before .before .before .args .payload .now in
-    senderMeaning p ≡ readFromModule p
+-- The place behind the tests of the length, and the payload, from the place behind the test of a plain address.
+abbrev measured : tie.Else4 → tie.Else2
+measured c = c .before .before .before .before .before
+
+abbrev payload : tie.Else4 → List ℕ
+payload c = measured c .before .before .before .args .payload .now
+
+-- There the command decides.
+plain : (c : tie.Else4) → senderMeaning (payload c) ≡ readFromModule (payload c)
 plain c =
-    let d = c .before .before .before .before .before in
+    let d = measured c in
     let e = c .before in
     module-sender _ (d .before .if1 .left) (d .if2 .left) (e .before .if3 .left)
     (sym (e .is-plain .ensures) ∙ not-false (e .is-plain .result) (c .if4 .left))

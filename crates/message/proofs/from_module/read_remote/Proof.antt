@@ -47,7 +47,7 @@ returns c =
       c .before .before .word3 .ensures,
       c .before .word4 .ensures,
     )
-    (remote-read _ (s .pre .1) (s .pre .2))
+    (remote-read (s .args .payload .now) (s .pre .1 .0) (s .pre .1 .1))
 
 pub read-remote-spec : {M : Type 1} → statement M
 read-remote-spec =

@@ -55,7 +55,8 @@ shared-slice-read-t30 c = search needs
 
 returns : tie.Need-returns
 returns c =
-    let d = c .before .before .before .before .before .before .before .before in
+    let b = c .before .before .before .before in
+    let d = b .before .before .before .before in
     let e = d .before .before .before .before in
     rw (e .long .ensures, d .before .before .word .ensures, d .word2 .ensures)
     (standard-read _ (e .before .before .before .before .before .pre .1))

@@ -62,9 +62,10 @@ same-length c = search needs
 
 returns-3 : tie.Need-returns-3
 returns-3 c =
-    let d = c .before .before .before .before .before .before in
+    let w = c .before .before in
+    let d = w .before .before .before .before in
     plain-written _ (sym (d .before .is-plain .ensures) ∙ not-false (d .before .is-plain .result) (d .if1 .left))
-    (c .before .before .write-parts .ensures)
+    (w .write-parts .ensures)
 
 pub write-reception-spec : {M : Type 1} → statement M
 write-reception-spec =

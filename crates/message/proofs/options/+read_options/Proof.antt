@@ -37,8 +37,8 @@ abbrev below : ℕ → In 1 kinds.ps
 below t = and 1 kinds.ps (falls 1 kinds.ps _<_ μ t) options.Pre
 
 -- What the calls ask and ensure.
-abbrev told : ℕ → lts.Claims
-told t = (
+abbrev claims : ℕ → lts.Claims
+claims t = (
   has.Asked,
   has.Learnt,
   is-retry.Asked,
@@ -56,66 +56,69 @@ told t = (
 )
 
 module _ (t : ℕ) where
-  -- The entry, from the place where the option is new.
-  abbrev entry : lts.Else3 (told t) (start t) options.Post → lts.Start (told t) (start t) options.Post
-  entry n = n .before .before .before .before .before .before
+  -- The entry, from the place where the byte is no FF, and from where the option is new.
+  abbrev no-end : lts.Else2 (claims t) (start t) options.Post → lts.Start (claims t) (start t) options.Post
+  no-end n = n .before .before .before .before
+
+  abbrev entry : lts.Else3 (claims t) (start t) options.Post → lts.Start (claims t) (start t) options.Post
+  entry n = no-end (n .before .before)
 
   -- There is a byte at the place.
-  there : (n : lts.Else3 (told t) (start t) options.Post) → entry n .args .at < length (entry n .args .s .now)
+  there : (n : lts.Else3 (claims t) (start t) options.Post) → entry n .args .at < length (entry n .args .s .now)
   there n = n .before .before .before .before .if1 .left
 
   -- It is no option that is given already.
-  fresh : (n : lts.Else3 (told t) (start t) options.Post) → let a = entry n .args in
+  fresh : (n : lts.Else3 (claims t) (start t) options.Post) → let a = entry n .args in
       hasOption (a .options) (getD (a .s .now) (a .at) 0) ≡ false
   fresh n = sym (n .before .has .ensures) ∙ n .if3 .left
 
   -- An option from 01 to 05 that is neither 01 nor 02 is 03 or above.
-  from-three : (w : lts.Then7 (told t) (start t) options.Post) → let a = entry (w .before .before .before) .args in
+  from-three : (w : lts.Then7 (claims t) (start t) options.Post) → let a = entry (w .before .before .before) .args in
       3 ≤ getD (a .s .now) (a .at) 0
   from-three w = omega (arith, w .before .before .match .rest .0 .1, w .before .before .match .rest .1, w .before .if6 .left)
 
-  returns : lts.Need-returns (told t) (start t) options.Post
+  returns : lts.Need-returns (claims t) (start t) options.Post
   returns c = let a = c .before .before .args in sym (read-nothing (a .s .now) (a .at) (a .options) (c .if1 .taken))
 
-  shared-slice-read-id : lts.Need-shared-slice-read-id (told t) (start t) options.Post
+  shared-slice-read-id : lts.Need-shared-slice-read-id (claims t) (start t) options.Post
   shared-slice-read-id c = search needs
 
-  add-t10 : lts.Need-add-t10 (told t) (start t) options.Post
+  add-t10 : lts.Need-add-t10 (claims t) (start t) options.Post
   add-t10 c = search needs
 
-  returns-2 : lts.Need-returns-2 (told t) (start t) options.Post
+  returns-2 : lts.Need-returns-2 (claims t) (start t) options.Post
   returns-2 c =
       let a = c .before .before .before .before .args in
       sym (read-end (a .s .now) (a .at) (a .options) (c .before .before .if1 .left) (c .if2 .taken))
 
-  has-requires : lts.Need-has-requires (told t) (start t) options.Post
+  has-requires : lts.Need-has-requires (claims t) (start t) options.Post
   has-requires c κs = search needs
 
-  returns-3 : lts.Need-returns-3 (told t) (start t) options.Post
+  returns-3 : lts.Need-returns-3 (claims t) (start t) options.Post
   returns-3 c =
-      let a = c .before .before .before .before .before .before .args in
+      let a = no-end (c .before .before) .args in
       sym (read-repeated (a .s .now) (a .at) (a .options) (c .before .before .before .before .if1 .left) (c .before .before .if2 .left)
       (sym (c .before .has .ensures) ∙ c .if3 .taken))
 
-  add-if4 : lts.Need-add-if4 (told t) (start t) options.Post
+  add-if4 : lts.Need-add-if4 (claims t) (start t) options.Post
   add-if4 c = search needs
 
-  returns-4 : lts.Need-returns-4 (told t) (start t) options.Post
+  returns-4 : lts.Need-returns-4 (claims t) (start t) options.Post
   returns-4 c =
       let n = c .before .before in
       let a = entry n .args in
       sym (read-retry-cut (a .s .now) (a .at) (a .options) (there n) (c .if4 .taken) (c .before .match .keys2) (fresh n))
 
-  add-b : lts.Need-add-b (told t) (start t) options.Post
+  add-b : lts.Need-add-b (claims t) (start t) options.Post
   add-b c = search needs
 
-  shared-slice-read-b : lts.Need-shared-slice-read-b (told t) (start t) options.Post
+  shared-slice-read-b : lts.Need-shared-slice-read-b (claims t) (start t) options.Post
   shared-slice-read-b c = search needs
 
-  is-retry-requires : lts.Need-is-retry-requires (told t) (start t) options.Post
+  is-retry-requires : lts.Need-is-retry-requires (claims t) (start t) options.Post
   is-retry-requires c κs = search needs
 
-  returns-5 : lts.Need-returns-5 (told t) (start t) options.Post
+  returns-5 : lts.Need-returns-5 (claims t) (start t) options.Post
   returns-5 c =
       let n = c .before .before .before .before .before in
       let a = entry n .args in
@@ -123,88 +126,91 @@ module _ (t : ℕ) where
       (c .before .before .before .if4 .left) (c .before .before .before .before .match .keys2) (fresh n)
       (sym (c .before .is-retry .ensures) ∙ not-true (c .before .is-retry .result) (c .if5 .taken)))
 
-  add-read-options : lts.Need-add-read-options (told t) (start t) options.Post
+  add-read-options : lts.Need-add-read-options (claims t) (start t) options.Post
   add-read-options c = search needs
 
-  give-retries-requires : lts.Need-give-retries-requires (told t) (start t) options.Post
+  give-retries-requires : lts.Need-give-retries-requires (claims t) (start t) options.Post
   give-retries-requires c κs = search needs
 
-  read-options-requires : lts.Need-read-options-requires (told t) (start t) options.Post
+  read-options-requires : lts.Need-read-options-requires (claims t) (start t) options.Post
   read-options-requires c κs =
-      let e = entry (c .before .before .before .before .before .before) in
-      let two = c .before .before .before .before .if4 .left in
+      let b = c .before .before .before .before in
+      let e = entry (b .before .before) in
+      let two = b .if4 .left in
       (omega (arith, e .pre, two), omega (arith, two))
 
-  add-if8 : lts.Need-add-if8 (told t) (start t) options.Post
+  add-if8 : lts.Need-add-if8 (claims t) (start t) options.Post
   add-if8 c = search needs
 
-  returns-6 : lts.Need-returns-6 (told t) (start t) options.Post
+  returns-6 : lts.Need-returns-6 (claims t) (start t) options.Post
   returns-6 c =
       let n = c .before .before .before .before in
       let a = entry n .args in
       sym (read-word-cut (a .s .now) (a .at) (a .options) (there n)
       (c .if8 .taken) (from-three (c .before)) (omega (arith, c .before .if7 .taken)) (fresh n))
 
-  add-read-options-2 : lts.Need-add-read-options-2 (told t) (start t) options.Post
+  add-read-options-2 : lts.Need-add-read-options-2 (claims t) (start t) options.Post
   add-read-options-2 c = search needs
 
-  add-word : lts.Need-add-word (told t) (start t) options.Post
+  add-word : lts.Need-add-word (claims t) (start t) options.Post
   add-word c = search needs
 
-  word-requires : lts.Need-word-requires (told t) (start t) options.Post
+  word-requires : lts.Need-word-requires (claims t) (start t) options.Post
   word-requires c κs = search needs
 
-  give-word-requires : lts.Need-give-word-requires (told t) (start t) options.Post
+  give-word-requires : lts.Need-give-word-requires (claims t) (start t) options.Post
   give-word-requires c κs = search needs
 
-  read-options-requires-2 : lts.Need-read-options-requires-2 (told t) (start t) options.Post
+  read-options-requires-2 : lts.Need-read-options-requires-2 (claims t) (start t) options.Post
   read-options-requires-2 c κs =
-      let e = entry (c .before .before .before .before .before .before) in
-      let three = c .before .before .if8 .left in
+      let w = c .before .before in
+      let e = entry (w .before .before .before .before) in
+      let three = w .if8 .left in
       (omega (arith, e .pre, three), omega (arith, three))
 
-  add-read-options-3 : lts.Need-add-read-options-3 (told t) (start t) options.Post
+  add-read-options-3 : lts.Need-add-read-options-3 (claims t) (start t) options.Post
   add-read-options-3 c = omega (arith, there (c .before))
 
-  give-flag-requires : lts.Need-give-flag-requires (told t) (start t) options.Post
+  give-flag-requires : lts.Need-give-flag-requires (claims t) (start t) options.Post
   give-flag-requires c κs = search needs
 
-  read-options-requires-3 : lts.Need-read-options-requires-3 (told t) (start t) options.Post
+  read-options-requires-3 : lts.Need-read-options-requires-3 (claims t) (start t) options.Post
   read-options-requires-3 c κs =
       let e = entry (c .before .before) in
       let one = there (c .before .before) in
       (omega (arith, e .pre, one), omega (arith, one))
 
-  returns-7 : lts.Need-returns-7 (told t) (start t) options.Post
+  returns-7 : lts.Need-returns-7 (claims t) (start t) options.Post
   returns-7 c =
-      let n = c .before .before .before .before .before .before .before in
-      let a = entry n .args in
       let r = c .before .before .before in
+      let b = r .before .before in
+      let n = b .before .before in
+      let a = entry n .args in
       cc (read-retry (a .s .now) (a .at) (a .options) (there n)
-      (r .before .before .if4 .left) (r .before .before .before .match .keys2) (fresh n)
+      (b .if4 .left) (b .before .match .keys2) (fresh n)
       (sym (r .is-retry .ensures) ∙ not-false (r .is-retry .result) (c .before .before .if5 .left)))
 
-  returns-8 : lts.Need-returns-8 (told t) (start t) options.Post
+  returns-8 : lts.Need-returns-8 (claims t) (start t) options.Post
   returns-8 c =
-      let n = c .before .before .before .before .before .before .before in
-      let a = entry n .args in
       let w = c .before .before .before .before in
+      let n = w .before .before .before in
+      let a = entry n .args in
       cc (read-word (a .s .now) (a .at) (a .options) (there n)
       (c .before .before .before .if8 .left) (from-three w) (omega (arith, w .if7 .taken)) (fresh n))
 
-  returns-9 : lts.Need-returns-9 (told t) (start t) options.Post
+  returns-9 : lts.Need-returns-9 (claims t) (start t) options.Post
   returns-9 c =
       let n = c .before .before in
       let a = entry n .args in
       sym (read-low (a .s .now) (a .at) (a .options) (there n) (c .if6 .taken) (n .before .before .if2 .left) (fresh n))
 
-  returns-10 : lts.Need-returns-10 (told t) (start t) options.Post
+  returns-10 : lts.Need-returns-10 (claims t) (start t) options.Post
   returns-10 c =
       let n = c .before .before .before .before in
       let a = entry n .args in
       sym (read-high (a .s .now) (a .at) (a .options) (there n) (omega (arith, c .if9 .left)) (n .before .before .if2 .left) (fresh n))
 
-  returns-11 : lts.Need-returns-11 (told t) (start t) options.Post
+  returns-11 : lts.Need-returns-11 (claims t) (start t) options.Post
   returns-11 c =
       let n = c .before .before .before in
       let a = entry n .args in
@@ -214,7 +220,7 @@ module _ (t : ℕ) where
 
 pub +read-options-spec : {M : Type 1} → statement M
 +read-options-spec =
-    close μ λ t. lts.spec (told t) (start t) options.Post
+    close μ λ t. lts.spec (claims t) (start t) options.Post
     (returns t)
     (shared-slice-read-id t)
     (add-t10 t)

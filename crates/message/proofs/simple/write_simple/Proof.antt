@@ -36,11 +36,12 @@ same-length c = search needs
 
 returns-3 : tie.Need-returns-3
 returns-3 c =
-    let d = c .before .before .before .before .before .before .before in
+    let e = c .before .before .before .before .before in
+    let d = e .before .before in
     let a = d .before .before .before .before .args in
     writes-allowed (a .framing) (simpleLayout (a .message) (a .«data» .now)) (a .buf .now) (simpleRefusal (a .message)) _ _
     (simple-allowed (a .message) (sym (d .before .is-plain .ensures) ∙ not-false _ (d .if1 .left))
-    (c .before .before .before .before .before .if2 .left)) (c .before .before .write-parts .ensures)
+    (e .if2 .left)) (c .before .before .write-parts .ensures)
 
 pub write-simple-spec : {M : Type 1} → statement M
 write-simple-spec =

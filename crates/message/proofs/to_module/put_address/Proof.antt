@@ -3,7 +3,7 @@
 use native.Mathlib.Omega.{arith}
 use borrow.Author.Needs.{needs}
 use lib.ListN.{length-set}
-use Rattle.message.proofs.WriteLaws.{puts-plain, puts-far}
+use Rattle.message.proofs.WriteLaws.{puts-plain, puts-extended}
 use Rattle.message.proofs.to_module.put_address.Statement.{statement}
 use Rattle.message.proofs.to_module.put_address.Tie as tie
 
@@ -63,7 +63,7 @@ same-length-2 c = search needs
 returns-2 : tie.Need-returns-2
 returns-2 c =
     let a = c .before .before .before .args in
-    puts-far (a .dst .now) (a .address) (c .before .address2 .given .0 .0) (a .response-id) (c .before .address2 .given .1) (omega arith)
+    puts-extended (a .dst .now) (a .address) (c .before .address2 .given .0 .0) (a .response-id) (c .before .address2 .given .1) (omega arith)
 
 pub put-address-spec : {M : Type 1} → statement M
 put-address-spec =

@@ -1,6 +1,7 @@
 -- `message::to_module::read_output_change` meets its contract: each way out is a case of its definition.
 -- Assumes nothing.
 use Prim.Native.Nat.{ℕ}
+use mathlib.Core.List.{List}
 use mathlib.Core.Path.{_≡_, sym, ap₂, _∙_}
 use borrow.Author.Needs.{needs}
 use Rattle.message.specs.Number.{byteAt, longAt}
@@ -9,11 +10,15 @@ use Rattle.message.proofs.RequestLaws.{change-length, change-fixed, cha
 use Rattle.message.proofs.to_module.read_output_change.Statement.{statement}
 use Rattle.message.proofs.to_module.read_output_change.Tie as tie
 
+-- The payload, from the place behind the test of the fixed field.
+abbrev payload : tie.Else2 → List ℕ
+payload c = c .before .before .before .before .args .payload .now
+
 -- The zero words, behind their tests.
-zero-first : (c : tie.Else3) → longAt (c .before .before .before .before .before .before .args .payload .now) 7 ≡ 0
+zero-first : (c : tie.Else3) → longAt (payload (c .before .before)) 7 ≡ 0
 zero-first c = sym (c .before .long .ensures) ∙ c .if3 .left
 
-zero-second : (c : tie.Else4) → longAt (c .before .before .before .before .before .before .before .before .args .payload .now) 11 ≡ 0
+zero-second : (c : tie.Else4) → longAt (payload (c .before .before .before .before)) 11 ≡ 0
 zero-second c = sym (c .before .long2 .ensures) ∙ c .if4 .left
 
 returns : tie.Need-returns
@@ -31,7 +36,7 @@ long-requires c κs = search needs
 returns-3 : tie.Need-returns-3
 returns-3 c =
     let d = c .before .before in
-    change-first (d .before .before .before .before .args .payload .now) (d .before .before .if1 .left) (d .if2 .left)
+    change-first (payload d) (d .before .before .if1 .left) (d .if2 .left)
     (λ z. c .if3 .taken (c .before .long .ensures ∙ z))
 
 long-requires-2 : tie.Need-long-requires-2
@@ -40,7 +45,7 @@ long-requires-2 c κs = search needs
 returns-4 : tie.Need-returns-4
 returns-4 c =
     let d = c .before .before .before .before in
-    change-second (d .before .before .before .before .args .payload .now) (d .before .before .if1 .left) (d .if2 .left)
+    change-second (payload d) (d .before .before .if1 .left) (d .if2 .left)
     (zero-first (c .before .before))
     (λ z. c .if4 .taken (c .before .long2 .ensures ∙ z))
 
@@ -55,11 +60,12 @@ word-requires-2 c κs = search needs
 
 returns-5 : tie.Need-returns-5
 returns-5 c =
-    let d = c .before .before .before .before .before .before .before in
-    let p = d .before .before .before .before .args .payload .now in
+    let second = c .before .before .before in
+    let first = second .before .before in
+    let d = first .before .before in
+    let p = payload d in
     ap₂ (λ (x y : ℕ). bare (record { address = byteAt p 0; signals = x; mask = y })) (c .before .word .ensures) (c .word2 .ensures)
-    ∙ change-read p (d .before .before .if1 .left) (d .if2 .left) (zero-first (c .before .before .before .before .before))
-    (zero-second (c .before .before .before))
+    ∙ change-read p (d .before .before .if1 .left) (d .if2 .left) (zero-first first) (zero-second second)
 
 pub read-output-change-spec : {M : Type 1} → statement M
 read-output-change-spec =

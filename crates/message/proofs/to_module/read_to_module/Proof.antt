@@ -1,21 +1,28 @@
 -- `message::to_module::read_to_module` meets its contract: each way out is a case of its definition.
 -- Assumes nothing.
+use Prim.Native.Nat.{ℕ}
+use mathlib.Core.List.{List}
 use mathlib.Core.Path.{_≡_, sym, _∙_}
 use borrow.Author.Needs.{needs}
 use borrow.Author.Tests.{not-true, not-false}
-use Rattle.message.specs.ToModule.{nearRequest, readToModule}
-use Rattle.message.proofs.RequestLaws.{read-short, read-long, read-far, read-address, read-near}
-use Rattle.message.proofs.RequestLaws.{near-simple, near-change, near-command, near-length, near-read}
+use Rattle.message.specs.ToModule.{toPlainAddress, readToModule}
+use Rattle.message.proofs.RequestLaws.{read-short, read-long, read-extended, read-address, read-plain}
+use Rattle.message.proofs.RequestLaws.{plain-simple, plain-change, plain-command, plain-length, plain-read}
 use Rattle.message.proofs.to_module.read_to_module.Statement.{statement}
 use Rattle.message.proofs.to_module.read_to_module.Tie as tie
 
--- Behind the test of a plain address the command decides.
-near : (c : tie.Else4) →
-    let p = c .before .before .before .before .before .before .before .before .args .payload .now in
-    nearRequest p ≡ readToModule p
-near c =
-    let d = c .before .before .before .before .before in
-    read-near (d .before .before .before .args .payload .now) (d .before .if1 .left) (d .if2 .left) (c .before .before .if3 .left)
+-- The place behind the tests of the length, and the payload, from the place behind the test of a plain address.
+abbrev measured : tie.Else4 → tie.Else2
+measured c = c .before .before .before .before .before
+
+abbrev payload : tie.Else4 → List ℕ
+payload c = measured c .before .before .before .args .payload .now
+
+-- There the command decides.
+to-plain : (c : tie.Else4) → toPlainAddress (payload c) ≡ readToModule (payload c)
+to-plain c =
+    let d = measured c in
+    read-plain (payload c) (d .before .if1 .left) (d .if2 .left) (c .before .before .if3 .left)
     (sym (c .before .is-plain .ensures) ∙ not-false _ (c .if4 .left))
 
 returns : tie.Need-returns
@@ -30,14 +37,14 @@ shared-slice-read-address c = search needs
 shared-slice-read-command : tie.Need-shared-slice-read-command
 shared-slice-read-command c = search needs
 
-read-far-requires : tie.Need-read-far-requires
-read-far-requires c κs = search needs
+read-to-extended-address-requires : tie.Need-read-to-extended-address-requires
+read-to-extended-address-requires c κs = search needs
 
 returns-3 : tie.Need-returns-3
 returns-3 c =
     let d = c .before .before .before .before in
-    c .read-far .ensures
-    ∙ read-far (d .before .before .before .args .payload .now) (d .before .if1 .left) (d .if2 .left) (c .before .if3 .taken)
+    c .read-to-extended-address .ensures
+    ∙ read-extended (d .before .before .before .args .payload .now) (d .before .if1 .left) (d .if2 .left) (c .before .if3 .taken)
 
 is-plain-requires : tie.Need-is-plain-requires
 is-plain-requires c κs = search needs
@@ -51,7 +58,7 @@ returns-4 c =
 returns-5 : tie.Need-returns-5
 returns-5 c =
     let d = c .before in
-    near-simple (d .before .before .before .before .before .before .before .before .args .payload .now) (c .if5 .taken) ∙ near d
+    plain-simple (payload d) (c .if5 .taken) ∙ to-plain d
 
 read-output-change-requires : tie.Need-read-output-change-requires
 read-output-change-requires c κs = search needs
@@ -60,20 +67,20 @@ returns-6 : tie.Need-returns-6
 returns-6 c =
     let d = c .before .before in
     c .read-output-change .ensures
-    ∙ near-change (d .before .before .before .before .before .before .before .before .before .args .payload .now) (d .if5 .left)
-    (c .before .if6 .taken) ∙ near (d .before)
+    ∙ plain-change (payload (d .before)) (d .if5 .left)
+    (c .before .if6 .taken) ∙ to-plain (d .before)
 
 returns-7 : tie.Need-returns-7
 returns-7 c =
     let d = c .before .before in
-    near-command (d .before .before .before .before .before .before .before .before .before .args .payload .now) (d .if5 .left)
-    (c .before .if6 .left) (c .if7 .taken) ∙ near (d .before)
+    plain-command (payload (d .before)) (d .if5 .left)
+    (c .before .if6 .left) (c .if7 .taken) ∙ to-plain (d .before)
 
 returns-8 : tie.Need-returns-8
 returns-8 c =
     let d = c .before .before .before in
-    near-length (d .before .before .before .before .before .before .before .before .before .args .payload .now) (d .if5 .left)
-    (c .before .before .if6 .left) (c .before .if7 .left) (c .if8 .taken) ∙ near (d .before)
+    plain-length (payload (d .before)) (d .if5 .left)
+    (c .before .before .if6 .left) (c .before .if7 .left) (c .if8 .taken) ∙ to-plain (d .before)
 
 read-request-requires : tie.Need-read-request-requires
 read-request-requires c κs = search needs
@@ -82,8 +89,8 @@ returns-9 : tie.Need-returns-9
 returns-9 c =
     let d = c .before .before .before .before in
     c .read-request .ensures
-    ∙ near-read (d .before .before .before .before .before .before .before .before .before .args .payload .now) (d .if5 .left)
-    (c .before .before .before .if6 .left) (c .before .before .if7 .left) (c .before .if8 .left) ∙ near (d .before)
+    ∙ plain-read (payload (d .before)) (d .if5 .left)
+    (c .before .before .before .if6 .left) (c .before .before .if7 .left) (c .before .if8 .left) ∙ to-plain (d .before)
 
 pub read-to-module-spec : {M : Type 1} → statement M
 read-to-module-spec =
@@ -93,7 +100,7 @@ read-to-module-spec =
     returns-2
     shared-slice-read-address
     shared-slice-read-command
-    read-far-requires
+    read-to-extended-address-requires
     returns-3
     is-plain-requires
     returns-4

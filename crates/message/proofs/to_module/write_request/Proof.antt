@@ -25,22 +25,24 @@ same-length c = search needs
 
 returns : tie.Need-returns
 returns c =
-    let a = c .before .before .before .before .before .before .before .before .before .args in
+    let d = c .before .before .before .before .before in
+    let a = d .before .before .before .before .args in
     let w = c .before .before .write-simple in
     let s = a .«data» .now in
     subst (λ (q : Request). Writes (a .framing) (requestRefusal q) (requestLayout q s) (a .buf .now) (w .result) (w .last .1 .1 .1 .0))
-    (sym (c .before .before .before .before .before .request .given .1)) (w .ensures)
+    (sym (d .request .given .1)) (w .ensures)
 
 same-length-2 : tie.Need-same-length-2
 same-length-2 c = search needs
 
 returns-2 : tie.Need-returns-2
 returns-2 c =
-    let a = c .before .before .before .before .before .before .before .before .before .args in
+    let d = c .before .before .before .before .before in
+    let a = d .before .before .before .before .args in
     let w = c .before .before .write-transmission in
     let s = a .«data» .now in
     subst (λ (q : Request). Writes (a .framing) (requestRefusal q) (requestLayout q s) (a .buf .now) (w .result) (w .last .1 .1 .1 .0))
-    (sym (c .before .before .before .before .before .request2 .given .1)) (w .ensures)
+    (sym (d .request2 .given .1)) (w .ensures)
 
 pub write-request-spec : {M : Type 1} → statement M
 write-request-spec =

@@ -21,12 +21,16 @@ enum-known-refusal c = search needs
 number-requires : tie.Need-number-requires
 number-requires c κs = search needs
 
+-- The frame crate's write, from the place where it is refused.
+abbrev written : tie.At-match-keys2 → tie.After-write-frame
+written c = c .before .before .before
+
 same-length : tie.Need-same-length
 same-length c = search needs
 
 returns : tie.Need-returns
 returns c =
-    let d = c .before .before .before .before .before .before .before in
+    let d = written (c .before .before .before .before) in
     let a = d .before .before .before .before .args in
     let w = d .write-frame in
     writes-sent (a .framing) (a .payload .now) (a .buf .now) (w .result) (Refused Payload) _
@@ -49,7 +53,7 @@ same-length-3 c = search needs
 
 returns-3 : tie.Need-returns-3
 returns-3 c =
-    let d = c .before .before .before .before .before .before .before in
+    let d = written (c .before .before .before .before) in
     let a = d .before .before .before .before .args in
     let w = d .write-frame in
     let r = c .before .before .before .refusal .given in

@@ -12,27 +12,38 @@ use Rattle.message.proofs.WriteLaws.{writes-payload, two-copies}
 use Rattle.message.proofs.write.write_parts.Statement.{statement}
 use Rattle.message.proofs.write.write_parts.Tie as tie
 
+-- The first copy, from the place where both parts are copied.
+abbrev first : tie.After-payload5 → tie.After-copy
+first c = c .before .before .before .before .before
+
+-- The entry, from the place behind the test of the length, and from where both parts are copied.
+abbrev tested : tie.Else1 → tie.Start
+tested c = c .before .before .before .before
+
+abbrev entry : tie.After-payload5 → tie.Start
+entry c = tested (first c .before .before)
+
 -- The array with both parts.
 abbrev whole : tie.After-payload5 → List ℕ
 whole c =
-    let n : ℕ = length (c .before .before .before .before .before .before .before .before .before .before .before .args .head .now) in
-    putMid n (256 - n) (c .before .before .before .before .before .copy .last .1 .0) (c .before .before .copy2 .last .1 .0)
+    let n : ℕ = length (entry c .args .head .now) in
+    putMid n (256 - n) (first c .copy .last .1 .0) (c .before .before .copy2 .last .1 .0)
 
 -- It has 256 bytes.
 whole-length : (c : tie.After-payload5) → length (whole c) ≡ 256
 whole-length c =
-    let n : ℕ = length (c .before .before .before .before .before .before .before .before .before .before .before .args .head .now) in
-    let one = c .before .before .before .before .before .copy in
+    let n : ℕ = length (entry c .args .head .now) in
+    let one = first c .copy in
     let two = c .before .before .copy2 in
     same-len-mid n (256 - n) (one .last .1 .0) (two .last .1 .0) (two .kept .1 .0) ∙ one .kept .1 .0
 
 -- It begins with the parts.
 whole-front : (c : tie.After-payload5) →
-    let a = c .before .before .before .before .before .before .before .before .before .before .before .args in
+    let a = entry c .args in
     take (length (a .head .now) + length (a .«data» .now)) (whole c) ≡ a .head .now ++ a .«data» .now
 whole-front c =
-    let a = c .before .before .before .before .before .before .before .before .before .before .before .args in
-    let one = c .before .before .before .before .before .copy in
+    let a = entry c .args in
+    let one = first c .copy in
     let two = c .before .before .copy2 in
     two-copies (a .head .now) (a .«data» .now) _ _ _ (one .last .1 .0) (two .last .1 .0) (one .ensures .1) (two .ensures .1)
 
@@ -71,7 +82,7 @@ add-send c = search needs
 
 slice-aggregate-send : tie.Need-slice-aggregate-send
 slice-aggregate-send c =
-    let a = c .before .before .before .before .before .before .before .before .before .before .before .before .args in
+    let a = entry (c .before) .args in
     sym (ap length (whole-front (c .before)) ∙ length-append (a .head .now) (a .«data» .now))
 
 send-requires : tie.Need-send-requires
@@ -83,7 +94,7 @@ same-length c = search needs
 returns-2 : tie.Need-returns-2
 returns-2 c =
     let d = c .before .before .before .before .before in
-    let a = d .before .before .before .before .before .before .before .before .before .before .before .args in
+    let a = entry d .args in
     let s = c .before .before .send in
     subst (λ (l : List ℕ). Writes (a .framing) 0 l (a .buf .now) (s .result) (s .last .1 .1 .0)) (whole-front d) (s .ensures)
 

@@ -1,12 +1,13 @@
 -- `frame::reader::Reader::quiet` meets its contract: the refusals in their order, and otherwise the quiet of the held bytes.
 -- Assumes nothing.
 use native.Mathlib.Omega.{arith}
-use Prim.Native.Nat.{ℕ}
+use Prim.Native.Nat.{ℕ, _≤_}
 use mathlib.Core.Path.{_≡_, sym, ap}
 use lib.Dec.{eqb}
 use borrow.Author.Needs.{needs}
 use lib.ListN.{length, length-take}
 use lib.Seq.{length-take-le}
+use Rattle.frame.specs.Framing.{limit}
 use Rattle.frame.specs.Reader.{refusalValues}
 use Rattle.frame.proofs.Framings.{limit-most}
 use Rattle.frame.proofs.Readers.{quiet-state, quiet-buffer, quiet-accepted}
@@ -14,9 +15,21 @@ use Rattle.frame.proofs.Promises.{refuses, answers}
 use Rattle.frame.proofs.reader.Reader.quiet.Statement.{statement}
 use Rattle.frame.proofs.reader.Reader.quiet.Tie as tie
 
+-- The start of the call, from where nothing was refused.
+abbrev start : tie.Else2 → tie.Start
+start c = c .before .before .before .before
+
+-- Where nothing was refused, from where the held bytes are lent.
+abbrev accepted : tie.After-quiet-held-arg → tie.Else2
+accepted c = c .before .before .before
+
 -- The state's array has 517 bytes.
 array : (c : tie.Start) → length (c .args .self .held) ≡ 517
 array c = search needs
+
+-- The held bytes are no more than a frame has.
+held-fits : (c : tie.Else2) → let r = start c .args .self in r .count ≤ limit (r .framing)
+held-fits c = omega (arith, c .before .before .limit-of .ensures, c .before .if1 .left)
 
 limit-of-requires : tie.Need-limit-of-requires
 limit-of-requires c κs = search needs
@@ -38,23 +51,26 @@ slice-aggregate-whole c = search needs
 
 slice-aggregate-quiet-held : tie.Need-slice-aggregate-quiet-held
 slice-aggregate-quiet-held c =
-    let a = c .before .before .before .before .before .before .before .args in
-    sym (length-take-le (a .self .count) (a .self .held) (omega (arith, c .before .before .before .before .before .limit-of .ensures, c .before .before .before .before .if1 .left, limit-most (a .self .framing), array (c .before .before .before .before .before .before .before))))
+    let s = start (accepted c) in
+    let r = s .args .self in
+    sym (length-take-le (r .count) (r .held) (omega (arith, held-fits (accepted c), limit-most (r .framing), array s)))
 
 quiet-held-requires : tie.Need-quiet-held-requires
 quiet-held-requires c κs =
-    let a = c .before .before .before .before .before .before .before .before .args in
-    (omega (arith, length-take (a .self .count) (a .self .held), c .before .before .before .before .before .before .limit-of .ensures, c .before .before .before .before .before .if1 .left), c .before .before .before .before .if2 .left)
+    let e = accepted (c .before) in
+    let r = start e .args .self in
+    (omega (arith, length-take (r .count) (r .held), held-fits e), e .if2 .left)
 
 same-length : tie.Need-same-length
 same-length c = search needs
 
 returns-3 : tie.Need-returns-3
 returns-3 c =
-    let a = c .before .before .before .before .before .before .before .before .before .before .before .args in
+    let e = accepted (c .before .before .before .before) in
+    let a = start e .args in
     let h = c .before .before .quiet-held .ensures in
     answers
-    (quiet-accepted (a .self) (length (a .buf .now)) 0 (omega (arith, c .before .before .before .before .before .before .before .before .before .limit-of .ensures, c .before .before .before .before .before .before .before .before .if1 .left)) (c .before .before .before .before .before .before .before .if2 .left))
+    (quiet-accepted (a .self) (length (a .buf .now)) 0 (held-fits e) (e .if2 .left))
     (h .values) (h .state) (h .buffer)
 
 pub quiet-spec : {M : Type 1} → statement M

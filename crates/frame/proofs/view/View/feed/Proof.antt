@@ -8,8 +8,8 @@ use mathlib.Core.Path.{_≡_, refl, sym, ap, _∙_, subst}
 use borrow.Author.Tests.{not-true, not-false}
 use lib.ListN.{length, take, drop, length-drop}
 use Rattle.frame.specs.Reader.{holding, line}
-use Rattle.frame.specs.Scan.{KeepsCall}
 use Rattle.frame.specs.View.{inside}
+use Rattle.frame.specs.Feeding.{KeepsCall}
 use Rattle.frame.specs.declared.refusal.Refusal.the-variants.{State, Buffer, Chunk}
 use Rattle.frame.proofs.Lists.{take-rest}
 use Rattle.frame.proofs.Views.{Inside, is-inside, view-state, view-buffer, view-chunk, refused-views, kept-views}
@@ -17,21 +17,29 @@ use borrow.Author.Needs.{needs}
 use Rattle.frame.proofs.view.View.feed.Statement.{statement}
 use Rattle.frame.proofs.view.View.feed.Tie as tie
 
+-- The start of the call, from where the view lies in the chunk.
+abbrev start : tie.Else1 → tie.Start
+start c = c .before .before .before .before
+
+-- Where nothing was refused, from where the chunk was fed.
+abbrev accepted : tie.After-feed-view → tie.Else3
+accepted c = c .before .before .before
+
 -- The view lies in the chunk.
-yes : (c : tie.Else1) → inside (c .before .before .before .before .args .self) (length (c .before .before .before .before .args .chunk .now)) ≡ true
+yes : (c : tie.Else1) → inside (start c .args .self) (length (start c .args .chunk .now)) ≡ true
 yes c = sym (c .before .is-inside .ensures) ∙ not-false _ (c .if1 .left)
 
-lies : (c : tie.Else1) → Inside (c .before .before .before .before .args .self) (length (c .before .before .before .before .args .chunk .now))
-lies c = is-inside (c .before .before .before .before .args .self) (length (c .before .before .before .before .args .chunk .now)) (yes c)
+lies : (c : tie.Else1) → Inside (start c .args .self) (length (start c .args .chunk .now))
+lies c = is-inside (start c .args .self) (length (start c .args .chunk .now)) (yes c)
 
 -- What is kept of the chunk from the view on.
 kept : (x : tie.After-feed-view) →
-    let a = x .before .before .before .before .before .before .before .before .before .args in
+    let a = start (accepted x .before .before) .args in
     let w : List ℕ = drop (a .self .from) (a .chunk .now) in
     let count = a .self .end - a .self .from in
     KeepsCall (line (holding (a .self .framing) (take count w)) (drop count w)) count w (x .feed-view .result) (a .buf .now) (x .feed-view .last .1 .1 .1 .0)
 kept x =
-    let a = x .before .before .before .before .before .before .before .before .before .args in
+    let a = start (accepted x .before .before) .args in
     let count = a .self .end - a .self .from in
     subst
     (λ (w : List ℕ). KeepsCall (line (holding (a .self .framing) (take count w)) (drop count w)) count w (x .feed-view .result) (a .buf .now)
@@ -56,7 +64,7 @@ refused-requires-2 c κs = search needs
 
 returns-2 : tie.Need-returns-2
 returns-2 c =
-    let a = c .before .before .before .before .before .before .args in
+    let a = start (c .before .before) .args in
     refused-views (a .self) (a .chunk .now) (a .buf .now) (c .refused2 .result) Buffer
     (view-buffer (a .self) (length (a .buf .now)) (length (a .chunk .now)) (yes (c .before .before)) (c .before .if2 .taken)) refl (c .refused2 .ensures .0) (c .refused2 .ensures .1)
 
@@ -65,7 +73,7 @@ refused-requires-3 c κs = search needs
 
 returns-3 : tie.Need-returns-3
 returns-3 c =
-    let a = c .before .before .before .before .before .before .before .args in
+    let a = start (c .before .before .before) .args in
     refused-views (a .self) (a .chunk .now) (a .buf .now) (c .refused3 .result) Chunk
     (view-chunk (a .self) (length (a .buf .now)) (length (a .chunk .now)) (yes (c .before .before .before)) (c .before .before .if2 .left) (c .before .if3 .taken)) refl
     (c .refused3 .ensures .0) (c .refused3 .ensures .1)
@@ -84,10 +92,10 @@ sub-feed-view-2 c = lies (c .before .before .before) .onward
 
 feed-view-requires : tie.Need-feed-view-requires
 feed-view-requires c κs =
-    let a = c .before .before .before .before .before .before .before .before .args in
+    let a = start (c .before .before .before .before) .args in
     let h = lies (c .before .before .before .before) in
     let rest = take-rest (a .chunk .now) (a .self .from) in
-    (omega (arith, h .onward, h .there, ap length rest ∙ length-drop (a .self .from) (a .chunk .now)), h .fits, c .before .before .before .if2 .left)
+    (omega (arith, h .onward, h .there, ap length rest ∙ length-drop (a .self .from) (a .chunk .now)), (h .fits, c .before .before .before .if2 .left))
 
 add-t10 : tie.Need-add-t10
 add-t10 c = search needs
@@ -100,8 +108,10 @@ same-length c = search needs
 
 returns-4 : tie.Need-returns-4
 returns-4 c =
-    let a = c .before .before .before .before .before .before .before .before .before .before .before .before .before .args in
-    kept-views (a .self) (a .chunk .now) (a .buf .now) _ (c .before .before .before .before .feed-view .result) (lies (c .before .before .before .before .before .before .before .before .before)) (c .before .before .before .before .before .before .before .before .if2 .left) (c .before .before .before .before .before .before .before .if3 .left) (kept (c .before .before .before .before))
+    let x = c .before .before .before .before in
+    let e = accepted x in
+    let a = start (e .before .before) .args in
+    kept-views (a .self) (a .chunk .now) (a .buf .now) _ (x .feed-view .result) (lies (e .before .before)) (e .before .if2 .left) (e .if3 .left) (kept x)
 
 pub feed-spec : {M : Type 1} → statement M
 feed-spec =

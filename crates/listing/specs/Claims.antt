@@ -1,0 +1,121 @@
+-- What follows from the promises: the calls over a segment print its listing, however it is cut into chunks. Document 01, end of "Frames to check
+-- against", with its example.
+use Prim.Native.Nat.{ℕ, _+_, _≤_}
+use mathlib.Core.Path.{_≡_}
+use mathlib.Core.List.{List, [], _∷_, _++_, flatten}
+use mathlib.Core.Bool.{true}
+use lib.Dec.{eqb}
+use lib.ListN.{length, take}
+use Rattle.frame.specs.Ascii.{carriageReturn, lineFeed}
+use Rattle.frame.specs.Framing.{limit}
+use Rattle.frame.specs.Rule.{Output, join}
+use Rattle.frame.specs.Reader.{State, holding, Settled, newReader}
+use Rattle.frame.specs.Single.{writingOf}
+use Rattle.frame.specs.Drain.{drain, afterDrain, ruleAfter}
+use Rattle.frame.specs.Elements.{All}
+use Rattle.frame.specs.declared.framing.Framing.{Framing}
+use Rattle.frame.specs.declared.framing.Framing.the-variants.{Ascii}
+use Rattle.frame.specs.declared.reader.Reader.{Reader}
+use Rattle.frame.specs.declared.single.WriteAnswer.{WriteAnswer}
+use Rattle.message.specs.Text.{text}
+use Rattle.listing.specs.Listing.{ListValues, valuesOf, ListsChunk, ListsQuiet, ListsTotal}
+use Rattle.listing.specs.Line.{linesOf, printed, listing}
+use Rattle.listing.specs.declared.list.Listed.{Listed}
+
+-- The text is within the buffer, which keeps its length. A chunk has at most 65,536 bytes of noise and 517 that were held, a quiet 517.
+abbrev pub ChunkIsSmall : Type 0
+ChunkIsSmall =
+    (r : Reader) (chunk out : List ℕ) (a : Listed) (out′ : List ℕ) → ListsChunk r chunk out a out′ →
+    (valuesOf (a .answer) .len ≤ length out) × (length out′ ≡ length out) × (valuesOf (a .answer) .noise ≤ 66053)
+
+abbrev pub QuietIsSmall : Type 0
+QuietIsSmall =
+    (r : Reader) (out : List ℕ) (a : Listed) (out′ : List ℕ) → ListsQuiet r out a out′ →
+    (valuesOf (a .answer) .len ≤ length out) × (length out′ ≡ length out) × (valuesOf (a .answer) .noise ≤ 517)
+
+abbrev pub TotalIsSmall : Type 0
+TotalIsSmall =
+    (noise : ℕ) (out : List ℕ) (a : WriteAnswer) (out′ : List ℕ) → ListsTotal noise out a out′ →
+    (writingOf a .len ≤ length out) × (length out′ ≡ length out)
+
+-- What the chunks of a segment give from a state on, and then its quiet.
+abbrev pub given : State → List (List ℕ) → Output (List ℕ)
+given s [] = ruleAfter s []
+given s (chunk ∷ chunks) = let d : Settled = drain s chunk in join (d .out) (given (afterDrain s d) chunks)
+
+-- However a segment is cut into chunks, the lines of all of them and of the quiet, and then the total of their noise, are the segment's listing.
+abbrev pub AnyCutIsListed : Type 0
+AnyCutIsListed = (f : Framing) (chunks : List (List ℕ)) → printed (given (holding f []) chunks) ≡ listing f (flatten chunks)
+
+-- A call was not refused.
+abbrev pub NotRefused : ListValues → Type 0
+NotRefused v = eqb (v .number) 0 ≡ true
+
+-- The last call of a run: it keeps the promise of `list_total` with all the noise, is not refused, and prints the text of its answer.
+pub record Totals (noise : ℕ) (shown : List ℕ) : Type 0 where
+  pub out : List ℕ
+  pub out′ : List ℕ
+  pub answer : WriteAnswer
+  pub lists : ListsTotal noise out answer out′
+  pub answered : writingOf answer .number ≡ 0
+  pub shows : take (writingOf answer .len) out′ ≡ shown
+
+-- A run over a segment's chunks from a reader's state and a count of noise: a call for each chunk that keeps the promise of `list_chunk` and gets the
+-- state that the last one gave back, then one that keeps that of `list_quiet`, and last one that keeps that of `list_total`, with the noise of all of
+-- them. What it prints is the text of each answer, in order.
+pub data Run : Reader → ℕ → List (List ℕ) → List ℕ → Type 0 where
+  chunkListed : {r : Reader} {noise : ℕ} {chunks : List (List ℕ)} {shown : List ℕ} (chunk out out′ : List ℕ) (a : Listed) →
+      ListsChunk r chunk out a out′ → NotRefused (valuesOf (a .answer)) → Run (a .reader) (noise + valuesOf (a .answer) .noise) chunks shown →
+      Run r noise (chunk ∷ chunks) (take (valuesOf (a .answer) .len) out′ ++ shown)
+  quietListed : {r : Reader} {noise : ℕ} {shown : List ℕ} (out out′ : List ℕ) (a : Listed) →
+      ListsQuiet r out a out′ → NotRefused (valuesOf (a .answer)) → Totals (noise + valuesOf (a .answer) .noise) shown →
+      Run r noise [] (take (valuesOf (a .answer) .len) out′ ++ shown)
+
+-- Whatever its chunks, a run from a new reader prints the segment's listing, with the line of its noise last.
+abbrev pub RunIsListing : Type 0
+RunIsListing = (f : Framing) (chunks : List (List ℕ)) (shown : List ℕ) → Run (newReader f) 0 chunks shown → shown ≡ listing f (flatten chunks)
+
+-- A run over these chunks, and what it prints.
+pub record HasRun (r : Reader) (noise : ℕ) (chunks : List (List ℕ)) : Type 0 where
+  pub shown : List ℕ
+  pub run : Run r noise chunks shown
+
+-- However a segment is cut into chunks of at most 65,536 bytes, there is a run over them from a new reader.
+abbrev pub RunExists : Type 0
+RunExists = (f : Framing) (chunks : List (List ℕ)) → All (λ chunk. length chunk ≤ 65536) chunks → HasRun (newReader f) 0 chunks
+
+-- Whatever state a chunk is listed with, held bytes within the limit stay within it, and the framing stays: no later call refuses the state.
+abbrev pub ChunkStaysInLimit : Type 0
+ChunkStaysInLimit =
+    (r : Reader) (chunk out : List ℕ) (a : Listed) (out′ : List ℕ) → ListsChunk r chunk out a out′ → r .count ≤ limit (r .framing) →
+    (a .reader .framing ≡ r .framing) × (a .reader .count ≤ limit (r .framing))
+
+-- Document 01's example, byte for byte.
+abbrev pub ExampleIsListed : Type 0
+ExampleIsListed =
+    listing Ascii (text "ab:00010203FA" ++ (carriageReturn ∷ lineFeed ∷ (text ":DBA1120171" ++ (carriageReturn ∷ lineFeed ∷ []))))
+    ≡ text "simple 00 01 0203" ++ (lineFeed ∷ (text "response 12 ok" ++ (lineFeed ∷ (text "noise 2" ++ (lineFeed ∷ [])))))
+
+-- A line of each kind, from frames of these payloads.
+abbrev pub payloadsShown : List (List ℕ)
+payloadsShown =
+    (0x78 ∷ 0x00 ∷ [])
+    ∷ (0x00 ∷ 0xA0 ∷ 0xFE ∷ 0x00 ∷ 0x00 ∷ 0x00 ∷ 0x00 ∷ 0x00 ∷ 0x00 ∷ 0x01 ∷ 0x01 ∷ 0x0A ∷ 0x00 ∷ 0x02 ∷ 0x11 ∷ 0xBC ∷ [])
+    ∷ (0xDB ∷ 0xA1 ∷ 0x13 ∷ 0x00 ∷ [])
+    ∷ (0x78 ∷ 0x81 ∷ 0x15 ∷ 0x01 ∷ 0x75 ∷ 0x81 ∷ 0x00 ∷ 0x00 ∷ 0x38 ∷ 0x00 ∷ 0x26 ∷ 0xC9
+    ∷ 0x00 ∷ 0x0C ∷ 0x04 ∷ 0x22 ∷ 0x01 ∷ 0x00 ∷ 0xFF ∷ 0xFF ∷ 0xFF ∷ 0xFF ∷ 0xFF ∷ [])
+    ∷ (0x78 ∷ 0x81 ∷ 0x0F ∷ 0x01 ∷ 0x75 ∷ 0x81 ∷ 0x00 ∷ 0x00 ∷ 0x38 ∷ 0x00 ∷ 0x26 ∷ 0xC9
+    ∷ 0x00 ∷ 0xBE ∷ 0xEF ∷ 0x00 ∷ 0x01 ∷ 0x00 ∷ 0x00 ∷ 0x00 ∷ [])
+    ∷ (0x01 ∷ [])
+    ∷ (0xDB ∷ 0xA1 ∷ 0x01 ∷ 0x02 ∷ [])
+    ∷ []
+
+abbrev pub KindsAreListed : Type 0
+KindsAreListed =
+    linesOf payloadsShown
+    ≡ text "simple 78 00 -"
+    ++ (lineFeed ∷ (text "extended 00 FE 00000000 00000101 0A 11BC"
+    ++ (lineFeed ∷ (text "response 13 fail"
+    ++ (lineFeed ∷ (text "standard 78 81000038 75 0C04 01"
+    ++ (lineFeed ∷ (text "remote 78 81000038 75 BEEF"
+    ++ (lineFeed ∷ (text "refused 7" ++ (lineFeed ∷ (text "refused 11" ++ (lineFeed ∷ [])))))))))))))
