@@ -35,7 +35,7 @@ pub record Settled : Type 0 where
 abbrev pub settled : Output (List ℕ) → List ℕ → Settled
 settled out rest = record { out = out; rest = rest }
 
--- The held bytes h, judged so: undecided, they stay; a frame is handed out; a failed start loses one byte, and the rest is judged again.
+-- The held bytes h, judged so: undecided, they stay; a frame is handed out; at a failed start one byte is noise, and the rest is judged again.
 abbrev pub settleAs : Verdict → List ℕ → Settled → Settled
 settleAs cut h later = settled nothing h
 settleAs (refused judged n) h later = settled (join noiseByte (later .out)) (later .rest)
@@ -145,7 +145,7 @@ abbrev pub bufferAt : List (List ℕ) → List ℕ → List ℕ
 bufferAt [] buf = buf
 bufferAt (p ∷ ps) buf = inFront p buf
 
--- The refusals of a quiet call: 16, unless the state is sound, then 13; of a line call: 16, 13, 15. 0: none.
+-- The refusals of a quiet call, in their order: 16 where the state is not sound, 13; of a line call: 16, 13, 15. 0: none.
 abbrev pub quietRefusalNumber : Bool → ℕ → ℕ
 quietRefusalNumber sound room = cond sound (cond (leb 256 room) 0 13) 16
 

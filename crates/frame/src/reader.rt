@@ -242,7 +242,7 @@ fn quiet_held(framing: Framing, s: &[u8], buf: &mut [u8]) -> Quieted
 }
 
 impl Reader {
-    // The longest payload, 256 bytes as in `Payload` of specs/Checks.antt.
+    // The longest payload, the 256 of `writable` in specs/Single.antt.
     pub const MAX_PAYLOAD: usize = 256;
     // The longest frame in binary framing, `limit Binary` of specs/Framing.antt.
     pub const MAX_BINARY: usize = 262;

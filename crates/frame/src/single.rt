@@ -15,7 +15,7 @@ pub enum ReadAnswer {
 }
 
 pub enum WriteAnswer {
-    // The length of the frame in the front of the buffer.
+    // The length of what was put into the front of the buffer.
     Written(usize),
     Refused(Refusal),
 }

@@ -23,10 +23,10 @@ use Rattle.frame.specs.declared.reader.Reader.{Reader}
 use Rattle.frame.specs.declared.single.WriteAnswer.the-variants.{Written}
 use Rattle.frame.proofs.Theorems.{line-drains, needs-more-is-drained, needs-more-is-true, undecided-is-short}
 use Rattle.frame.proofs.Theorems.{drain-follows-rule}
-use Rattle.listing.specs.Line.{linesOf, noiseLine, printed, lineOf}
+use Rattle.listing.specs.Line.{linesOf, noiseLine, lineOf}
 use Rattle.listing.specs.Listing.{ListValues, valuesOf, Lists, ListsChunk, ListsQuiet, chunkRefusal}
 use Rattle.listing.specs.Claims.{given, NotRefused, Totals, Run, chunkListed, quietListed, HasRun, AnyCutIsListed, RunIsListing, RunExists}
-use Rattle.listing.specs.Claims.{ChunkStaysInLimit}
+use Rattle.listing.specs.Claims.{ChunkStaysInLimit, printed}
 use Rattle.listing.specs.declared.list.Listed.{Listed}
 use Rattle.listing.specs.declared.list.ListAnswer.the-variants.{Lines}
 use Rattle.listing.proofs.Chunks.{answered-lists, chunk-free, end-free}

@@ -8,7 +8,7 @@ use lib.Dec.{eqb}
 use lib.ListN.{length, take}
 use Rattle.frame.specs.Ascii.{carriageReturn, lineFeed}
 use Rattle.frame.specs.Framing.{limit}
-use Rattle.frame.specs.Rule.{Output, join}
+use Rattle.frame.specs.Rule.{Output, join, rule, payloads}
 use Rattle.frame.specs.Reader.{State, holding, Settled, newReader}
 use Rattle.frame.specs.Single.{writingOf}
 use Rattle.frame.specs.Drain.{drain, afterDrain, ruleAfter}
@@ -19,7 +19,7 @@ use Rattle.frame.specs.declared.reader.Reader.{Reader}
 use Rattle.frame.specs.declared.single.WriteAnswer.{WriteAnswer}
 use Rattle.message.specs.Text.{text}
 use Rattle.listing.specs.Listing.{ListValues, valuesOf, ListsChunk, ListsQuiet, ListsTotal}
-use Rattle.listing.specs.Line.{linesOf, printed, listing}
+use Rattle.listing.specs.Line.{linesOf, noiseLine}
 use Rattle.listing.specs.declared.list.Listed.{Listed}
 
 -- The text is within the buffer, which keeps its length. A chunk has at most 65,536 bytes of noise and 517 that were held, a quiet 517.
@@ -42,6 +42,14 @@ TotalIsSmall =
 abbrev pub given : State → List (List ℕ) → Output (List ℕ)
 given s [] = ruleAfter s []
 given s (chunk ∷ chunks) = let d : Settled = drain s chunk in join (d .out) (given (afterDrain s d) chunks)
+
+-- All that is printed of an output.
+abbrev pub printed : Output (List ℕ) → List ℕ
+printed o = linesOf (o .frames) ++ noiseLine (o .noise)
+
+-- The listing of a segment: the frames that the leftmost rule hands out, and its noise.
+abbrev pub listing : Framing → List ℕ → List ℕ
+listing f segment = printed (payloads (rule f segment))
 
 -- However a segment is cut into chunks, the lines of all of them and of the quiet, and then the total of their noise, are the segment's listing.
 abbrev pub AnyCutIsListed : Type 0

@@ -7,8 +7,6 @@ use lib.Dec.{ltb}
 use lib.ListN.{drop}
 use Rattle.frame.specs.Hex.{hex}
 use Rattle.frame.specs.Ascii.{lineFeed}
-use Rattle.frame.specs.Rule.{Output, rule, payloads}
-use Rattle.frame.specs.declared.framing.Framing.{Framing}
 use Rattle.message.specs.Text.{text}
 use Rattle.message.specs.FromModule.{readFromModule}
 use Rattle.message.specs.Meaning.{Meaning, refused, carrying, bare}
@@ -34,7 +32,7 @@ abbrev pub dataField : List ℕ → List ℕ
 dataField [] = text " -"
 dataField (b ∷ s) = field (b ∷ s)
 
--- A number in decimal, with no more than `places` digits and no zero in front; 64 bits need at most 20.
+-- A number in decimal, with no more than `places` digits and no zero in front; 20 are enough for 64 bits.
 abbrev pub digitsOf : ℕ → ℕ → List ℕ
 digitsOf zero n = []
 digitsOf (suc places) n = cond (ltb n 10) [] (digitsOf places (n / 10)) ++ ((0x30 + n % 10) ∷ [])
@@ -105,11 +103,3 @@ linesOf (p ∷ ps) = lineOf p ++ linesOf ps
 -- The noise total.
 unfoldable pub noiseLine : ℕ → List ℕ
 noiseLine n = text "noise " ++ (decimal n ++ (lineFeed ∷ []))
-
--- All that is printed of an output.
-abbrev pub printed : Output (List ℕ) → List ℕ
-printed o = linesOf (o .frames) ++ noiseLine (o .noise)
-
--- The listing of a segment: the frames that the leftmost rule hands out, and its noise.
-abbrev pub listing : Framing → List ℕ → List ℕ
-listing f segment = printed (payloads (rule f segment))

@@ -1,12 +1,14 @@
 -- Options are read in any order: what is read so far is the options restricted to those whose groups are read, and each group adds its own.
 -- Assumes nothing.
 use Prim.Native.Nat.{ℕ}
+use native.Mathlib.Omega.{arith}
 use mathlib.Core.Path.{_≡_, refl, sym, ap, subst, fun-ext, _∙_}
 use mathlib.Core.List.{List, [], _∷_, map, nil≢cons, cons≢nil, head-eq-of-cons-eq, tail-eq-of-cons-eq}
 use mathlib.Core.List.{List·Permᴰ as Permutation, List·Permᴰ·nil as nil, List·Permᴰ·cons as cons, List·Permᴰ·swap as swap}
 use mathlib.Core.List.{List·Permᴰ·trans as trans, Permᴰ·symm, Permᴰ·middle}
 use mathlib.Core.Bool.{Bool, true, false, cond, _&&_, _||_, true≢false}
 use lib.Dec.{eqb}
+use lib.ListN.{getD}
 use borrow.Author.Tests.{eqb-false, ne-eqb}
 use Rattle.message.specs.Options.{noOptions, optionBytes, optionGroups, optionString, flagBytes, retryBytes, wordBytes, retryAllowed}
 use Rattle.message.specs.Claims.{OptionsFit}
@@ -198,5 +200,5 @@ any-order-is-read =
       options = λ o gs fits allowed d. any-order o fits allowed gs d .reads;
       message = λ m gs dat fits e d.
           transmission-back m (optionString gs) dat fits e (λ allowed. any-order (m .options) (fits .2) allowed gs d);
-      another = sheet;
+      another = (sheet, λ e. let z : _≡_ {A = ℕ} 4 2 = ap (λ (gs : List (List ℕ)). getD (getD gs 1 []) 0 0) e in omega arith);
     }

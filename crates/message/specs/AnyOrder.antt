@@ -5,8 +5,8 @@ use mathlib.Core.Bool.{true, false}
 use mathlib.Core.List.{List, [], _∷_, _++_, List·Permᴰ as Permutation}
 use lib.ListN.{length}
 use Rattle.message.specs.Options.{noOptions, option, optionsFrom, opted, retryAllowed, optionGroups, optionString}
-use Rattle.message.specs.ToModule.{readToModule, transmissionRefusal, orderedLayout}
-use Rattle.message.specs.Claims.{OptionsFit, RequestFits, ReadsAs}
+use Rattle.message.specs.ToModule.{readToModule, transmissionRefusal}
+use Rattle.message.specs.Claims.{OptionsFit, RequestFits, ReadsAs, orderedLayout}
 use Rattle.message.specs.declared.options.MaybeByte.the-variants.{Given as Byte}
 use Rattle.message.specs.declared.options.MaybeWord.the-variants.{NotGiven as NoWord, Given as Word}
 use Rattle.message.specs.declared.options.Options.{Options}
@@ -40,7 +40,8 @@ sheetGroups =
     ∷ []
 
 -- Every string of the groups of options, whatever their order, is read as those options, at every place and whatever follows; and so every
--- message with such a string is read as the message. The ascending order is the one that is written. The frame of sheet 001 has another.
+-- message with such a string is read as the message. The ascending order, that of the groups, is the one that is written; the frame of sheet 001
+-- has another.
 pub record AnyOrderIsRead : Type 0 where
   pub options :
       (o : Options) (gs : List (List ℕ)) → OptionsFit o → retryAllowed (o .retries) ≡ true → Permutation gs (optionGroups o) →
@@ -49,4 +50,4 @@ pub record AnyOrderIsRead : Type 0 where
       (m : Transmission) (gs : List (List ℕ)) (dat : List ℕ) → RequestFits (ExtendedRequest m) → transmissionRefusal m ≡ 0 →
       Permutation gs (optionGroups (m .options)) → length (orderedLayout m gs dat) ≤ 256 →
       ReadsAs readToModule (orderedLayout m gs dat) (ExtendedRequest m) dat
-  pub another : Permutation sheetGroups (optionGroups sheetOptions)
+  pub another : Permutation sheetGroups (optionGroups sheetOptions) × (sheetGroups ≡ optionGroups sheetOptions → ⊥)

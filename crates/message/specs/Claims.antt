@@ -12,8 +12,8 @@ use Rattle.frame.specs.Elements.{Bytes}
 use Rattle.frame.specs.Calls.{Calls, offering}
 use Rattle.frame.specs.declared.framing.Framing.{Framing}
 use Rattle.message.specs.Meaning.{Meaning, carrying, bare}
-use Rattle.message.specs.Options.{optionGroups}
-use Rattle.message.specs.ToModule.{readToModule, requestLayout, requestRefusal, orderedLayout, changeLayout, changeRefusal}
+use Rattle.message.specs.Options.{optionGroups, optionString}
+use Rattle.message.specs.ToModule.{readToModule, requestLayout, requestRefusal, addressBytes, changeLayout, changeRefusal}
 use Rattle.message.specs.FromModule.{readFromModule, deliveryLayout, deliveryRefusal, noticeLayout, noticeRefusal}
 use Rattle.message.specs.Write.{Writes}
 use Rattle.message.specs.declared.options.MaybeByte.{MaybeByte}
@@ -140,12 +140,16 @@ pub record WhatIsReadIsWritten : Type 0 where
       (deliveryRefusal m ≡ 0) × (length (deliveryLayout m (drop start p)) ≤ 256)
   pub notice : (p : List ℕ) (m : Notice) → readFromModule p ≡ bare m → noticeRefusal m ≡ 0
 
--- The case of the layout, so writing refuses no more than it must: where a layout reads back as its message, the message is not refused.
+-- Writing refuses no more than it must: where a layout reads back as its message, the message is not refused.
 pub record RefusesNoMore : Type 0 where
   pub request : (m : Request) (dat : List ℕ) → ReadsAs readToModule (requestLayout m dat) m dat → requestRefusal m ≡ 0
   pub change : (m : OutputChange) → readToModule (changeLayout m) ≡ bare m → changeRefusal m ≡ 0
   pub delivery : (m : Delivery) (dat : List ℕ) → ReadsAs readFromModule (deliveryLayout m dat) m dat → deliveryRefusal m ≡ 0
   pub notice : (m : Notice) → readFromModule (noticeLayout m) ≡ bare m → noticeRefusal m ≡ 0
+
+-- An extended message whose options stand in the order of the groups gs.
+abbrev pub orderedLayout : Transmission → List (List ℕ) → List ℕ → List ℕ
+orderedLayout m gs dat = addressBytes (m .address) (m .«response_id») ++ (optionString gs ++ dat)
 
 -- The payload p is the layout of an extended message but for the order of its options: the groups of bytes that the layout has for them stand
 -- in some order.

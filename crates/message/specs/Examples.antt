@@ -20,7 +20,7 @@ use Rattle.message.specs.FromModule.{readFromModule}
 use Rattle.message.specs.Status.{millivolts}
 use Rattle.message.specs.AnyOrder.{sheetOptions}
 use Rattle.message.specs.declared.options.Options.{Options}
-use Rattle.message.specs.declared.options.MaybeByte.the-variants.{Given as Byte}
+use Rattle.message.specs.declared.options.MaybeByte.the-variants.{NotGiven as NoByte, Given as Byte}
 use Rattle.message.specs.declared.options.MaybeWord.the-variants.{NotGiven as NoWord, Given as Word}
 use Rattle.message.specs.declared.to_module.Address.the-variants.{Plain, Extended as ExtendedAddress}
 use Rattle.message.specs.declared.to_module.Request.{Request}
@@ -128,7 +128,7 @@ toRefused p n = row (toModule p) (to (refused n) [] ∷ [])
 abbrev fromRefused : List ℕ → ℕ → Row
 fromRefused p n = row (fromModule p) (from (refused n) [] ∷ [])
 
--- The starred rows.
+-- The starred rows, with what the payloads of their frames mean, and the rows beside them that concern a single frame or payload.
 abbrev pub rows : List Row
 rows =
     reads Ascii (text ":00010203FA\r\n") 13 (0x00 ∷ 0x01 ∷ 0x02 ∷ 0x03 ∷ [])
@@ -362,6 +362,44 @@ withRetries b =
     row (toModule (0x00 ∷ 0xA0 ∷ 0x12 ∷ 0x02 ∷ b ∷ 0xFF ∷ []))
     (to (carrying (ExtendedRequest (record { address = Plain 0x00; «response_id» = 0x12; options = retriesAlone b })) 6) [] ∷ [])
 
+-- Options without an argument, two at a time: none is taken for another.
+abbrev flagsAlone : Bool → Bool → Options
+flagsAlone first second =
+    record {
+      «mac_ack» = first;
+      retries = NoByte;
+      «lower_delay» = NoWord;
+      «upper_delay» = NoWord;
+      interval = NoWord;
+      parallel = second;
+      «no_response» = first;
+      sleep = second;
+    }
+
+abbrev withFlags : ℕ → ℕ → Options → Row
+withFlags a b o =
+    row (toModule (0x00 ∷ 0xA0 ∷ 0x12 ∷ a ∷ b ∷ 0xFF ∷ []))
+    (to (carrying (ExtendedRequest (record { address = Plain 0x00; «response_id» = 0x12; options = o })) 6) [] ∷ [])
+
+-- A refusal for each of its causes: 7 for a long payload; 9 for commands just outside the known ones; 10 for an unknown, a repeated and a cut option; 11 for
+-- each fixed field.
+abbrev pub causeRows : List Row
+causeRows =
+    withFlags 0x01 0x07 (flagsAlone true false)
+    ∷ withFlags 0x06 0x08 (flagsAlone false true)
+    ∷ toRefused (replicate 257 0x00) 7
+    ∷ fromRefused (replicate 257 0x00) 7
+    ∷ toRefused (0x00 ∷ 0x81 ∷ []) 9
+    ∷ fromRefused (0x00 ∷ 0x80 ∷ []) 9
+    ∷ toRefused (0x00 ∷ 0xA0 ∷ 0x12 ∷ 0x09 ∷ 0xFF ∷ []) 10
+    ∷ toRefused (0x00 ∷ 0xA0 ∷ 0x12 ∷ 0x01 ∷ 0x01 ∷ 0xFF ∷ []) 10
+    ∷ toRefused (0x00 ∷ 0xA0 ∷ 0x12 ∷ 0x03 ∷ 0x05 ∷ []) 10
+    ∷ toRefused (0x78 ∷ 0x80 ∷ 0x02 ∷ 0x00 ∷ 0x0F ∷ 0x01 ∷ 0x03 ∷ replicate 8 0x00) 11
+    ∷ fromRefused (0x78 ∷ 0x81 ∷ 0x15 ∷ 0x02 ∷ replicate 19 0x00) 11
+    ∷ fromRefused (0x78 ∷ 0x81 ∷ 0x0F ∷ 0x02 ∷ replicate 16 0x00) 11
+    ∷ fromRefused (0x78 ∷ 0x81 ∷ 0x0E ∷ 0x01 ∷ replicate 16 0x00) 11
+    ∷ []
+
 -- The ends of each range: plain addresses, extended addresses, retry bytes.
 abbrev pub edgeRows : List Row
 edgeRows =
@@ -393,5 +431,5 @@ edgeRows =
 -- Each row is answered as document 01 says.
 abbrev pub Examples : Type 0
 Examples =
-    let all : List Row = rows ++ (toRows ++ (fromRows ++ (distinctRows ++ edgeRows))) in
+    let all : List Row = rows ++ (toRows ++ (fromRows ++ (distinctRows ++ (causeRows ++ edgeRows)))) in
     map (λ (r : Row). answers (r .ask)) all ≡ map (λ (r : Row). r .says) all

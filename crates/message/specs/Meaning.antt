@@ -13,11 +13,11 @@ pub data Meaning (A B : Type 0) : Type 0 where
   carrying : A → ℕ → Meaning A B
   bare : B → Meaning A B
 
--- Reading by the first byte: fewer than 2 or over 256 bytes 7; the byte `own` of this direction goes its own way; any other must be a plain
+-- Reading by the first byte: fewer than 2 or over 256 bytes 7; the byte `special` has a meaning of its own in this direction; any other must be a plain
 -- address (8).
 module _ {A B : Type 0} where
   abbrev pub byAddress : ℕ → (List ℕ → Meaning A B) → (List ℕ → Meaning A B) → List ℕ → Meaning A B
-  byAddress own ownWay plainWay p =
+  byAddress special specially plainly p =
       cond (leb 2 (length p) && leb (length p) 256)
-      (cond (eqb (byteAt p 0) own) (ownWay p) (cond (isPlain (byteAt p 0)) (plainWay p) (refused 8)))
+      (cond (eqb (byteAt p 0) special) (specially p) (cond (isPlain (byteAt p 0)) (plainly p) (refused 8)))
       (refused 7)

@@ -7,7 +7,7 @@ use lib.ListN.{length, drop, replicate}
 use Rattle.message.specs.Number.{byteAt, wordAt, longAt, bytes2, bytes4}
 use Rattle.message.specs.Address.{isPlain, isExtended, plainRefusal}
 use Rattle.message.specs.Meaning.{Meaning, refused, carrying, bare, byAddress}
-use Rattle.message.specs.Options.{Opted, bad, opted, option, optionsFrom, noOptions, optionBytes, optionString, retryAllowed}
+use Rattle.message.specs.Options.{Opted, bad, opted, option, optionsFrom, noOptions, optionBytes, retryAllowed}
 use Rattle.message.specs.Refusal.{numberOf}
 use Rattle.message.specs.Simple.{simpleLayout, simpleRefusal}
 use Rattle.message.specs.declared.to_module.Address.{Address}
@@ -27,10 +27,6 @@ addressBytes (ExtendedAddress w) id = 0x80 ∷ 0xA0 ∷ id ∷ bytes4 w
 -- Extended: those, the options, the data.
 abbrev pub transmissionLayout : Transmission → List ℕ → List ℕ
 transmissionLayout m dat = addressBytes (m .address) (m .«response_id») ++ (optionBytes (m .options) ++ dat)
-
--- An extended message whose options stand in the order of the groups gs.
-abbrev pub orderedLayout : Transmission → List (List ℕ) → List ℕ → List ℕ
-orderedLayout m gs dat = addressBytes (m .address) (m .«response_id») ++ (optionString gs ++ dat)
 
 -- The layout of a message with its data.
 abbrev pub requestLayout : Request → List ℕ → List ℕ
