@@ -1,8 +1,10 @@
 // Parts of slices, as much of them as there is.
 ghost use mathlib.Core.Path.{_≡_};
-ghost use Prim.Native.Nat.{_≤_};
-ghost use lib.ListN.{take, drop};
+ghost use Prim.Native.Nat.{_+_, _≤_, min};
+ghost use lib.ListN.{length, take, drop};
+ghost use lib.Seq.{paste};
 ghost use Rattle.io.specs.Counts.{Counts};
+ghost use Rattle.console.specs.Part.{fitting};
 
 // The first n bytes of s, or all of them where there are fewer.
 pub fn front(s: &[u8], n: usize) -> &[u8]
@@ -24,9 +26,12 @@ pub fn rest(s: &[u8], n: usize) -> &[u8]
     &s[n..]
 }
 
-// Puts the bytes of s into buf from the place `at` on, as many as fit, and gives the place behind them.
+// Puts the bytes of s into buf from the place `at` on, as many as fit, and gives the place behind them. Where buf ends before `at`, none fit and the place
+// is buf's end.
 pub fn append(buf: &mut [u8], at: usize, s: &[u8]) -> usize
     ensures { λ r. ⌜ Counts r (now (buf .exit)) ⌝ }
+    ensures { λ r. ⌜ r ≡ min at (length (now (buf .entry))) + fitting (now (buf .entry)) at (now (s .entry)) ⌝ }
+    ensures { λ _. ⌜ now (buf .exit) ≡ paste (now (buf .entry)) at (now (s .entry)) (fitting (now (buf .entry)) at (now (s .entry))) ⌝ }
 {
     let from = smaller(at, buf.len());
     let count = smaller(s.len(), buf.len() - from);
@@ -40,6 +45,7 @@ pub fn append(buf: &mut [u8], at: usize, s: &[u8]) -> usize
 
 // The smaller of two numbers.
 pub fn smaller(a: usize, b: usize) -> usize
+    ensures { λ r. ⌜ r ≡ min a b ⌝ }
     ensures { λ r. ⌜ r ≤ a ⌝ }
     ensures { λ r. ⌜ r ≤ b ⌝ }
 {

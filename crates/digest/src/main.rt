@@ -1,8 +1,8 @@
 // Drives the line reader over standard input: `digest FRAMING SIZE`, with FRAMING `binary` or `ascii`, feeds it in chunks of SIZE bytes and prints how many
 // frames and how many bytes of noise came out, and a digest of the payloads. The end of the input is the quiet. bench/ compares it with other programs.
 use console::front;
+use console::hex_u64;
 use console::number;
-use console::print_u64;
 use console::smaller;
 use frame::Fed;
 use frame::FeedAnswer;
@@ -275,11 +275,12 @@ fn main() {
         return;
     }
     let tally = drive_input(framing, size);
+    let digest = hex_u64(tally.digest);
     io::write_all(STDOUT_FILENO, b"frames ");
     io::print_decimal(STDOUT_FILENO, tally.frames);
     io::write_all(STDOUT_FILENO, b"\nnoise ");
     io::print_decimal(STDOUT_FILENO, tally.noise);
     io::write_all(STDOUT_FILENO, b"\ndigest ");
-    print_u64(tally.digest);
+    io::write_all(STDOUT_FILENO, &digest);
     io::write_all(STDOUT_FILENO, b"\n");
 }

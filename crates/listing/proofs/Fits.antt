@@ -178,6 +178,6 @@ rest-is p start h = rw (← length-drop start p) (take-length (drop start p))
 
 -- The line of a message with its data, which are the payload from a place on.
 pub delivery-by :
-    (p : List ℕ) (m : Delivery) (start : ℕ) → carrying m start ≡ readFromModule p →
+    (p : List ℕ) {d m : Delivery} {start : ℕ} → carrying d start ≡ readFromModule p → d ≡ m →
     deliveryLine m (take (length p - start) (drop start p)) ++ (lineFeed ∷ []) ≡ lineOf p
-delivery-by p m start e = rw (rest-is p start (start-inside p e)) (line-by p e)
+delivery-by p {start = start} e is = rw (← is, rest-is p start (start-inside p e)) (line-by p e)

@@ -98,3 +98,18 @@ partly-put-on {out₀} {out} {after} {whole} {rest} {left} room g h =
       all = append-assoc (g .done) (h .done) left ∙ ap (λ (s : List ℕ). g .done ++ s) (h .all) ∙ g .all;
       long = h .long ∙ g .long;
     }
+
+-- Text in two parts: there is room for the first, then for the second, and where both are put, it is put.
+pub first-room :
+    (out : List ℕ) (at : ℕ) (first second : List ℕ) {whole : List ℕ} → first ++ second ≡ whole → at + length whole ≤ length out → at + length first ≤ length out
+first-room out at first second parts room = partly-put-part first second room (partly-put out at parts)
+
+pub second-room :
+    {out first mid whole : List ℕ} {at end : ℕ} (second : List ℕ) → first ++ second ≡ whole → at + length whole ≤ length out → Puts out at first end mid →
+    end + length second ≤ length mid
+second-room {out} {at = at} second parts room p = partly-put-room room (partly-put-next room (partly-put out at parts) p)
+
+pub both-put :
+    {out first second mid whole after : List ℕ} {at end next : ℕ} → first ++ second ≡ whole → at + length whole ≤ length out → Puts out at first end mid →
+    Puts mid end second next after → Puts out at whole next after
+both-put {out} {at = at} parts room p q = partly-put-last room (partly-put-next room (partly-put out at parts) p) q

@@ -1,4 +1,6 @@
 // The calls of a row and their answers, a line for each.
+use crate::show::print_field;
+use crate::show::print_line;
 use crate::show::show_end;
 use crate::show::show_frame;
 use crate::show::show_refusal;
@@ -7,8 +9,6 @@ use crate::state::is_new;
 use crate::state::is_untouched;
 use crate::state::same_state;
 use console::front;
-use console::print_field;
-use console::print_line;
 use frame::FeedAnswer;
 use frame::QuietAnswer;
 use frame::Reader;

@@ -21,6 +21,7 @@ mod state;
 
 use crate::calls::refused_calls;
 use crate::calls::run_calls;
+use crate::show::print_line;
 use crate::show::show_held;
 use crate::show::show_segment;
 use console::append;
@@ -29,7 +30,6 @@ use console::hex_bytes;
 use console::line_at;
 use console::next_word;
 use console::number;
-use console::print_line;
 use console::rest;
 use frame::Framing;
 use frame::Reader;

@@ -1,14 +1,23 @@
-// What the program prints: rows, and the ends of the lines of calls.
+// What the program prints: lines and numbers, rows, and the ends of the lines of calls.
 use crate::state::is_untouched;
 use console::front;
-use console::print_bytes;
-use console::print_either;
-use console::print_field;
-use console::print_line;
+use console::put_hex;
 use console::rest;
 use frame::Framing;
 use frame::Refusal;
 use libc::STDOUT_FILENO;
+
+// Prints a line.
+pub fn print_line(line: &[u8]) {
+    io::write_all(STDOUT_FILENO, line);
+    io::write_all(STDOUT_FILENO, b"\n");
+}
+
+// Prints a space and a number in decimal.
+pub fn print_field(n: usize) {
+    io::write_all(STDOUT_FILENO, b" ");
+    io::print_decimal(STDOUT_FILENO, n as u64);
+}
 
 // Prints a row with a new reader, which has n bytes.
 pub fn show_segment(framing: Framing, size: usize, n: usize) {
@@ -40,10 +49,12 @@ fn show_framing(framing: Framing) {
     }
 }
 
-// Prints `frame` and the payload, which is in the front of a buffer.
+// Prints `frame` and the payload, which is in the front of a buffer of 256 bytes.
 pub fn show_frame(buf: &[u8], len: usize) {
+    let mut digits = [0u8; 512];
+    let n = put_hex(front(buf, len), &mut digits);
     io::write_all(STDOUT_FILENO, b" frame ");
-    print_bytes(front(buf, len));
+    io::write_all(STDOUT_FILENO, &digits[..n]);
     show_end(b"", true, is_untouched(rest(buf, len)));
 }
 
@@ -64,8 +75,17 @@ pub fn show_refusal(refusal: Refusal, state: bool, buffer: bool) {
     io::write_all(STDOUT_FILENO, b" refused");
     print_field(refusal.number() as usize);
     io::write_all(STDOUT_FILENO, b" state");
-    print_either(state, b" kept", b" changed");
+    show_kept(state);
     io::write_all(STDOUT_FILENO, b" buffer");
-    print_either(buffer, b" kept", b" changed");
+    show_kept(buffer);
     print_line(b"");
+}
+
+// Prints `kept` or `changed`.
+fn show_kept(kept: bool) {
+    if kept {
+        io::write_all(STDOUT_FILENO, b" kept");
+    } else {
+        io::write_all(STDOUT_FILENO, b" changed");
+    }
 }

@@ -17,13 +17,12 @@
 use crate::show::byte_field;
 use crate::show::data_field;
 use crate::show::long_field;
+use crate::show::print_either;
+use crate::show::print_field;
+use crate::show::print_number;
 use crate::show::show_refusal;
 use crate::show::word_field;
 use console::front;
-use console::print_either;
-use console::print_field;
-use console::print_u8;
-use console::print_u16;
 use console::rest;
 use frame::Framing;
 use libc::STDOUT_FILENO;
@@ -213,7 +212,7 @@ fn show_maybe_byte(before: bool, number: u8, option: MaybeByte) -> bool {
     };
     show_option(before, number);
     io::write_all(STDOUT_FILENO, b"=");
-    print_u8(argument);
+    print_number(argument as u64, 2);
     true
 }
 
@@ -224,7 +223,7 @@ fn show_maybe_word(before: bool, number: u8, option: MaybeWord) -> bool {
     };
     show_option(before, number);
     io::write_all(STDOUT_FILENO, b"=");
-    print_u16(argument);
+    print_number(argument as u64, 4);
     true
 }
 
@@ -232,7 +231,7 @@ fn show_maybe_word(before: bool, number: u8, option: MaybeWord) -> bool {
 fn show_option(before: bool, number: u8) {
     if before {
         io::write_all(STDOUT_FILENO, b",");
-        print_u8(number);
+        print_number(number as u64, 2);
     } else {
         byte_field(number);
     }

@@ -25,7 +25,7 @@ smaller-requires : tie.Need-smaller-requires Inv-loop μ-loop
 smaller-requires c κs = search needs
 
 slice-aggregate-feed : tie.Need-slice-aggregate-feed Inv-loop μ-loop
-slice-aggregate-feed c = front _ (c .before .before .before .before .before .args .s .now) (c .before .before .smaller .ensures .1)
+slice-aggregate-feed c = front _ (c .before .before .before .before .before .args .s .now) (c .before .before .smaller .ensures .1 .1)
 
 slice-aggregate-feed-2 : tie.Need-slice-aggregate-feed-2 Inv-loop μ-loop
 slice-aggregate-feed-2 c = search needs

@@ -3,7 +3,7 @@
 use mathlib.Core.Path.{refl, sym, ap, _∙_}
 use borrow.Author.Needs.{needs}
 use Rattle.boundary.specs.FromModule.{noticeRefusalIn, noticeLayoutIn}
-use Rattle.boundary.proofs.Crossing.{message-crosses, no-framing, refused-crosses}
+use Rattle.boundary.proofs.Crossing.{message-crosses, no-framing, no-message, refused-crosses}
 use Rattle.boundary.proofs.from_module.boundary_write_notice.Statement.{statement}
 use Rattle.boundary.proofs.from_module.boundary_write_notice.Tie as tie
 
@@ -51,13 +51,11 @@ same-length c = search needs
 
 returns-2 : tie.Need-returns-2
 returns-2 c =
-    let d = c .before .before .before in
-    let n = d .before .before .before .before .before in
-    let k = sym (n .notice-in .ensures) ∙ d .before .before .before .m .given .1 in
-    let e = n .before .before in
-    message-crosses
-    (sym (e .before .before .framing-of .ensures) ∙ e .f .given .1)
-    (ap noticeRefusalIn k) (ap noticeLayoutIn k) (d .write-notice .ensures) (c .written-of .ensures)
+    let w = c .before .before .before in
+    let d = w .before .before .before .before .before in
+    let k = sym (d .notice-in .ensures) ∙ w .before .before .before .m .given .1 in
+    message-crosses (sym (d .before .before .before .before .framing-of .ensures) ∙ d .before .before .f .given .1)
+    (ap noticeRefusalIn k) (ap noticeLayoutIn k) (w .write-notice .ensures) (c .written-of .ensures)
 
 returns-3 : tie.Need-returns-3
 returns-3 c =
@@ -66,10 +64,7 @@ returns-3 c =
     (ap noticeRefusalIn (sym (d .notice-in .ensures) ∙ c .before .enum-told2 .given .1)) refl (c .unwritten2 .ensures)
 
 returns-4 : tie.Need-returns-4
-returns-4 c =
-    let d = c .before .before .before in
-    refused-crosses (sym (d .before .before .before .before .framing-of .ensures) ∙ d .before .before .f .given .1)
-    (ap noticeRefusalIn (sym (d .notice-in .ensures) ∙ c .before .enum-told3 .given .1)) refl (c .unwritten3 .ensures)
+returns-4 c = no-message (ap noticeRefusalIn (sym (c .before .before .before .notice-in .ensures) ∙ c .before .enum-told3 .given .1)) (c .unwritten3 .ensures)
 
 pub boundary-write-notice-spec : {M : Type 1} → statement M
 boundary-write-notice-spec =

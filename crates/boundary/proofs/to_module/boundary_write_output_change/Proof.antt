@@ -3,7 +3,7 @@
 use borrow.Author.Tests.{eq-eqb, ne-eqb}
 use mathlib.Core.Path.{refl, sym, _∙_}
 use borrow.Author.Needs.{needs}
-use Rattle.boundary.proofs.Crossing.{message-crosses, no-framing, refused-crosses}
+use Rattle.boundary.proofs.Crossing.{message-crosses, no-framing, no-message}
 use Rattle.boundary.proofs.to_module.boundary_write_output_change.Statement.{statement}
 use Rattle.boundary.proofs.to_module.boundary_write_output_change.Tie as tie
 
@@ -26,10 +26,7 @@ unwritten-requires-2 : tie.Need-unwritten-requires-2
 unwritten-requires-2 c κs = search needs
 
 returns-2 : tie.Need-returns-2
-returns-2 c =
-    let d = c .before .before .before .before in
-    refused-crosses (sym (d .before .before .framing-of .ensures) ∙ d .f .given .1) (rw (ne-eqb _ _ (c .before .if1 .taken))) refl
-    (c .unwritten2 .ensures)
+returns-2 c = no-message (rw (ne-eqb _ _ (c .before .if1 .taken))) (c .unwritten2 .ensures)
 
 write-output-change-requires : tie.Need-write-output-change-requires
 write-output-change-requires c κs = search needs

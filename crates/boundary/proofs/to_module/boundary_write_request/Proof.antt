@@ -1,10 +1,9 @@
 -- `boundary::to_module::boundary_write_request` meets its contract: the message crate's promise, or the refusal of an unknown framing or kind.
 -- Assumes nothing.
-use mathlib.Core.Path.{refl, sym, ap, _∙_}
+use mathlib.Core.Path.{sym, ap, _∙_}
 use borrow.Author.Needs.{needs}
 use Rattle.boundary.specs.ToModule.{requestRefusalIn, requestLayoutIn}
-use Rattle.boundary.specs.declared.to_module.NamedRequest.{NamedRequest}
-use Rattle.boundary.proofs.Crossing.{message-crosses, no-framing, refused-crosses}
+use Rattle.boundary.proofs.Crossing.{no-framing, no-message, named-crosses}
 use Rattle.boundary.proofs.to_module.boundary_write_request.Tie as tie
 use Rattle.boundary.proofs.to_module.boundary_write_request.Statement.{statement}
 
@@ -36,10 +35,7 @@ unwritten-requires-2 : tie.Need-unwritten-requires-2
 unwritten-requires-2 c κs = search needs
 
 returns-2 : tie.Need-returns-2
-returns-2 c =
-    let d = c .before .before .before in
-    refused-crosses (sym (d .before .before .before .before .framing-of .ensures) ∙ d .before .before .f .given .1)
-    (ap requestRefusalIn (sym (d .request-in .ensures) ∙ c .before .enum-told2 .given .1)) refl (c .unwritten2 .ensures)
+returns-2 c = no-message (ap requestRefusalIn (sym (c .before .before .before .request-in .ensures) ∙ c .before .enum-told2 .given .1)) (c .unwritten2 .ensures)
 
 write-request-requires : tie.Need-write-request-requires
 write-request-requires c κs = search needs
@@ -52,15 +48,10 @@ same-length c = search needs
 
 returns-3 : tie.Need-returns-3
 returns-3 c =
-    let d = c .before .before .before in
-    let m = d .before .before .before .before .before in
-    let k = sym (m .request-in .ensures) ∙ d .before .before .before .q .given .1 in
-    let e = m .before .before in
-    message-crosses
-    (sym (e .before .before .framing-of .ensures) ∙ e .f .given .1)
-    (ap requestRefusalIn k)
-    (ap (λ (x : NamedRequest). requestLayoutIn x (e .before .before .before .before .before .args .«data» .now)) k)
-    (d .write-request .ensures) (c .written-of .ensures)
+    let w = c .before .before .before in
+    let d = w .before .before .before .before .before in
+    named-crosses requestRefusalIn requestLayoutIn _ (sym (d .before .before .before .before .framing-of .ensures) ∙ d .before .before .f .given .1)
+    (d .request-in .ensures) (w .before .before .before .q .given .1) (w .write-request .ensures) (c .written-of .ensures)
 
 pub boundary-write-request-spec : {M : Type 1} → statement M
 boundary-write-request-spec =

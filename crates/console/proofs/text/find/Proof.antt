@@ -1,48 +1,20 @@
--- `console::text::find` meets its contract. The invariant: the place is at most the length. The measure is what is left of the slice.
+-- `console::text::find` meets its contract: a range of the whole slice is the slice.
 -- Assumes nothing.
-use Prim.Native.Nat.{_≤_, _-_}
 use borrow.Author.Needs.{needs}
-use lib.ListN.{length}
+use native.Mathlib.Omega.{arith}
+use native.Mathlib.Nat.{zero-add}
+use mathlib.Core.Path.{_∙_}
+use lib.Seq.{take-length}
+use Rattle.bytes.specs.Bytes.{slice}
 use Rattle.console.proofs.text.find.Statement.{statement}
 use Rattle.console.proofs.text.find.Tie as tie
 
-abbrev Inv-loop : tie.InvT-loop
-Inv-loop s byte at₀ at = at ≤ length s
+find-requires : tie.Need-find-requires
+find-requires c κs = search needs
 
-abbrev μ-loop : tie.MeasureT-loop
-μ-loop s byte at₀ at = length s - at
-
-loop-holds : tie.Need-loop-holds Inv-loop μ-loop
-loop-holds c = search needs
-
-shared-slice-read-if1 : tie.Need-shared-slice-read-if1 Inv-loop μ-loop
-shared-slice-read-if1 c = search needs
-
-returns : tie.Need-returns Inv-loop μ-loop
-returns c = search needs
-
-add-at : tie.Need-add-at Inv-loop μ-loop
-add-at c = search needs
-
-loop-less : tie.Need-loop-less Inv-loop μ-loop
-loop-less c = search needs
-
-loop-again : tie.Need-loop-again Inv-loop μ-loop
-loop-again c = search needs
-
-returns-2 : tie.Need-returns-2 Inv-loop μ-loop
-returns-2 c = search needs
+returns : tie.Need-returns
+unfolding slice
+returns c = (c .find .ensures .0 ∙ rw (take-length, zero-add), omega arith)
 
 pub find-spec : {M : Type 1} → statement M
-find-spec =
-    tie.close
-    (tie.spec
-    Inv-loop
-    μ-loop
-    loop-holds
-    shared-slice-read-if1
-    returns
-    add-at
-    loop-less
-    loop-again
-    returns-2)
+find-spec = tie.close (tie.spec find-requires returns)

@@ -19,7 +19,10 @@ returns : tie.Need-returns
 returns c =
     let a = c .before .before .before .before .args in
     let lines = drop (a .at) (a .text .now) in
-    rw (c .front .ensures, c .before .before .rest .ensures) (omega (arith, length-take (c .before .find .result) lines, length-drop (a .at) (a .text .now)))
+    let found = c .before .find .result in (
+      rw (c .front .ensures, c .before .find .ensures .0, c .before .before .rest .ensures),
+      rw (c .front .ensures, c .before .before .rest .ensures) (omega (arith, length-take found lines, length-drop (a .at) (a .text .now))),
+    )
 
 pub line-at-spec : {M : Type 1} → statement M
 line-at-spec = tie.close (tie.spec rest-requires find-requires front-requires returns)

@@ -1,10 +1,59 @@
 -- `listing::line::put_line` meets its contract: what the payload means says which line it has.
 -- Assumes nothing.
+use Prim.Native.Nat.{_-_}
 use native.Mathlib.Omega.{arith}
+use mathlib.Core.Path.{_≡_}
+use mathlib.Core.List.{_++_}
+use lib.ListN.{length, take, drop}
 use borrow.Author.Needs.{needs}
+use Rattle.message.specs.FromModule.{readFromModule}
+use Rattle.message.specs.Meaning.{carrying, bare}
+use Rattle.message.specs.declared.from_module.Delivery.{Delivery}
+use Rattle.message.specs.declared.from_module.Notice.{Notice}
+use Rattle.listing.specs.Line.{deliveryLine, meaningLine, lineOf}
 use Rattle.listing.proofs.Fits.{line-by, start-inside, delivery-by}
+use Rattle.listing.proofs.Lines.{newline}
 use Rattle.listing.proofs.line.put_line.Statement.{statement}
 use Rattle.listing.proofs.line.put_line.Tie as tie
+
+-- Earlier places of the code, seen from later ones.
+abbrev entry-at-delivery : tie.After-delivery → tie.Start
+entry-at-delivery c = c .before .before .before .before .before
+
+abbrev entry-at-notice : tie.After-notice → tie.Start
+entry-at-notice c = c .before .before .before .before .before
+
+abbrev delivery-at-simple : tie.After-put-simple-arg → tie.After-delivery
+delivery-at-simple c = c .before .before .before .before .before .before
+
+abbrev delivery-at-reception : tie.After-put-reception-arg → tie.After-delivery
+delivery-at-reception c = c .before .before .before .before .before .before
+
+abbrev notice-at-response : tie.After-put-response-arg → tie.After-notice
+notice-at-response c = c .before .before .before .before .before
+
+abbrev notice-at-standard : tie.After-put-standard-arg → tie.After-notice
+notice-at-standard c = c .before .before .before .before .before
+
+abbrev notice-at-remote : tie.After-put-remote-arg → tie.After-notice
+notice-at-remote c = c .before .before .before .before .before
+
+-- A message with data, and its line by its kind.
+delivery-means : (d : tie.After-delivery) →
+    carrying (d .delivery .given .0 .0) (d .delivery .given .0 .1 .0) ≡ readFromModule (entry-at-delivery d .args .payload .now)
+delivery-means d = rw (d .delivery .given .1) at (d .before .before .read-from-module .ensures)
+
+delivery-line : (d : tie.After-delivery) {m : Delivery} → d .delivery .given .0 .0 ≡ m →
+    let p = entry-at-delivery d .args .payload .now in
+    let start = d .delivery .given .0 .1 .0 in
+    deliveryLine m (take (length p - start) (drop start p)) ++ newline ≡ lineOf p
+delivery-line d = delivery-by (entry-at-delivery d .args .payload .now) (delivery-means d)
+
+-- A message without data.
+notice-line : (n : tie.After-notice) {m : Notice} → n .notice .given .0 .0 ≡ m →
+    let p = entry-at-notice n .args .payload .now in
+    meaningLine p (bare m) ++ newline ≡ lineOf p
+notice-line n e = line-by (entry-at-notice n .args .payload .now) (rw e at (rw (n .notice .given .1) at (n .before .before .read-from-module .ensures)))
 
 read-from-module-requires : tie.Need-read-from-module-requires
 read-from-module-requires c κs = search needs
@@ -13,16 +62,10 @@ enum-known-delivery : tie.Need-enum-known-delivery
 enum-known-delivery c = search needs
 
 sub-data : tie.Need-sub-data
-sub-data c =
-    let d = c .before in
-    let s = d .before .before .before .before .before in
-    omega (arith, start-inside (s .args .payload .now) (rw (d .delivery .given .1) at (d .before .before .read-from-module .ensures)))
+sub-data c = omega (arith, start-inside (entry-at-delivery (c .before) .args .payload .now) (delivery-means (c .before)))
 
 part-data-start : tie.Need-part-data-start
-part-data-start c =
-    let d = c .before in
-    let s = d .before .before .before .before .before in
-    omega (arith, start-inside (s .args .payload .now) (rw (d .delivery .given .1) at (d .before .before .read-from-module .ensures)))
+part-data-start c = omega (arith, start-inside (entry-at-delivery (c .before) .args .payload .now) (delivery-means (c .before)))
 
 part-data-end : tie.Need-part-data-end
 part-data-end c = search needs
@@ -31,23 +74,13 @@ enum-known-delivery-2 : tie.Need-enum-known-delivery-2
 enum-known-delivery-2 c = search needs
 
 put-simple-requires : tie.Need-put-simple-requires
-put-simple-requires c κs =
-    let m = c .before .before in
-    let d = m .before .before .before .before in
-    let s = d .before .before .before .before .before in
-    let means = rw (m .delivery2 .given .1) at (rw (d .delivery .given .1) at (d .before .before .read-from-module .ensures)) in
-    rw (delivery-by (s .args .payload .now) _ _ means) (s .pre)
+put-simple-requires c κs = rw (delivery-line (delivery-at-simple c) (c .before .before .delivery2 .given .1)) (entry-at-delivery (delivery-at-simple c) .pre)
 
 enum-known-delivery-3 : tie.Need-enum-known-delivery-3
 enum-known-delivery-3 c = search needs
 
 put-reception-requires : tie.Need-put-reception-requires
-put-reception-requires c κs =
-    let m = c .before .before in
-    let d = m .before .before .before .before in
-    let s = d .before .before .before .before .before in
-    let means = rw (m .delivery3 .given .1) at (rw (d .delivery .given .1) at (d .before .before .read-from-module .ensures)) in
-    rw (delivery-by (s .args .payload .now) _ _ means) (s .pre)
+put-reception-requires c κs = rw (delivery-line (delivery-at-reception c) (c .before .before .delivery3 .given .1)) (entry-at-delivery (delivery-at-reception c) .pre)
 
 enum-known-notice : tie.Need-enum-known-notice
 enum-known-notice c = search needs
@@ -56,34 +89,19 @@ enum-known-notice-2 : tie.Need-enum-known-notice-2
 enum-known-notice-2 c = search needs
 
 put-response-requires : tie.Need-put-response-requires
-put-response-requires c κs =
-    let m = c .before .before in
-    let n = m .before .before .before in
-    let s = n .before .before .before .before .before in
-    let means = rw (m .notice2 .given .1) at (rw (n .notice .given .1) at (n .before .before .read-from-module .ensures)) in
-    rw (line-by (s .args .payload .now) means) (s .pre)
+put-response-requires c κs = rw (notice-line (notice-at-response c) (c .before .before .notice2 .given .1)) (entry-at-notice (notice-at-response c) .pre)
 
 enum-known-notice-3 : tie.Need-enum-known-notice-3
 enum-known-notice-3 c = search needs
 
 put-standard-requires : tie.Need-put-standard-requires
-put-standard-requires c κs =
-    let m = c .before .before in
-    let n = m .before .before .before in
-    let s = n .before .before .before .before .before in
-    let means = rw (m .notice3 .given .1) at (rw (n .notice .given .1) at (n .before .before .read-from-module .ensures)) in
-    rw (line-by (s .args .payload .now) means) (s .pre)
+put-standard-requires c κs = rw (notice-line (notice-at-standard c) (c .before .before .notice3 .given .1)) (entry-at-notice (notice-at-standard c) .pre)
 
 enum-known-notice-4 : tie.Need-enum-known-notice-4
 enum-known-notice-4 c = search needs
 
 put-remote-requires : tie.Need-put-remote-requires
-put-remote-requires c κs =
-    let m = c .before .before in
-    let n = m .before .before .before in
-    let s = n .before .before .before .before .before in
-    let means = rw (m .notice4 .given .1) at (rw (n .notice .given .1) at (n .before .before .read-from-module .ensures)) in
-    rw (line-by (s .args .payload .now) means) (s .pre)
+put-remote-requires c κs = rw (notice-line (notice-at-remote c) (c .before .before .notice4 .given .1)) (entry-at-notice (notice-at-remote c) .pre)
 
 enum-known-refusal : tie.Need-enum-known-refusal
 enum-known-refusal c = search needs
@@ -100,60 +118,40 @@ same-length c = search needs
 
 returns : tie.Need-returns
 returns c =
-    let k = c .before .before in
-    let m = k .before .before .before in
-    let d = m .before .before .before .before in
-    let s = d .before .before .before .before .before in
-    let means = rw (m .delivery2 .given .1) at (rw (d .delivery .given .1) at (d .before .before .read-from-module .ensures)) in
-    rw (← delivery-by (s .args .payload .now) _ _ means) (k .put-simple .ensures)
+    let a = c .before .before .before in
+    rw (← delivery-line (delivery-at-simple a) (a .before .before .delivery2 .given .1)) (c .before .before .put-simple .ensures)
 
 same-length-2 : tie.Need-same-length-2
 same-length-2 c = search needs
 
 returns-2 : tie.Need-returns-2
 returns-2 c =
-    let k = c .before .before in
-    let m = k .before .before .before in
-    let d = m .before .before .before .before in
-    let s = d .before .before .before .before .before in
-    let means = rw (m .delivery3 .given .1) at (rw (d .delivery .given .1) at (d .before .before .read-from-module .ensures)) in
-    rw (← delivery-by (s .args .payload .now) _ _ means) (k .put-reception .ensures)
+    let a = c .before .before .before in
+    rw (← delivery-line (delivery-at-reception a) (a .before .before .delivery3 .given .1)) (c .before .before .put-reception .ensures)
 
 same-length-3 : tie.Need-same-length-3
 same-length-3 c = search needs
 
 returns-3 : tie.Need-returns-3
 returns-3 c =
-    let k = c .before .before in
-    let m = k .before .before .before in
-    let n = m .before .before .before in
-    let s = n .before .before .before .before .before in
-    let means = rw (m .notice2 .given .1) at (rw (n .notice .given .1) at (n .before .before .read-from-module .ensures)) in
-    rw (← line-by (s .args .payload .now) means) (k .put-response .ensures)
+    let a = c .before .before .before in
+    rw (← notice-line (notice-at-response a) (a .before .before .notice2 .given .1)) (c .before .before .put-response .ensures)
 
 same-length-4 : tie.Need-same-length-4
 same-length-4 c = search needs
 
 returns-4 : tie.Need-returns-4
 returns-4 c =
-    let k = c .before .before in
-    let m = k .before .before .before in
-    let n = m .before .before .before in
-    let s = n .before .before .before .before .before in
-    let means = rw (m .notice3 .given .1) at (rw (n .notice .given .1) at (n .before .before .read-from-module .ensures)) in
-    rw (← line-by (s .args .payload .now) means) (k .put-standard .ensures)
+    let a = c .before .before .before in
+    rw (← notice-line (notice-at-standard a) (a .before .before .notice3 .given .1)) (c .before .before .put-standard .ensures)
 
 same-length-5 : tie.Need-same-length-5
 same-length-5 c = search needs
 
 returns-5 : tie.Need-returns-5
 returns-5 c =
-    let k = c .before .before in
-    let m = k .before .before .before in
-    let n = m .before .before .before in
-    let s = n .before .before .before .before .before in
-    let means = rw (m .notice4 .given .1) at (rw (n .notice .given .1) at (n .before .before .read-from-module .ensures)) in
-    rw (← line-by (s .args .payload .now) means) (k .put-remote .ensures)
+    let a = c .before .before .before in
+    rw (← notice-line (notice-at-remote a) (a .before .before .notice4 .given .1)) (c .before .before .put-remote .ensures)
 
 same-length-6 : tie.Need-same-length-6
 same-length-6 c = search needs

@@ -1,7 +1,7 @@
 -- `listing::line::put_reception` meets its contract: the word and the fields, then the data.
 -- Assumes nothing.
 use borrow.Author.Needs.{needs}
-use Rattle.listing.proofs.Texts.{partly-put, partly-put-room, partly-put-part, partly-put-next, partly-put-last}
+use Rattle.listing.proofs.Texts.{first-room, second-room, both-put}
 use Rattle.listing.proofs.Lines.{receptionRow, reception-parts}
 use Rattle.listing.proofs.line.put_reception.Statement.{statement}
 use Rattle.listing.proofs.line.put_reception.Tie as tie
@@ -41,25 +41,18 @@ slice-aggregate-put-row-2 : tie.Need-slice-aggregate-put-row-2
 slice-aggregate-put-row-2 c = search needs
 
 put-row-requires : tie.Need-put-row-requires
-put-row-requires c κs =
-    let s = entry c in
-    partly-put-part (receptionRow (s .args .message)) _ (s .pre) (partly-put (s .args .out .now) (s .args .at) (reception-parts (s .args .message) (s .args .«data» .now)))
+put-row-requires c κs = first-room (entry c .args .out .now) _ (receptionRow (entry c .args .message)) _ (reception-parts _ _) (entry c .pre)
 
 put-data-requires : tie.Need-put-data-requires
-put-data-requires c κs =
-    let r = c .before .before .before in
-    let s = entry (r .before) in
-    partly-put-room (s .pre) (partly-put-next (s .pre) (partly-put (s .args .out .now) (s .args .at) (reception-parts (s .args .message) (s .args .«data» .now))) (r .put-row .ensures))
+put-data-requires c κs = let r = c .before .before .before in second-room _ (reception-parts _ _) (entry (r .before) .pre) (r .put-row .ensures)
 
 same-length : tie.Need-same-length
 same-length c = search needs
 
 returns : tie.Need-returns
 returns c =
-    let d = c .before .before in
-    let r = d .before .before .before .before in
-    let s = entry (r .before) in
-    partly-put-last (s .pre) (partly-put-next (s .pre) (partly-put (s .args .out .now) (s .args .at) (reception-parts (s .args .message) (s .args .«data» .now))) (r .put-row .ensures)) (d .put-data .ensures)
+    let r = c .before .before .before .before .before .before in
+    both-put (reception-parts _ _) (entry (r .before) .pre) (r .put-row .ensures) (c .before .before .put-data .ensures)
 
 pub put-reception-spec : {M : Type 1} → statement M
 put-reception-spec =

@@ -2,8 +2,7 @@
 -- Assumes nothing.
 use borrow.Author.Needs.{needs}
 use Rattle.message.specs.Text.{text}
-use Rattle.message.specs.Refusal.{numberOf}
-use Rattle.listing.proofs.Texts.{partly-put, partly-put-room, partly-put-part, partly-put-next, partly-put-last}
+use Rattle.listing.proofs.Texts.{first-room, second-room, both-put}
 use Rattle.listing.proofs.Lines.{refusal-parts}
 use Rattle.listing.proofs.line.put_refusal.Statement.{statement}
 use Rattle.listing.proofs.line.put_refusal.Tie as tie
@@ -17,7 +16,7 @@ slice-aggregate-put-text c = search needs
 put-text-requires : tie.Need-put-text-requires
 put-text-requires c κs =
     let s = c .before .before .before .before in
-    partly-put-part (text "refused ") _ (s .pre) (partly-put (s .args .out .now) (s .args .at) (refusal-parts (numberOf (s .args .refusal))))
+    first-room (s .args .out .now) _ (text "refused ") _ (refusal-parts _) (s .pre)
 
 cast-put-decimal : tie.Need-cast-put-decimal
 cast-put-decimal c = search needs
@@ -27,8 +26,7 @@ put-decimal-requires c κs =
     let t = c .before .before .before in
     let n = t .before .before .before in
     let s = n .before .before in
-    let g = partly-put-next (s .pre) (partly-put (s .args .out .now) (s .args .at) (refusal-parts (numberOf (s .args .refusal)))) (t .put-text .ensures) in
-    rw (n .number .ensures) (partly-put-room (s .pre) g)
+    rw (n .number .ensures) (second-room _ (refusal-parts _) (s .pre) (t .put-text .ensures))
 
 same-length : tie.Need-same-length
 same-length c = search needs
@@ -39,8 +37,7 @@ returns c =
     let t = d .before .before .before .before in
     let n = t .before .before .before in
     let s = n .before .before in
-    let g = partly-put-next (s .pre) (partly-put (s .args .out .now) (s .args .at) (refusal-parts (numberOf (s .args .refusal)))) (t .put-text .ensures) in
-    partly-put-last (s .pre) g (rw (n .number .ensures) at (d .put-decimal .ensures))
+    both-put (refusal-parts _) (s .pre) (t .put-text .ensures) (rw (n .number .ensures) at (d .put-decimal .ensures))
 
 pub put-refusal-spec : {M : Type 1} → statement M
 put-refusal-spec =

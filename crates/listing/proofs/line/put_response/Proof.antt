@@ -2,7 +2,7 @@
 -- Assumes nothing.
 use mathlib.Core.Path.{refl}
 use borrow.Author.Needs.{needs}
-use Rattle.listing.proofs.Texts.{partly-put, partly-put-room, partly-put-part, partly-put-next, partly-put-last}
+use Rattle.listing.proofs.Texts.{first-room, second-room, both-put}
 use Rattle.listing.proofs.Lines.{responseRow, response-parts}
 use Rattle.listing.proofs.line.put_response.Statement.{statement}
 use Rattle.listing.proofs.line.put_response.Tie as tie
@@ -16,7 +16,7 @@ slice-aggregate-put-row-2 c = search needs
 put-row-requires : tie.Need-put-row-requires
 put-row-requires c κs =
     let s = c .before .before .before .before in
-    partly-put-part (responseRow (s .args .response)) _ (s .pre) (partly-put (s .args .out .now) (s .args .at) (response-parts (s .args .response) refl))
+    first-room (s .args .out .now) _ (responseRow (s .args .response)) _ (response-parts (s .args .response) refl) (s .pre)
 
 enum-told : tie.Need-enum-told
 enum-told c = search needs
@@ -29,7 +29,7 @@ put-text-requires c κs =
     let o = c .before .before in
     let r = o .before .before .before .before in
     let s = r .before .before .before .before .before in
-    partly-put-room (s .pre) (partly-put-next (s .pre) (partly-put (s .args .out .now) (s .args .at) (response-parts (s .args .response) (o .enum-told .given .1))) (r .put-row .ensures))
+    second-room _ (response-parts (s .args .response) (o .enum-told .given .1)) (s .pre) (r .put-row .ensures)
 
 enum-told-2 : tie.Need-enum-told-2
 enum-told-2 c = search needs
@@ -42,7 +42,7 @@ put-text-requires-2 c κs =
     let o = c .before .before in
     let r = o .before .before .before .before in
     let s = r .before .before .before .before .before in
-    partly-put-room (s .pre) (partly-put-next (s .pre) (partly-put (s .args .out .now) (s .args .at) (response-parts (s .args .response) (o .enum-told2 .given .1))) (r .put-row .ensures))
+    second-room _ (response-parts (s .args .response) (o .enum-told2 .given .1)) (s .pre) (r .put-row .ensures)
 
 same-length : tie.Need-same-length
 same-length c = search needs
@@ -53,8 +53,7 @@ returns c =
     let o = t .before .before .before in
     let r = o .before .before .before .before in
     let s = r .before .before .before .before .before in
-    let parts = response-parts (s .args .response) (o .enum-told .given .1) in
-    partly-put-last (s .pre) (partly-put-next (s .pre) (partly-put (s .args .out .now) (s .args .at) parts) (r .put-row .ensures)) (t .put-text .ensures)
+    both-put (response-parts (s .args .response) (o .enum-told .given .1)) (s .pre) (r .put-row .ensures) (t .put-text .ensures)
 
 same-length-2 : tie.Need-same-length-2
 same-length-2 c = search needs
@@ -65,8 +64,7 @@ returns-2 c =
     let o = t .before .before .before in
     let r = o .before .before .before .before in
     let s = r .before .before .before .before .before in
-    let parts = response-parts (s .args .response) (o .enum-told2 .given .1) in
-    partly-put-last (s .pre) (partly-put-next (s .pre) (partly-put (s .args .out .now) (s .args .at) parts) (r .put-row .ensures)) (t .put-text2 .ensures)
+    both-put (response-parts (s .args .response) (o .enum-told2 .given .1)) (s .pre) (r .put-row .ensures) (t .put-text2 .ensures)
 
 pub put-response-spec : {M : Type 1} → statement M
 put-response-spec =

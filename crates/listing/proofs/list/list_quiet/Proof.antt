@@ -35,38 +35,23 @@ abbrev μ-loop : tie.MeasureT-loop
 abbrev loop-at-quiet : tie.After-quiet Inv-loop μ-loop → tie.At-loop Inv-loop μ-loop
 loop-at-quiet c = c .before .before
 
-abbrev quiet-at-buf2 : tie.After-buf2 Inv-loop μ-loop → tie.After-quiet Inv-loop μ-loop
-quiet-at-buf2 c = c .before
+abbrev entry-at-quiet : tie.After-quiet Inv-loop μ-loop → tie.Start Inv-loop μ-loop
+entry-at-quiet c = c .before .before .before .before .before .before .before
 
 abbrev quiet-at-buf3 : tie.After-buf3 Inv-loop μ-loop → tie.After-quiet Inv-loop μ-loop
-quiet-at-buf3 c = quiet-at-buf2 (c .before .before .before .before .before)
+quiet-at-buf3 c = c .before .before .before .before .before .before
 
 abbrev quiet-at-lines : tie.After-lines Inv-loop μ-loop → tie.After-quiet Inv-loop μ-loop
-quiet-at-lines c = quiet-at-buf2 (c .before .before .before .before .before)
+quiet-at-lines c = c .before .before .before .before .before .before
 
 abbrev quiet-at-refused3 : tie.After-refused3 Inv-loop μ-loop → tie.After-quiet Inv-loop μ-loop
-quiet-at-refused3 c = quiet-at-buf2 (c .before .before .before .before .before)
-
-abbrev entry-at-is-sound : tie.After-is-sound Inv-loop μ-loop → tie.Start Inv-loop μ-loop
-entry-at-is-sound c = c .before .before
-
-abbrev entry-at-quiet : tie.After-quiet Inv-loop μ-loop → tie.Start Inv-loop μ-loop
-entry-at-quiet c = entry-at-is-sound (c .before .before .before .before .before)
-
-abbrev quiet-at-put-line-arg : tie.After-put-line-arg Inv-loop μ-loop → tie.After-quiet Inv-loop μ-loop
-quiet-at-put-line-arg c = quiet-at-buf3 (c .before)
-
-abbrev answer-at-buf3 : tie.After-buf3 Inv-loop μ-loop → tie.After-answer Inv-loop μ-loop
-answer-at-buf3 c = c .before .before
-
-abbrev answer-at-slice-known2 : tie.After-slice-known2 Inv-loop μ-loop → tie.After-answer Inv-loop μ-loop
-answer-at-slice-known2 c = answer-at-buf3 (c .before .before .before .before .before)
-
-abbrev quiet-at-put-line-arg2 : tie.After-put-line-arg2 Inv-loop μ-loop → tie.After-quiet Inv-loop μ-loop
-quiet-at-put-line-arg2 c = quiet-at-buf3 (c .before .before)
+quiet-at-refused3 c = c .before .before .before .before .before .before
 
 abbrev quiet-at-slice-known2 : tie.After-slice-known2 Inv-loop μ-loop → tie.After-quiet Inv-loop μ-loop
 quiet-at-slice-known2 c = quiet-at-buf3 (c .before .before .before .before .before)
+
+abbrev answer-at-slice-known2 : tie.After-slice-known2 Inv-loop μ-loop → tie.After-answer Inv-loop μ-loop
+answer-at-slice-known2 c = c .before .before .before .before .before .before .before
 
 -- The state is sound.
 yes : (c : tie.Else1 Inv-loop μ-loop) → sound (c .before .before .before .args .reader) ≡ true
@@ -159,11 +144,13 @@ slice-aggregate-whole c = sym (still (quiet-at-buf3 c))
 
 slice-aggregate-put-line : tie.Need-slice-aggregate-put-line Inv-loop μ-loop
 slice-aggregate-put-line c =
-    front _ _ (says-inside _ (says (quiet-at-put-line-arg c)) (free (quiet-at-put-line-arg c)) (ap quietValuesOf (c .before .before .before .answer .given .1)))
+    let q = quiet-at-buf3 (c .before) in
+    front _ _ (says-inside _ (says q) (free q) (ap quietValuesOf (c .before .before .before .answer .given .1)))
 
 put-line-requires : tie.Need-put-line-requires Inv-loop μ-loop
 put-line-requires c κs =
-    progress-room (loop-at-quiet (quiet-at-put-line-arg2 c) .loop .inv .3) (room (quiet-at-put-line-arg2 c) .0) _ _ _ (frame-left (quiet-at-put-line-arg2 c) (ap quietValuesOf (c .before .before .before .before .answer .given .1)))
+    let q = quiet-at-buf3 (c .before .before) in
+    progress-room (loop-at-quiet q .loop .inv .3) (room q .0) _ _ _ (frame-left q (ap quietValuesOf (c .before .before .before .before .answer .given .1)))
 
 add-total : tie.Need-add-total Inv-loop μ-loop
 add-total c =

@@ -6,7 +6,7 @@ use borrow.Author.Needs.{needs}
 use borrow.Author.Tests.{le-leb, lt-leb}
 use lib.ListN.{length, length-append}
 use Rattle.listing.specs.Line.{noiseLine}
-use Rattle.listing.proofs.Texts.{partly-put, partly-put-next, partly-put-last}
+use Rattle.listing.proofs.Texts.{both-put}
 use Rattle.listing.proofs.Lines.{decimal-few, noise-parts, noise-room}
 use Rattle.listing.proofs.Chunks.{puts-front}
 use Rattle.listing.proofs.list.list_total.Statement.{statement}
@@ -43,8 +43,7 @@ returns-2 c =
     let o = s .args .out .now in
     let long = le-leb 27 (length o) (i .if1 .left) in
     let room = noise-room (s .args .noise) o (i .if1 .left) in
-    let g = partly-put-next room (partly-put o 0 (noise-parts (s .args .noise))) (t .put-text .ensures) in
-    let front = puts-front o (noiseLine (s .args .noise)) _ _ (partly-put-last room g (d .put-decimal .ensures)) in
+    let front = puts-front o (noiseLine (s .args .noise)) _ _ (both-put (noise-parts _) room (t .put-text .ensures) (d .put-decimal .ensures)) in
     record {
       answers = rw long (λ i. record { number = 0; len = front .0 i });
       leaves = rw long (front .1);

@@ -32,38 +32,23 @@ loop-at-feed c = c .before .before
 abbrev entry-at-feed : tie.After-feed Inv-loop μ-loop → tie.Start Inv-loop μ-loop
 entry-at-feed c = c .before .before .before .before .before
 
-abbrev feed-at-buf2 : tie.After-buf2 Inv-loop μ-loop → tie.After-feed Inv-loop μ-loop
-feed-at-buf2 c = c .before
-
 abbrev feed-at-buf3 : tie.After-buf3 Inv-loop μ-loop → tie.After-feed Inv-loop μ-loop
-feed-at-buf3 c = feed-at-buf2 (c .before .before .before .before .before)
+feed-at-buf3 c = c .before .before .before .before .before .before
 
-abbrev feed-at-reader : tie.After-reader Inv-loop μ-loop → tie.After-feed Inv-loop μ-loop
-feed-at-reader c = feed-at-buf2 (c .before .before .before .before .before)
-
-abbrev feed-at-put-line-arg : tie.After-put-line-arg Inv-loop μ-loop → tie.After-feed Inv-loop μ-loop
-feed-at-put-line-arg c = feed-at-buf3 (c .before)
-
-abbrev answer-at-buf3 : tie.After-buf3 Inv-loop μ-loop → tie.After-answer Inv-loop μ-loop
-answer-at-buf3 c = c .before .before
+abbrev feed-at-slice-known2 : tie.After-slice-known2 Inv-loop μ-loop → tie.After-feed Inv-loop μ-loop
+feed-at-slice-known2 c = feed-at-buf3 (c .before .before .before .before .before)
 
 abbrev answer-at-slice-known2 : tie.After-slice-known2 Inv-loop μ-loop → tie.After-answer Inv-loop μ-loop
-answer-at-slice-known2 c = answer-at-buf3 (c .before .before .before .before .before)
+answer-at-slice-known2 c = c .before .before .before .before .before .before .before
+
+abbrev feed-at-reader : tie.After-reader Inv-loop μ-loop → tie.After-feed Inv-loop μ-loop
+feed-at-reader c = c .before .before .before .before .before .before
 
 abbrev feed-at-lines : tie.After-lines Inv-loop μ-loop → tie.After-feed Inv-loop μ-loop
 feed-at-lines c = feed-at-reader (c .before)
 
-abbrev feed-at-view : tie.After-view Inv-loop μ-loop → tie.After-feed Inv-loop μ-loop
-feed-at-view c = c .before .before
-
 abbrev feed-at-refused : tie.After-refused Inv-loop μ-loop → tie.After-feed Inv-loop μ-loop
-feed-at-refused c = feed-at-view (c .before .before .before .before .before)
-
-abbrev feed-at-put-line-arg2 : tie.After-put-line-arg2 Inv-loop μ-loop → tie.After-feed Inv-loop μ-loop
-feed-at-put-line-arg2 c = feed-at-buf3 (c .before .before)
-
-abbrev feed-at-slice-known2 : tie.After-slice-known2 Inv-loop μ-loop → tie.After-feed Inv-loop μ-loop
-feed-at-slice-known2 c = feed-at-buf3 (c .before .before .before .before .before)
+feed-at-refused c = c .before .before .before .before .before .before .before
 
 -- What the answer of a call says, that it is not refused, and that the buffer keeps its length.
 says : (f : tie.After-feed Inv-loop μ-loop) →
@@ -100,15 +85,18 @@ slice-aggregate-whole c = sym (still (feed-at-buf3 c))
 
 slice-aggregate-put-line : tie.Need-slice-aggregate-put-line Inv-loop μ-loop
 slice-aggregate-put-line c =
-    front _ _ (says-inside _ (says (feed-at-put-line-arg c)) (free (feed-at-put-line-arg c)) (ap feedValuesOf (c .before .before .before .answer .given .1)))
+    let f = feed-at-buf3 (c .before) in
+    front _ _ (says-inside _ (says f) (free f) (ap feedValuesOf (c .before .before .before .answer .given .1)))
 
 put-line-requires : tie.Need-put-line-requires Inv-loop μ-loop
 put-line-requires c κs =
-    frame-room (loop-at-feed (feed-at-put-line-arg2 c) .loop .inv .3) (fits (feed-at-put-line-arg2 c)) _ _ (says-frame _ (says (feed-at-put-line-arg2 c)) (free (feed-at-put-line-arg2 c)) (ap feedValuesOf (c .before .before .before .before .answer .given .1)))
+    let f = feed-at-buf3 (c .before .before) in
+    frame-room (loop-at-feed f .loop .inv .3) (fits f) _ _ (says-frame _ (says f) (free f) (ap feedValuesOf (c .before .before .before .before .answer .given .1)))
 
 add-total : tie.Need-add-total Inv-loop μ-loop
 add-total c =
-    omega (arith, frame-noise (loop-at-feed (feed-at-slice-known2 c) .loop .inv .3) (fits (feed-at-slice-known2 c)) _ _ (says-frame _ (says (feed-at-slice-known2 c)) (free (feed-at-slice-known2 c)) (ap feedValuesOf (answer-at-slice-known2 c .answer .given .1))))
+    let f = feed-at-slice-known2 c in
+    omega (arith, frame-noise (loop-at-feed f .loop .inv .3) (fits f) _ _ (says-frame _ (says f) (free f) (ap feedValuesOf (answer-at-slice-known2 c .answer .given .1))))
 
 loop-less : tie.Need-loop-less Inv-loop μ-loop
 loop-less c =

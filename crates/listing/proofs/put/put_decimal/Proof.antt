@@ -4,8 +4,8 @@ use native.Mathlib.Omega.{arith}
 use borrow.Author.Needs.{needs}
 use mathlib.Core.Path.{refl, ap, _∙_}
 use lib.ListN.{length, length-append}
-use Rattle.listing.proofs.Texts.{partly-put, partly-put-room, partly-put-next, partly-put-last}
-use Rattle.listing.proofs.Lines.{decimal-is}
+use Rattle.listing.proofs.Texts.{second-room, both-put}
+use Rattle.listing.proofs.Lines.{newline, decimal-is}
 use Rattle.listing.proofs.put.put_decimal.Statement.{statement}
 use Rattle.listing.proofs.put.put_decimal.Tie as tie
 
@@ -35,7 +35,7 @@ put-text-requires-2 c κs =
     let s = m .before .before .before in
     let d = m .decimal in
     let is = d .ensures .1 .1 ∙ decimal-is (d .result) (s .args .n) (d .ensures .1 .0) (omega arith) in
-    partly-put-room (s .pre) (partly-put-next (s .pre) (partly-put (s .args .out .now) (s .args .at) refl) (rw is at (t .put-text .ensures)))
+    second-room newline refl (s .pre) (rw is at (t .put-text .ensures))
 
 same-length : tie.Need-same-length
 same-length c = search needs
@@ -48,8 +48,7 @@ returns c =
     let s = m .before .before .before in
     let d = m .decimal in
     let is = d .ensures .1 .1 ∙ decimal-is (d .result) (s .args .n) (d .ensures .1 .0) (omega arith) in
-    let g = partly-put-next (s .pre) (partly-put (s .args .out .now) (s .args .at) refl) (rw is at (t .put-text .ensures)) in
-    partly-put-last (s .pre) g (e .put-text2 .ensures)
+    both-put refl (s .pre) (rw is at (t .put-text .ensures)) (e .put-text2 .ensures)
 
 pub put-decimal-spec : {M : Type 1} → statement M
 put-decimal-spec =

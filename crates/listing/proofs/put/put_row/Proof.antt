@@ -4,7 +4,8 @@ use native.Mathlib.Omega.{arith}
 use mathlib.Core.Path.{refl}
 use borrow.Author.Needs.{needs}
 use lib.ListN.{length-append}
-use Rattle.listing.proofs.Texts.{partly-put, partly-put-room, partly-put-next, partly-put-last}
+use Rattle.listing.proofs.Texts.{second-room, both-put}
+use Rattle.listing.specs.Parts.{fields}
 use Rattle.listing.proofs.put.put_row.Statement.{statement}
 use Rattle.listing.proofs.put.put_row.Tie as tie
 
@@ -17,7 +18,7 @@ put-fields-requires : tie.Need-put-fields-requires
 put-fields-requires c κs =
     let p = c .before .before .before in
     let s = p .before .before .before .before .before in
-    partly-put-room (s .pre) (partly-put-next (s .pre) (partly-put (s .args .out .now) (s .args .at) refl) (p .put-text .ensures))
+    second-room (fields (s .args .starts) (s .args .bytes .now)) refl (s .pre) (p .put-text .ensures)
 
 same-length : tie.Need-same-length
 same-length c = search needs
@@ -27,8 +28,7 @@ returns c =
     let f = c .before .before in
     let p = f .before .before .before .before in
     let s = p .before .before .before .before .before in
-    let g = partly-put-next (s .pre) (partly-put (s .args .out .now) (s .args .at) refl) (p .put-text .ensures) in
-    partly-put-last (s .pre) g (f .put-fields .ensures)
+    both-put refl (s .pre) (p .put-text .ensures) (f .put-fields .ensures)
 
 pub put-row-spec : {M : Type 1} → statement M
 put-row-spec = tie.close (tie.spec put-text-requires put-fields-requires same-length returns)

@@ -4,7 +4,7 @@ use mathlib.Core.Path.{refl}
 use mathlib.Core.List.{_++_}
 use borrow.Author.Needs.{needs}
 use Rattle.listing.specs.Parts.{fields}
-use Rattle.listing.proofs.Texts.{partly-put, partly-put-room, partly-put-part, partly-put-next, partly-put-last}
+use Rattle.listing.proofs.Texts.{first-room, second-room, both-put}
 use Rattle.listing.proofs.Lines.{newline}
 use Rattle.listing.proofs.put.put_row_line.Statement.{statement}
 use Rattle.listing.proofs.put.put_row_line.Tie as tie
@@ -16,8 +16,7 @@ entry c = c .before .before .before .before
 put-row-requires : tie.Need-put-row-requires
 put-row-requires c κs =
     let s = entry c in
-    let row = s .args .word .now ++ fields (s .args .starts) (s .args .bytes .now) in
-    partly-put-part row newline (s .pre) (partly-put (s .args .out .now) (s .args .at) refl)
+    first-room (s .args .out .now) _ (s .args .word .now ++ fields (s .args .starts) (s .args .bytes .now)) newline refl (s .pre)
 
 slice-aggregate-put-text : tie.Need-slice-aggregate-put-text
 slice-aggregate-put-text c = search needs
@@ -25,8 +24,7 @@ slice-aggregate-put-text c = search needs
 put-text-requires : tie.Need-put-text-requires
 put-text-requires c κs =
     let r = c .before .before .before .before in
-    let s = entry (r .before) in
-    partly-put-room (s .pre) (partly-put-next (s .pre) (partly-put (s .args .out .now) (s .args .at) refl) (r .put-row .ensures))
+    second-room newline refl (entry (r .before) .pre) (r .put-row .ensures)
 
 same-length : tie.Need-same-length
 same-length c = search needs
@@ -35,9 +33,7 @@ returns : tie.Need-returns
 returns c =
     let t = c .before .before in
     let r = t .before .before .before .before .before in
-    let s = entry (r .before) in
-    let g = partly-put-next (s .pre) (partly-put (s .args .out .now) (s .args .at) refl) (r .put-row .ensures) in
-    partly-put-last (s .pre) g (t .put-text .ensures)
+    both-put refl (entry (r .before) .pre) (r .put-row .ensures) (t .put-text .ensures)
 
 pub put-row-line-spec : {M : Type 1} → statement M
 put-row-line-spec = tie.close (tie.spec put-row-requires slice-aggregate-put-text put-text-requires same-length returns)
