@@ -73,6 +73,30 @@ fn status(rng: &mut Rng) -> Vec<u8> {
     if rng.one_in(2) { standard(rng) } else { remote(rng) }
 }
 
+/// What a module says of itself when it is set up: its information, its settings in any order, that it failed, now and then a list that is none.
+fn setup(rng: &mut Rng) -> Vec<u8> {
+    let widths = [(0x00, 4), (0x01, 4), (0x02, 2), (0x03, 1), (0x04, 1), (0x05, 1), (0x06, 1), (0x07, 4), (0x08, 1), (0x09, 1), (0x0A, 16), (0x0C, 2), (0xFF, 1)];
+    match rng.below(8) {
+        0 => [&[0xDB, 0xF1][..], &rng.bytes(15)].concat(),
+        1 => vec![0xDB, 0xF0, rng.below(2) as u8],
+        2 => vec![0xDB, 0xF8, 0x11, rng.below(3) as u8],
+        3 => vec![0xDB, 0xF3, 0xFF],
+        _ => {
+            let mut payload = vec![0xDB, 0xF3];
+            let first = rng.below(widths.len());
+            for i in 0..1 + rng.below(widths.len()) {
+                let (id, width) = widths[(first + i * 5) % widths.len()];
+                payload.push(id);
+                payload.extend(rng.bytes(width));
+            }
+            if rng.one_in(8) {
+                payload.pop();
+            }
+            payload
+        }
+    }
+}
+
 /// A payload of 256 bytes, the longest.
 fn longest(rng: &mut Rng) -> Vec<u8> {
     if rng.one_in(2) { simple(rng, 254) } else { extended(rng, 242) }
@@ -187,6 +211,10 @@ fn badsums(rng: &mut Rng, framing: Framing) -> Vec<u8> {
     line
 }
 
+fn setups(rng: &mut Rng, framing: Framing) -> Vec<u8> {
+    frame(framing, &setup(rng))
+}
+
 /// A frame that is cut short three times out of four, so that the next one follows in its midst.
 fn truncated(rng: &mut Rng, framing: Framing) -> Vec<u8> {
     let mut next = frame(framing, &message(rng));
@@ -228,17 +256,18 @@ fn random(rng: &mut Rng, _: Framing) -> Vec<u8> {
     rng.bytes(4096)
 }
 
-fn sources(framing: Framing) -> [(&'static str, Source); 6] {
+fn sources(framing: Framing) -> Vec<(&'static str, Source)> {
     match framing {
-        Ascii => [
+        Ascii => vec![
             ("mixed", mixed),
             ("status", statuses),
             ("long", long),
             ("badsums", badsums),
             ("truncated", truncated),
             ("colons", colons),
+            ("setup", setups),
         ],
-        Binary => [
+        Binary => vec![
             ("mixed", mixed),
             ("long", long),
             ("overlap", overlap),

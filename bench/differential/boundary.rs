@@ -97,6 +97,17 @@ pub struct Status {
 
 #[repr(C)]
 #[derive(Clone, Copy, Debug, Default, PartialEq)]
+pub struct Information {
+    pub application: u32,
+    pub version: u32,
+    pub device: u8,
+    pub serial: u32,
+    pub silent: u8,
+    pub network: u8,
+}
+
+#[repr(C)]
+#[derive(Clone, Copy, Debug, Default, PartialEq)]
 pub struct FromModule {
     pub kind: u8,
     pub refusal: u8,
@@ -108,7 +119,18 @@ pub struct FromModule {
     pub source: u32,
     pub destination: u32,
     pub status: Status,
+    pub information: Information,
     pub start: usize,
+}
+
+#[repr(C)]
+#[derive(Clone, Copy, Debug, Default, PartialEq)]
+pub struct Setting {
+    pub refusal: u8,
+    pub is_found: u8,
+    pub identifier: u8,
+    pub start: usize,
+    pub len: usize,
 }
 
 mod raw {
@@ -123,8 +145,10 @@ mod raw {
         pub fn boundary_read_from_module(p: *const u8, n: usize) -> FromModule;
         pub fn boundary_write_request(framing: u8, m: ToModule, data: *const u8, n: usize, buf: *mut u8, room: usize) -> Writing;
         pub fn boundary_write_output_change(framing: u8, m: ToModule, buf: *mut u8, room: usize) -> Writing;
+        pub fn boundary_write_setup(framing: u8, m: ToModule, buf: *mut u8, room: usize) -> Writing;
         pub fn boundary_write_delivery(framing: u8, m: FromModule, data: *const u8, n: usize, buf: *mut u8, room: usize) -> Writing;
         pub fn boundary_write_notice(framing: u8, m: FromModule, buf: *mut u8, room: usize) -> Writing;
+        pub fn boundary_setting_at(list: *const u8, n: usize, index: usize) -> Setting;
     }
 }
 
@@ -166,10 +190,18 @@ pub fn write_output_change(framing: u8, m: ToModule, buf: &mut [u8]) -> Writing 
     unsafe { raw::boundary_write_output_change(framing, m, buf.as_mut_ptr(), buf.len()) }
 }
 
+pub fn write_setup(framing: u8, m: ToModule, buf: &mut [u8]) -> Writing {
+    unsafe { raw::boundary_write_setup(framing, m, buf.as_mut_ptr(), buf.len()) }
+}
+
 pub fn write_delivery(framing: u8, m: FromModule, data: &[u8], buf: &mut [u8]) -> Writing {
     unsafe { raw::boundary_write_delivery(framing, m, data.as_ptr(), data.len(), buf.as_mut_ptr(), buf.len()) }
 }
 
 pub fn write_notice(framing: u8, m: FromModule, buf: &mut [u8]) -> Writing {
     unsafe { raw::boundary_write_notice(framing, m, buf.as_mut_ptr(), buf.len()) }
+}
+
+pub fn setting_at(list: &[u8], index: usize) -> Setting {
+    unsafe { raw::boundary_setting_at(list.as_ptr(), list.len(), index) }
 }

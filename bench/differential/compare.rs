@@ -1,5 +1,5 @@
 //! The cases: each runs the library and the model on the same input and compares every number, every byte of a buffer and the state.
-use crate::boundary::{self as library, Answer, Fed, Reader, Reading, Writing};
+use crate::boundary::{self as library, Answer, Fed, FromModule, Reader, Reading, ToModule, Writing};
 use crate::frames::{self, Call, Framing};
 use crate::messages;
 use crate::random::{self, framing_number, Random};
@@ -114,34 +114,45 @@ pub fn payload(r: &mut Random, tally: &mut Tally) -> Outcome {
     let from = library::read_from_module(&p);
     tally.refusal(to.refusal);
     tally.refusal(from.refusal);
-    tally.to_kinds[to.kind as usize % 6] += 1;
-    tally.from_kinds[from.kind as usize % 6] += 1;
+    tally.to_kinds[to.kind as usize % 8] += 1;
+    tally.from_kinds[from.kind as usize % 8] += 1;
     same("to the module", &input, to, messages::read_to_module(&p))?;
     same("from the module", &input, from, messages::read_from_module(&p))
 }
 
-/// Which of the four message writers is tried.
+/// Which of the five message writers is tried: the first three write to the module.
 fn write_with(which: usize, r: &mut Random, number: u8, buf: &mut [u8], text: &mut String) -> (Result<Vec<u8>, u8>, Writing) {
-    let (to, from, data) = (random::to_module(r), random::from_module(r), random::data(r));
-    let body = hex(&data);
+    let (to, from) = (random::to_module(r), random::from_module(r));
     match which {
         0 => {
+            let data = random::data_for(r, to.kind == 5);
+            let body = hex(&data);
             *text = format!("write_request {to:?} data {body}");
             (messages::request(&to, &data), library::write_request(number, to, &data, buf))
         }
         1 => {
             let kind = if r.once_in(4) { to.kind } else { 4 };
-            let change = library::ToModule { kind, ..to };
+            let change = ToModule { kind, ..to };
             *text = format!("write_output_change {change:?}");
             (messages::output_change(&change), library::write_output_change(number, change, buf))
         }
         2 => {
+            let kind = if r.once_in(4) { to.kind } else { 6 };
+            let command = ToModule { kind, ..to };
+            *text = format!("write_setup {command:?}");
+            (messages::setup(&command), library::write_setup(number, command, buf))
+        }
+        3 => {
+            let data = random::data_for(r, from.kind == 6);
+            let body = hex(&data);
             *text = format!("write_delivery {from:?} data {body}");
             (messages::delivery(&from, &data), library::write_delivery(number, from, &data, buf))
         }
         _ => {
-            *text = format!("write_notice {from:?}");
-            (messages::notice(&from), library::write_notice(number, from, buf))
+            let kind = if r.once_in(4) { 7 } else { from.kind };
+            let notice = FromModule { kind, ..from };
+            *text = format!("write_notice {notice:?}");
+            (messages::notice(&notice), library::write_notice(number, notice, buf))
         }
     }
 }
@@ -157,7 +168,7 @@ pub fn message_write(r: &mut Random, tally: &mut Tally) -> Outcome {
     let before = patterned(r, room);
     let mut buf = before.clone();
     let mut text = String::new();
-    let which = r.below(4);
+    let which = r.below(5);
     let (payload, got) = write_with(which, r, number, &mut buf, &mut text);
     let expected = match f {
         None => Err(messages::UNKNOWN),
@@ -173,8 +184,30 @@ pub fn message_write(r: &mut Random, tally: &mut Tally) -> Outcome {
     let read = library::read_frame(number, &buf, &mut back);
     same("read back", &|| call.clone(), read, Reading { refusal: 0, used: got.len, len: p.len() })?;
     same("payload read back", &|| call.clone(), &back[..p.len()], &p[..])?;
-    let known = if which < 2 { library::read_to_module(&p).refusal } else { library::read_from_module(&p).refusal };
+    let known = if which < 3 { library::read_to_module(&p).refusal } else { library::read_from_module(&p).refusal };
     same("message read back", &|| call.clone(), known, 0)
+}
+
+/// A settings list walked by index, from the first setting to the one behind the last, and then at any index.
+pub fn walk(r: &mut Random, tally: &mut Tally) -> Outcome {
+    let list = match r.below(20) {
+        0 => random::data(r),
+        _ => random::settings_list(r),
+    };
+    let mut index = 0;
+    loop {
+        let input = || format!("setting_at index {index} list {}", hex(&list));
+        let got = library::setting_at(&list, index);
+        tally.add("settings found", got.is_found != 0);
+        same("setting", &input, got, messages::setting_at(&list, index))?;
+        if got.is_found == 0 {
+            tally.refusal(got.refusal);
+            break;
+        }
+        index += 1;
+    }
+    let far = index + r.pick(&[1, 2, 12, 255, 256, 65536, usize::MAX - 14]);
+    same("setting", &|| format!("setting_at index {far} list {}", hex(&list)), library::setting_at(&list, far), messages::setting_at(&list, far))
 }
 
 /// A reader of the library beside the bytes that the model holds.

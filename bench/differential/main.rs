@@ -1,4 +1,4 @@
-//! Runs the library across its boundary and a model of document 01 on the same random input, and reports the first difference.
+//! Runs the library across its boundary and a model of documents 01 and 02 on the same random input, and reports the first difference.
 //! Use: differential [SEED [SCALE [FAMILY INDEX]]]. SCALE is in hundredths of the usual number of cases; FAMILY and INDEX run one case again.
 mod boundary;
 mod compare;
@@ -13,8 +13,8 @@ use std::collections::BTreeMap;
 pub struct Tally {
     refusals: [usize; 256],
     calls: BTreeMap<&'static str, usize>,
-    pub to_kinds: [usize; 6],
-    pub from_kinds: [usize; 6],
+    pub to_kinds: [usize; 8],
+    pub from_kinds: [usize; 8],
     pub frames: usize,
     pub noise: usize,
 }
@@ -32,7 +32,7 @@ impl Tally {
 type Case = fn(&mut Random, &mut Tally) -> compare::Outcome;
 
 /// The families, with the number of cases of each.
-const FAMILIES: [(&str, Case, u64); 8] = [
+const FAMILIES: [(&str, Case, u64); 9] = [
     ("single reads", compare::single_read, 300_000),
     ("bare payloads written", compare::single_write, 150_000),
     ("payloads read in both directions", compare::payload, 500_000),
@@ -41,6 +41,7 @@ const FAMILIES: [(&str, Case, u64); 8] = [
     ("states made by hand", compare::made_state, 40_000),
     ("states of no framing", compare::unknown_framing, 5_000),
     ("chunks about 65,536 bytes", compare::long_chunk, 100),
+    ("settings lists walked", compare::walk, 200_000),
 ];
 
 fn run(seed: u64, family: usize, indices: std::ops::Range<u64>, tally: &mut Tally) {
@@ -59,9 +60,9 @@ fn report(tally: &Tally, total: u64) {
         println!("  {what}: {count}");
     }
     println!("  segments by the leftmost rule: {} frames, {} bytes of noise", tally.frames, tally.noise);
-    println!("  kinds read to the module (refused, simple, extended, to an extended address, change): {:?}", &tally.to_kinds[..5]);
-    println!("  kinds read from the module (refused, simple, extended, response, standard, remote): {:?}", tally.from_kinds);
-    for number in (1..=16).chain([255]) {
+    println!("  kinds read to the module (refused, simple, extended, to an extended address, change, settings, setup): {:?}", &tally.to_kinds[..7]);
+    println!("  kinds read from the module (refused, simple, extended, response, standard, remote, settings, report): {:?}", tally.from_kinds);
+    for number in (1..=17).chain([255]) {
         println!("  refusal {number}: {}", tally.refusals[number]);
     }
 }
@@ -71,7 +72,7 @@ fn main() {
     let seed = args.first().copied().unwrap_or(1);
     let scale = args.get(1).copied().unwrap_or(100);
     let mut tally =
-        Tally { refusals: [0; 256], calls: BTreeMap::new(), to_kinds: [0; 6], from_kinds: [0; 6], frames: 0, noise: 0 };
+        Tally { refusals: [0; 256], calls: BTreeMap::new(), to_kinds: [0; 8], from_kinds: [0; 8], frames: 0, noise: 0 };
     println!("seed {seed}, scale {scale}");
     if let [_, _, family, index] = args[..] {
         run(seed, family as usize, index..index + 1, &mut tally);
@@ -86,7 +87,7 @@ fn main() {
         total += count;
     }
     report(&tally, total);
-    if let Some(number) = (1..=16).find(|&n| tally.refusals[n] == 0) {
+    if let Some(number) = (1..=17).find(|&n| tally.refusals[n] == 0) {
         println!("refusal {number} was never seen");
         std::process::exit(1);
     }

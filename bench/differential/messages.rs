@@ -1,7 +1,7 @@
-//! Document 01's payloads: what they mean in each direction, and how a message becomes a payload. Written from the text alone.
-use crate::boundary::{FromModule, Options, Status, ToModule};
+//! The payloads of documents 01 and 02: what they mean in each direction, and how a message becomes a payload. Written from the text alone.
+use crate::boundary::{FromModule, Information, Options, Setting, Status, ToModule};
 
-/// The answer for a framing or a kind that stands for none. It is the boundary's own number, not one of document 01.
+/// The answer for a framing or a kind that stands for none. It is the boundary's own number, not one of the documents.
 pub const UNKNOWN: u8 = 255;
 
 fn plain(address: u8) -> bool {
@@ -86,6 +86,51 @@ fn option_bytes(o: &Options) -> Vec<u8> {
     out
 }
 
+/// Sheet 000's identifiers, each with the width of its data.
+pub const WIDTHS: [(u8, usize); 13] = [
+    (0x00, 4),
+    (0x01, 4),
+    (0x02, 2),
+    (0x03, 1),
+    (0x04, 1),
+    (0x05, 1),
+    (0x06, 1),
+    (0x07, 4),
+    (0x08, 1),
+    (0x09, 1),
+    (0x0A, 16),
+    (0x0C, 2),
+    (0xFF, 1),
+];
+
+pub fn width(id: u8) -> Option<usize> {
+    WIDTHS.iter().find(|w| w.0 == id).map(|w| w.1)
+}
+
+/// The settings of a list in their order, or 17: an identifier that is unknown, repeated or cut.
+fn settings(list: &[u8]) -> Result<Vec<Setting>, u8> {
+    let mut found: Vec<Setting> = Vec::new();
+    let mut at = 0;
+    while at < list.len() {
+        let identifier = list[at];
+        let len = width(identifier).ok_or(17)?;
+        if found.iter().any(|s| s.identifier == identifier) || list.len() - at - 1 < len {
+            return Err(17);
+        }
+        found.push(Setting { refusal: 0, is_found: 1, identifier, start: at + 1, len });
+        at += 1 + len;
+    }
+    Ok(found)
+}
+
+/// The setting of a list with this index, counted from 0.
+pub fn setting_at(list: &[u8], index: usize) -> Setting {
+    match settings(list) {
+        Ok(found) => found.get(index).copied().unwrap_or_default(),
+        Err(refusal) => Setting { refusal, ..Default::default() },
+    }
+}
+
 pub fn read_to_module(p: &[u8]) -> ToModule {
     to_module(p).unwrap_or_else(|refusal| ToModule { refusal, ..Default::default() })
 }
@@ -96,6 +141,10 @@ fn to_module(p: &[u8]) -> Result<ToModule, u8> {
     }
     let blank = ToModule { address: p[0], ..Default::default() };
     match (p[0], p[1]) {
+        (0xDB, 0xF2) => settings(&p[2..]).map(|_| ToModule { kind: 5, start: 2, ..Default::default() }),
+        (0xDB, c) if !is_setup(c) => Err(9),
+        (0xDB, _) if p.len() != 2 => Err(7),
+        (0xDB, c) => Ok(ToModule { kind: 6, command: c, ..Default::default() }),
         (0x80, 0xA0) => extended_to(p, ToModule { kind: 3, address: 0, ..blank }, 7),
         (0x80, _) => Err(9),
         (a, _) if !plain(a) => Err(8),
@@ -104,6 +153,11 @@ fn to_module(p: &[u8]) -> Result<ToModule, u8> {
         (_, 0xA0) => extended_to(p, ToModule { kind: 2, ..blank }, 3),
         _ => Err(9),
     }
+}
+
+/// The commands to the module itself with nothing after them.
+fn is_setup(command: u8) -> bool {
+    matches!(command, 0xF0 | 0xF1 | 0xF3 | 0xFD | 0xFE | 0xFF)
 }
 
 fn extended_to(p: &[u8], blank: ToModule, at: usize) -> Result<ToModule, u8> {
@@ -139,7 +193,7 @@ fn from_module(p: &[u8]) -> Result<FromModule, u8> {
     let blank = FromModule { address: p[0], ..Default::default() };
     match (p[0], p[1]) {
         (0xDB, 0xA1) => response(p),
-        (0xDB, _) => Err(9),
+        (0xDB, _) => itself(p),
         (a, _) if !plain(a) => Err(8),
         (_, 0x00..=0x7F) => Ok(FromModule { kind: 1, command: p[1], start: 2, ..blank }),
         (_, 0x81) => status(p, blank),
@@ -156,6 +210,26 @@ fn response(p: &[u8]) -> Result<FromModule, u8> {
         return Err(11);
     }
     Ok(FromModule { kind: 3, response_id: p[2], result: p[3], ..Default::default() })
+}
+
+/// A report of the module on itself, or its settings.
+fn itself(p: &[u8]) -> Result<FromModule, u8> {
+    let blank = FromModule { kind: 7, command: p[1], ..Default::default() };
+    match (p[1], p.len()) {
+        (0xF0, 3) if p[2] != 0x01 => Err(11),
+        (0xF0, 3) => Ok(blank),
+        (0xF1, 17) => {
+            let (application, version, serial) = (long(p, 2), long(p, 6), long(p, 11));
+            let information = Information { application, version, device: p[10], serial, silent: p[15], network: p[16] };
+            Ok(FromModule { information, ..blank })
+        }
+        (0xF3, 3) if p[2] == 0xFF => Ok(blank),
+        (0xF3, _) => settings(&p[2..]).map(|_| FromModule { kind: 6, start: 2, ..Default::default() }),
+        (0xF8, 4) if p[2] != 0x11 || p[3] > 1 => Err(11),
+        (0xF8, 4) => Ok(FromModule { result: p[3], ..blank }),
+        (0xF0 | 0xF1 | 0xF8, _) => Err(7),
+        _ => Err(9),
+    }
 }
 
 fn extended_from(p: &[u8], blank: FromModule) -> Result<FromModule, u8> {
@@ -196,7 +270,7 @@ fn status(p: &[u8], blank: FromModule) -> Result<FromModule, u8> {
     Ok(FromModule { kind: 4, lqi: p[4], status, ..blank })
 }
 
-/// The payload of a message to the module with its data, or the refusal: 8, 9, 10.
+/// The payload of a message to the module with its data, or the refusal: 8, 9, 10, 17.
 pub fn request(m: &ToModule, data: &[u8]) -> Result<Vec<u8>, u8> {
     let mut out = match m.kind {
         1 if !plain(m.address) => return Err(8),
@@ -206,9 +280,10 @@ pub fn request(m: &ToModule, data: &[u8]) -> Result<Vec<u8>, u8> {
         2 => vec![m.address, 0xA0, m.response_id],
         3 if !is_extended(m.extended) => return Err(8),
         3 => [&[0x80, 0xA0, m.response_id], &m.extended.to_be_bytes()[..]].concat(),
+        5 => settings(data).map(|_| vec![0xDB, 0xF2])?,
         _ => return Err(UNKNOWN),
     };
-    if m.kind != 1 {
+    if m.kind == 2 || m.kind == 3 {
         if m.options.has_retries != 0 && !retry(m.options.retries) {
             return Err(10);
         }
@@ -229,8 +304,20 @@ pub fn output_change(m: &ToModule) -> Result<Vec<u8>, u8> {
     Ok([&[m.address, 0x80, 0x01], &m.signals.to_be_bytes()[..], &m.mask.to_be_bytes()[..], &[0; 8]].concat())
 }
 
-/// The payload of a message from the module with its data, or the refusal: 8, 9. M is worked out from the data.
+/// The payload of a command to the module itself, or the refusal: 9.
+pub fn setup(m: &ToModule) -> Result<Vec<u8>, u8> {
+    match m.kind {
+        6 if is_setup(m.command) => Ok(vec![0xDB, m.command]),
+        6 => Err(9),
+        _ => Err(UNKNOWN),
+    }
+}
+
+/// The payload of a message from the module with its data, or the refusal: 8, 9, 17. M is worked out from the data.
 pub fn delivery(m: &FromModule, data: &[u8]) -> Result<Vec<u8>, u8> {
+    if m.kind == 6 {
+        return settings(data).map(|_| [&[0xDB, 0xF3], data].concat());
+    }
     if m.kind != 1 && m.kind != 2 {
         return Err(UNKNOWN);
     }
@@ -248,7 +335,7 @@ pub fn delivery(m: &FromModule, data: &[u8]) -> Result<Vec<u8>, u8> {
     Ok([&[m.address, 0xA0, m.response_id], &from[..], &to[..], &[m.lqi], &size[..], data].concat())
 }
 
-/// The payload of a message from the module without data, or the refusal: 8, 11.
+/// The payload of a message from the module without data, or the refusal: 8, 9, 11.
 pub fn notice(m: &FromModule) -> Result<Vec<u8>, u8> {
     let s = &m.status;
     let (serial, time) = (s.serial.to_be_bytes(), s.time.to_be_bytes());
@@ -266,6 +353,21 @@ pub fn notice(m: &FromModule) -> Result<Vec<u8>, u8> {
             let words = [s.signals.to_be_bytes(), s.mask.to_be_bytes(), s.interrupts.to_be_bytes()].concat();
             Ok([&head[..], &serial, &[s.destination], &time, &[s.relays], &words, &[s.unused]].concat())
         }
+        7 => report(m),
         _ => Err(UNKNOWN),
+    }
+}
+
+/// The payload of a report of the module on itself, or the refusal: 9, 11.
+fn report(m: &FromModule) -> Result<Vec<u8>, u8> {
+    let i = &m.information;
+    let (application, version, serial) = (i.application.to_be_bytes(), i.version.to_be_bytes(), i.serial.to_be_bytes());
+    match m.command {
+        0xF0 => Ok(vec![0xDB, 0xF0, 0x01]),
+        0xF1 => Ok([&[0xDB, 0xF1], &application[..], &version, &[i.device], &serial, &[i.silent, i.network]].concat()),
+        0xF3 => Ok(vec![0xDB, 0xF3, 0xFF]),
+        0xF8 if m.result > 1 => Err(11),
+        0xF8 => Ok(vec![0xDB, 0xF8, 0x11, m.result]),
+        _ => Err(9),
     }
 }

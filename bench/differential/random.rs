@@ -1,6 +1,7 @@
 //! Random numbers, segments, payloads and messages. A case depends on the seed, its family and its index alone, so that it can be run again by itself.
-use crate::boundary::{FromModule, Options, Status, ToModule};
+use crate::boundary::{FromModule, Information, Options, Status, ToModule};
 use crate::frames::{frame, Framing};
+use crate::messages::{width, WIDTHS};
 
 pub struct Random(u64);
 
@@ -188,6 +189,7 @@ pub fn storm(r: &mut Random, f: Framing, size: usize) -> Vec<u8> {
 
 const ADDRESSES: [u8; 12] = [0, 1, 2, 99, 100, 101, 119, 120, 121, 0x7F, 0x80, 0xDB];
 const COMMANDS: [u8; 12] = [0, 1, 0x7F, 0x80, 0x81, 0x82, 0xA0, 0xA0, 0xA1, 0xA2, 0xF2, 0xFF];
+const SETUPS: [u8; 10] = [0xF0, 0xF1, 0xF2, 0xF3, 0xF8, 0xFD, 0xFE, 0xFF, 0xF4, 0xA1];
 const EXTENDED: [u32; 10] = [0, 1, 0xFFFF, 0x10000, 0x7FFF_FFFF, 0x8000_0000, 0x8000_0001, 0xFFFF_FFFD, 0xFFFF_FFFE, 0xFFFF_FFFF];
 
 fn address(r: &mut Random) -> u8 {
@@ -251,6 +253,49 @@ pub fn data(r: &mut Random) -> Vec<u8> {
     r.bytes(n)
 }
 
+/// A settings list: identifiers in any order, each with data of its width; now and then one that is unknown or repeated, a list that is cut or has a byte too
+/// many, or any bytes.
+pub fn settings_list(r: &mut Random) -> Vec<u8> {
+    if r.once_in(10) {
+        let n = r.below(8);
+        return r.bytes_of(n, &[0x00, 0x02, 0x03, 0x04, 0x05, 0x0A, 0x0B, 0x0C, 0xFF]);
+    }
+    let one_in = r.pick(&[1, 2, 2, 4, 8]);
+    let mut ids: Vec<u8> = WIDTHS.iter().map(|w| w.0).filter(|_| r.once_in(one_in)).collect();
+    if r.once_in(6) {
+        ids.push(r.pick(&[0x0B, 0x0D, 0x0E, 0x10, 0x7F, 0x80, 0xFE]));
+    }
+    if r.once_in(6) && !ids.is_empty() {
+        let again = r.pick(&ids);
+        ids.push(again);
+    }
+    for i in 0..ids.len() {
+        let j = r.below(ids.len());
+        ids.swap(i, j);
+    }
+    let mut s = Vec::new();
+    for id in ids {
+        let n = width(id).unwrap_or_else(|| r.below(3));
+        s.push(id);
+        s.extend(r.bytes(n));
+    }
+    match r.below(12) {
+        0 => s.truncate(r.below(s.len() + 1)),
+        1 => s.push(r.pick(&[0x00, 0x03, 0x0B, 0xFF])),
+        2 => drop(s.pop()),
+        _ => {}
+    }
+    s
+}
+
+/// Data of a message; where they should be a settings list, mostly one that is nearly right.
+pub fn data_for(r: &mut Random, is_list: bool) -> Vec<u8> {
+    if is_list && !r.once_in(8) {
+        return settings_list(r);
+    }
+    data(r)
+}
+
 fn extended_to(r: &mut Random) -> Vec<u8> {
     let mut s = vec![address(r), 0xA0, r.byte()];
     if r.once_in(3) {
@@ -304,6 +349,29 @@ fn response(r: &mut Random) -> Vec<u8> {
     resized(r, s)
 }
 
+/// DB with each command and what nearly belongs behind it, to the module or from it.
+fn setup(r: &mut Random) -> Vec<u8> {
+    let command = r.pick(&SETUPS);
+    let rest = match command {
+        0xF0 => r.pick(&[&[][..], &[0x01], &[0x01], &[0x00], &[0x02], &[0x11]]).to_vec(),
+        0xF1 if !r.once_in(4) => {
+            let n = r.pick(&[14, 15, 15, 15, 16]);
+            r.bytes(n)
+        }
+        0xF2 => settings_list(r),
+        0xF3 if r.once_in(4) => r.pick(&[&[][..], &[0xFF], &[0xFF, 0x00], &[0x00], &[0xFF, 0xFF]]).to_vec(),
+        0xF3 => settings_list(r),
+        0xF8 => vec![r.pick(&[0x11, 0x11, 0x11, 0x10, 0x01]), r.pick(&[0, 1, 0, 1, 2, 0xFF])],
+        _ if r.once_in(4) => r.bytes_of(1, &[0x00, 0x01, 0xFF]),
+        _ => Vec::new(),
+    };
+    let s = [vec![0xDB, command], rest].concat();
+    match r.below(40) {
+        0 => [s, vec![0x5A; 300]].concat(),
+        _ => resized(r, s),
+    }
+}
+
 /// Now and then one byte shorter or longer.
 fn resized(r: &mut Random, mut s: Vec<u8>) -> Vec<u8> {
     match r.below(8) {
@@ -316,13 +384,14 @@ fn resized(r: &mut Random, mut s: Vec<u8>) -> Vec<u8> {
 
 /// A payload that is nearly a message of some kind.
 pub fn message(r: &mut Random) -> Vec<u8> {
-    match r.below(8) {
+    match r.below(11) {
         0 | 1 => extended_to(r),
         2 => change(r),
         3 => extended_from(r),
         4 => status(r),
         5 => response(r),
         6 => [vec![address(r), r.pick(&COMMANDS)], data(r)].concat(),
+        7..=9 => setup(r),
         _ => {
             let n = r.pick(&[0, 1, 2, 3, 4, 7, 14, 15, 20, 23, 255, 256, 257, 300]);
             let mut s = r.bytes(n);
@@ -352,10 +421,10 @@ pub fn to_module(r: &mut Random) -> ToModule {
         sleep: r.bit(),
     };
     ToModule {
-        kind: kind(r),
+        kind: kind(r, 7),
         refusal: r.byte(),
         address: address(r),
-        command: r.pick(&COMMANDS),
+        command: command(r),
         response_id: r.byte(),
         extended: extended_address(r),
         options,
@@ -365,10 +434,18 @@ pub fn to_module(r: &mut Random) -> ToModule {
     }
 }
 
-fn kind(r: &mut Random) -> u8 {
+/// A kind: one of those that there are, or the number behind them, or now and then any.
+fn kind(r: &mut Random, behind: usize) -> u8 {
     match r.below(12) {
         0 => r.byte(),
-        _ => r.within(1, 5) as u8,
+        _ => r.within(1, behind) as u8,
+    }
+}
+
+fn command(r: &mut Random) -> u8 {
+    match r.below(2) {
+        0 => r.pick(&COMMANDS),
+        _ => r.pick(&SETUPS),
     }
 }
 
@@ -393,17 +470,26 @@ pub fn from_module(r: &mut Random) -> FromModule {
         mask: r.next() as u16,
         interrupts: r.next() as u16,
     };
+    let information = Information {
+        application: r.next() as u32,
+        version: r.next() as u32,
+        device: r.byte(),
+        serial: r.next() as u32,
+        silent: r.byte(),
+        network: r.byte(),
+    };
     FromModule {
-        kind: kind(r),
+        kind: kind(r, 8),
         refusal: r.byte(),
         address: address(r),
-        command: r.pick(&COMMANDS),
+        command: command(r),
         response_id: r.byte(),
         result: r.pick(&[0, 1, 0, 1, 2, 0xFF]),
         lqi: r.byte(),
         source: extended_address(r),
         destination: extended_address(r),
         status,
+        information,
         start: r.next() as usize,
     }
 }

@@ -30,16 +30,67 @@ static inline char *put_data(char *at, const uint8_t *bytes, size_t n)
     return n == 0 ? put_text(at, " -\n") : put_text(put_field(at, bytes, n), "\n");
 }
 
+// The width of an identifier's data in a settings list; 0 for an unknown one.
+static const uint8_t width[256] = {
+    [0x00] = 4, [0x01] = 4, [0x02] = 2, [0x03] = 1, [0x04] = 1, [0x05] = 1, [0x06] = 1, [0x07] = 4, [0x08] = 1, [0x09] = 1, [0x0A] = 16, [0x0C] = 2, [0xFF] = 1,
+};
+
+static int is_settings(const uint8_t *s, size_t n)
+{
+    uint32_t seen = 0; // the low four bits tell the known identifiers apart
+    size_t at = 0;
+    while (at < n) {
+        uint32_t mark = 1u << (s[at] & 15);
+        if (width[s[at]] == 0 || (seen & mark) != 0)
+            return 0;
+        seen |= mark;
+        at += 1 + (size_t)width[s[at]];
+    }
+    return at == n;
+}
+
+static char *put_settings(char *at, const uint8_t *p, size_t len)
+{
+    at = put_field(put_text(at, "settings"), p + 1, 1);
+    return put_data(at, p + 2, len - 2);
+}
+
 static char *put_response(char *at, const uint8_t *p, size_t len)
 {
-    if (p[1] != 0xA1)
-        return put_text(at, "refused 9\n");
     if (len != 4)
         return put_text(at, "refused 7\n");
     if (p[3] > 1)
         return put_text(at, "refused 11\n");
     at = put_field(put_text(at, "response"), p + 2, 1);
     return p[3] == 1 ? put_text(at, " ok\n") : put_text(at, " fail\n");
+}
+
+// A fixed length and a fixed byte.
+static char *put_report(char *at, const uint8_t *p, size_t len, size_t size, int good)
+{
+    if (len != size)
+        return put_text(at, "refused 7\n");
+    return good ? put_settings(at, p, len) : put_text(at, "refused 11\n");
+}
+
+static char *put_itself(char *at, const uint8_t *p, size_t len)
+{
+    switch (p[1]) {
+    case 0xA1:
+        return put_response(at, p, len);
+    case 0xF0:
+        return put_report(at, p, len, 3, p[2] == 0x01);
+    case 0xF1:
+        return put_report(at, p, len, 17, 1);
+    case 0xF3:
+        if ((len == 3 && p[2] == 0xFF) || is_settings(p + 2, len - 2))
+            return put_settings(at, p, len);
+        return put_text(at, "refused 17\n");
+    case 0xF8:
+        return put_report(at, p, len, 4, p[2] == 0x11 && p[3] <= 1);
+    default:
+        return put_text(at, "refused 9\n");
+    }
 }
 
 static char *put_status(char *at, const uint8_t *p, size_t len)
@@ -78,7 +129,7 @@ static char *put_message(char *at, const uint8_t *p, size_t len)
     if (len < 2)
         return put_text(at, "refused 7\n");
     if (p[0] == 0xDB)
-        return put_response(at, p, len);
+        return put_itself(at, p, len);
     if (p[0] > 100 && p[0] != 120)
         return put_text(at, "refused 8\n");
     if (p[1] < 0x80) {

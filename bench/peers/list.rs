@@ -26,6 +26,28 @@ fn put_hex(to: &mut [u8], bytes: &[u8]) {
     }
 }
 
+/// Whether bytes are a settings list: known identifiers, none twice, each followed by its data.
+fn is_settings(list: &[u8]) -> bool {
+    let mut seen = 0u16; // the low four bits tell the known identifiers apart
+    let mut at = 0;
+    while let Some(&id) = list.get(at) {
+        let width = match id {
+            0x00 | 0x01 | 0x07 => 4,
+            0x02 | 0x0C => 2,
+            0x03..=0x06 | 0x08 | 0x09 | 0xFF => 1,
+            0x0A => 16,
+            _ => return false,
+        };
+        let mark = 1 << (id & 15);
+        if seen & mark != 0 {
+            return false;
+        }
+        seen |= mark;
+        at += 1 + width;
+    }
+    at == list.len()
+}
+
 /// Lines, collected in a buffer. The fields of a line are filled in at constant places, so that only whole lines are checked against the buffer's end.
 struct Output {
     buffer: Vec<u8>,
@@ -52,8 +74,7 @@ impl Output {
         self.line(b"\n");
     }
 
-    fn response(&mut self, p: &[u8]) -> Result<(), u8> {
-        let &[_, 0xA1, ref rest @ ..] = p else { return Err(9) };
+    fn response(&mut self, rest: &[u8]) -> Result<(), u8> {
         match rest {
             [id, 0] => put_hex(&mut self.line(b"response .. fail\n")[9..], &[*id]),
             [id, 1] => put_hex(&mut self.line(b"response .. ok\n")[9..], &[*id]),
@@ -61,6 +82,27 @@ impl Output {
             _ => return Err(7),
         }
         Ok(())
+    }
+
+    fn settings(&mut self, command: u8, rest: &[u8]) -> Result<(), u8> {
+        put_hex(&mut self.line(b"settings .. ")[9..], &[command]);
+        self.data(rest);
+        Ok(())
+    }
+
+    /// What the module says of itself.
+    fn itself(&mut self, command: u8, rest: &[u8]) -> Result<(), u8> {
+        match (command, rest) {
+            (0xA1, _) => self.response(rest),
+            (0xF0, [1]) | (0xF1, [_, _, _, _, _, _, _, _, _, _, _, _, _, _, _]) | (0xF3, [0xFF]) | (0xF8, [0x11, 0 | 1]) => {
+                self.settings(command, rest)
+            }
+            (0xF3, _) if is_settings(rest) => self.settings(command, rest),
+            (0xF3, _) => Err(17),
+            (0xF0, [_]) | (0xF8, [_, _]) => Err(11),
+            (0xF0 | 0xF1 | 0xF8, _) => Err(7),
+            _ => Err(9),
+        }
     }
 
     fn simple(&mut self, address: u8, command: u8, data: &[u8]) -> Result<(), u8> {
@@ -125,7 +167,7 @@ impl Output {
     fn message(&mut self, p: &[u8]) -> Result<(), u8> {
         match p {
             [] | [_] => Err(7),
-            [0xDB, ..] => self.response(p),
+            [0xDB, command, rest @ ..] => self.itself(*command, rest),
             [101..=119 | 121.., ..] => Err(8),
             [address, command @ ..=0x7F, data @ ..] => self.simple(*address, *command, data),
             [_, 0x81, ..] => self.status(p),

@@ -52,18 +52,24 @@ pub refused-crosses : {m : NamedFraming} {f : Framing} {r r′ : ℕ} {p buf : L
 refused-crosses known is-r any e = rw (known, is-r) (record { answers = e ∙ rw any; leaves = rw any })
 
 -- Messages by name: what the numbers stand for, a, was found to be k.
-pub named-crosses : {A : Type 0} (refusal : A → ℕ) (layout : A → List ℕ → List ℕ) (dat : List ℕ)
+pub named-crosses : {A : Type 0} (refusal : A → List ℕ → ℕ) (layout : A → List ℕ → List ℕ) (dat : List ℕ)
     {m : NamedFraming} {f : Framing} {a b k : A} {buf after : List ℕ} {answer : WriteAnswer} {flat : FlatWriting} →
-    m ≡ Known f → b ≡ a → b ≡ k → Writes f (refusal k) (layout k dat) buf answer after → flat ≡ flatWriting (writtenOf answer) →
-    WritesFlat m (refusal a) (layout a dat) buf flat after
+    m ≡ Known f → b ≡ a → b ≡ k → Writes f (refusal k dat) (layout k dat) buf answer after → flat ≡ flatWriting (writtenOf answer) →
+    WritesFlat m (refusal a dat) (layout a dat) buf flat after
 named-crosses refusal layout dat known stands is w e =
-    message-crosses known (ap refusal (sym stands ∙ is)) (ap (λ x. layout x dat) (sym stands ∙ is)) w e
+    message-crosses known (ap (λ x. refusal x dat) (sym stands ∙ is)) (ap (λ x. layout x dat) (sym stands ∙ is)) w e
 
 -- Numbers that stand for no message have the same refusal whether the framing is known or not.
 pub no-message : {m : NamedFraming} {r : ℕ} {p buf : List ℕ} {flat : FlatWriting} →
     r ≡ unknownNumber → flat ≡ flatWriting (noWriting unknownNumber) → WritesFlat m r p buf flat buf
 no-message {m = Known f} none e = refused-crosses refl none refl e
 no-message {m = Unknown} none e = no-framing refl e
+
+-- The same by name: what the numbers stand for, a, was found to be k, which is no message.
+pub none-named : {A : Type 0} (refusal : A → List ℕ → ℕ) (dat : List ℕ) {m : NamedFraming} {a b k : A} {p buf : List ℕ} {flat : FlatWriting} →
+    b ≡ a → b ≡ k → refusal k dat ≡ unknownNumber → flat ≡ flatWriting (noWriting unknownNumber) →
+    WritesFlat m (refusal a dat) p buf flat buf
+none-named refusal dat stands is none e = no-message (ap (λ x. refusal x dat) (sym stands ∙ is) ∙ none) e
 
 -- The line reader.
 pub feed-crosses : {m : NamedFraming} {f : Framing} {q : Reader} {after : List ℕ} {flat : LineFed}

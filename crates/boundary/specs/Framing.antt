@@ -16,6 +16,6 @@ abbrev pub framingNumber : Framing → ℕ
 framingNumber Binary = 0
 framingNumber Ascii = 1
 
--- The answer where a framing or a kind of message crosses as a number that stands for none. Document 01's numbers end at 16.
+-- The answer where a framing or a kind of message crosses as a number that stands for none. The documents' own numbers end below it.
 abbrev pub unknownNumber : ℕ
 unknownNumber = 255

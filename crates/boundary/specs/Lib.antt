@@ -3,6 +3,8 @@
 pub mod Framing
 pub mod Single
 pub mod Line
+-- The settings of a list, and the call that looks at them.
+pub mod Setting
 -- Messages to the module, and the calls that read and write them.
 pub mod Options
 pub mod ToModule

@@ -1,16 +1,18 @@
 -- Messages to the module as numbers. The kinds: 0 a refusal, 1 simple, 2 extended to a plain address, 3 extended to an extended address, 4 a change of
--- outputs. A field that a kind does not have is 0 in reading and is not looked at in writing.
+-- outputs, 5 a settings list, 6 a command to the module itself. A field that a kind does not have is 0 in reading and is not looked at in writing.
 use Prim.Native.Nat.{ℕ}
 use mathlib.Core.List.{List, []}
 use mathlib.Core.Bool.{cond}
 use lib.Dec.{eqb}
 use Rattle.message.specs.Meaning.{Meaning, refused, carrying, bare}
-use Rattle.message.specs.ToModule.{requestRefusal, requestLayout, changeRefusal, changeLayout}
+use Rattle.message.specs.Setup.{Named, unknown, known, commandNumber, commandOf, setupLayout}
+use Rattle.message.specs.ToModule.{Order, change, setup, requestRefusal, requestLayout, changeRefusal, changeLayout}
+use Rattle.message.specs.declared.setup.SetupCommand.{SetupCommand}
 use Rattle.message.specs.declared.to_module.Address.{Address}
 use Rattle.message.specs.declared.to_module.Address.the-variants.{Plain, Extended}
 use Rattle.message.specs.declared.to_module.Transmission.{Transmission}
 use Rattle.message.specs.declared.to_module.Request.{Request}
-use Rattle.message.specs.declared.to_module.Request.the-variants.{Simple as SimpleRequest, Extended as ExtendedRequest}
+use Rattle.message.specs.declared.to_module.Request.the-variants.{Simple as SimpleRequest, Extended as ExtendedRequest, Settings}
 use Rattle.message.specs.declared.to_module.OutputChange.{OutputChange}
 use Rattle.boundary.specs.Framing.{unknownNumber}
 use Rattle.boundary.specs.Single.{WritesFlat}
@@ -20,6 +22,8 @@ use Rattle.boundary.specs.declared.single.FlatWriting.{FlatWriting}
 use Rattle.boundary.specs.declared.to_module.ToModuleNumbers.{ToModuleNumbers}
 use Rattle.boundary.specs.declared.to_module.NamedRequest.{NamedRequest}
 use Rattle.boundary.specs.declared.to_module.NamedRequest.the-variants.{Known, Unknown}
+use Rattle.boundary.specs.declared.to_module.NamedSetup.{NamedSetup}
+use Rattle.boundary.specs.declared.to_module.NamedSetup.the-variants.{Known as KnownSetup, BadCommand, Unknown as NoSetup}
 
 -- A plain address, an extended one, and the kind of an extended message to it.
 abbrev pub plainOf : Address → ℕ
@@ -81,6 +85,19 @@ requestNumbers (SimpleRequest m) start =
       start = start;
     }
 requestNumbers (ExtendedRequest m) start = transmissionNumbers m start
+requestNumbers Settings start =
+    record {
+      kind = 5;
+      refusal = 0;
+      address = 0;
+      command = 0;
+      «response_id» = 0;
+      extended = 0;
+      options = noNumbers;
+      signals = 0;
+      mask = 0;
+      start = start;
+    }
 
 abbrev pub changeNumbers : OutputChange → ToModuleNumbers
 changeNumbers m =
@@ -97,11 +114,27 @@ changeNumbers m =
       start = 0;
     }
 
+abbrev pub setupNumbers : SetupCommand → ToModuleNumbers
+setupNumbers c =
+    record {
+      kind = 6;
+      refusal = 0;
+      address = 0;
+      command = commandNumber c;
+      «response_id» = 0;
+      extended = 0;
+      options = noNumbers;
+      signals = 0;
+      mask = 0;
+      start = 0;
+    }
+
 -- The numbers of what a payload means.
-unfoldable pub toModuleNumbers : Meaning Request OutputChange → ToModuleNumbers
+unfoldable pub toModuleNumbers : Meaning Request Order → ToModuleNumbers
 toModuleNumbers (refused n) = refusedTo n
 toModuleNumbers (carrying m start) = requestNumbers m start
-toModuleNumbers (bare m) = changeNumbers m
+toModuleNumbers (bare (change m)) = changeNumbers m
+toModuleNumbers (bare (setup c)) = setupNumbers c
 
 -- The message that numbers stand for.
 unfoldable pub transmissionIn : Address → ToModuleNumbers → Transmission
@@ -111,15 +144,23 @@ unfoldable pub requestIn : ToModuleNumbers → NamedRequest
 requestIn n =
     cond (eqb (n .kind) 1) (Known (SimpleRequest (record { address = n .address; command = n .command })))
     (cond (eqb (n .kind) 2) (Known (ExtendedRequest (transmissionIn (Plain (n .address)) n)))
-    (cond (eqb (n .kind) 3) (Known (ExtendedRequest (transmissionIn (Extended (n .extended)) n))) Unknown))
+    (cond (eqb (n .kind) 3) (Known (ExtendedRequest (transmissionIn (Extended (n .extended)) n)))
+    (cond (eqb (n .kind) 5) (Known Settings) Unknown)))
 
 abbrev pub changeIn : ToModuleNumbers → OutputChange
 changeIn n = record { address = n .address; signals = n .signals; mask = n .mask }
 
--- Why they are not written, 0 for no reason, and the payload.
-abbrev pub requestRefusalIn : NamedRequest → ℕ
-requestRefusalIn (Known q) = requestRefusal q
-requestRefusalIn Unknown = unknownNumber
+abbrev pub setupOf : Named → NamedSetup
+setupOf unknown = BadCommand
+setupOf (known c) = KnownSetup c
+
+unfoldable pub setupIn : ToModuleNumbers → NamedSetup
+setupIn n = cond (eqb (n .kind) 6) (setupOf (commandOf (n .command))) NoSetup
+
+-- Why they are not written, 0 for no reason, and the payload. A number that names no command is document 01's refusal 9.
+abbrev pub requestRefusalIn : NamedRequest → List ℕ → ℕ
+requestRefusalIn (Known q) dat = requestRefusal q dat
+requestRefusalIn Unknown dat = unknownNumber
 
 abbrev pub requestLayoutIn : NamedRequest → List ℕ → List ℕ
 requestLayoutIn (Known q) dat = requestLayout q dat
@@ -128,9 +169,22 @@ requestLayoutIn Unknown dat = []
 abbrev pub changeRefusalIn : ToModuleNumbers → ℕ
 changeRefusalIn n = cond (eqb (n .kind) 4) (changeRefusal (changeIn n)) unknownNumber
 
+abbrev pub setupRefusalIn : NamedSetup → ℕ
+setupRefusalIn (KnownSetup c) = 0
+setupRefusalIn BadCommand = 9
+setupRefusalIn NoSetup = unknownNumber
+
+abbrev pub setupLayoutIn : NamedSetup → List ℕ
+setupLayoutIn (KnownSetup c) = setupLayout c
+setupLayoutIn BadCommand = []
+setupLayoutIn NoSetup = []
+
 -- The promise of a write of such a message into buf, which then holds `after`.
 abbrev pub WritesRequest : NamedFraming → NamedRequest → List ℕ → List ℕ → FlatWriting → List ℕ → Type 0
-WritesRequest f q dat buf answer after = WritesFlat f (requestRefusalIn q) (requestLayoutIn q dat) buf answer after
+WritesRequest f q dat buf answer after = WritesFlat f (requestRefusalIn q dat) (requestLayoutIn q dat) buf answer after
 
 abbrev pub WritesChange : NamedFraming → ToModuleNumbers → List ℕ → FlatWriting → List ℕ → Type 0
 WritesChange f n buf answer after = WritesFlat f (changeRefusalIn n) (changeLayout (changeIn n)) buf answer after
+
+abbrev pub WritesSetup : NamedFraming → NamedSetup → List ℕ → FlatWriting → List ℕ → Type 0
+WritesSetup f c buf answer after = WritesFlat f (setupRefusalIn c) (setupLayoutIn c) buf answer after

@@ -10,22 +10,49 @@ use crate::status::standard_in;
 use crate::written::written_of;
 use message::Delivery;
 use message::FromModule;
+use message::Information;
 use message::Notice;
 use message::Outcome;
 use message::Reception;
 use message::RemoteStatus;
 use message::Response;
+use message::SetupReport;
 use message::Simple;
 use message::StandardStatus;
 ghost use mathlib.Core.Path.{_≡_};
+ghost use Rattle.message.specs.Setup.{stateByte};
 ghost use Rattle.message.specs.FromModule.{fromModuleOf, readFromModule, outcomeByte};
 ghost use Rattle.boundary.specs.Framing.{framingOf};
-ghost use Rattle.boundary.specs.FromModule.{deliveryNumbers, responseNumbers, standardNumbers, remoteNumbers, noticeNumbers, fromModuleNumbers};
-ghost use Rattle.boundary.specs.FromModule.{deliveryIn, responseIn, noticeIn, WritesDelivery, WritesNotice};
+ghost use Rattle.boundary.specs.FromModule.{deliveryNumbers, responseNumbers, standardNumbers, remoteNumbers, reportNumbers};
+ghost use Rattle.boundary.specs.FromModule.{noticeNumbers, fromModuleNumbers, deliveryIn, responseIn, informationIn, controlIn, reportIn, noticeIn};
+ghost use Rattle.boundary.specs.FromModule.{WritesDelivery, WritesNotice};
+
+// The information of F1.
+#[repr(C)]
+pub struct InformationNumbers {
+    pub application: u32,
+    pub version: u32,
+    pub device: u8,
+    pub serial: u32,
+    pub silent: u8,
+    pub network: u8,
+}
+
+// Of a message that has none.
+const NO_INFORMATION: InformationNumbers = InformationNumbers {
+    application: 0,
+    version: 0,
+    device: 0,
+    serial: 0,
+    silent: 0,
+    network: 0,
+};
 
 // A message from the module. `kind` is 0 for a refusal, 1 for a simple message, 2 for an extended one, 3 for a response, 4 for a standard status, 5 for a
-// remote status. `address` is the sender's, `response_id` also a response's own ID, `lqi` also a status's. Fields that the kind does not have are 0 in an
-// answer, and are not looked at in a write; `refusal` and `start`, the index at which the data begin, belong to answers alone.
+// remote status, 6 for a settings list, which is the data, 7 for a report of the module on itself. `address` is the sender's, `response_id` also a
+// response's own ID, `lqi` also a status's. The `command` of a report is F0 where it acknowledges, F1 where it has the information, F3 where its settings
+// failed, F8 where `result` is the state of silent mode, 1 released and 0 not. Fields that the kind does not have are 0 in an answer, and are not looked at
+// in a write; `refusal` and `start`, the index at which the data begin, belong to answers alone.
 #[repr(C)]
 pub struct FromModuleNumbers {
     pub kind: u8,
@@ -38,6 +65,7 @@ pub struct FromModuleNumbers {
     pub source: u32,
     pub destination: u32,
     pub status: StatusNumbers,
+    pub information: InformationNumbers,
     pub start: usize,
 }
 
@@ -53,6 +81,7 @@ const NO_MESSAGE: FromModuleNumbers = FromModuleNumbers {
     source: 0,
     destination: 0,
     status: NO_STATUS,
+    information: NO_INFORMATION,
     start: 0,
 };
 
@@ -65,8 +94,10 @@ pub(crate) enum NamedDelivery {
 // The message without data that numbers stand for, if any.
 pub(crate) enum NamedNotice {
     Known(Notice),
-    // A response whose result is neither 0 nor 1.
+    // A response, or a state of silent mode, whose result is neither 0 nor 1.
     BadResult,
+    // A report whose number names no command.
+    BadCommand,
     Unknown,
 }
 
@@ -97,6 +128,11 @@ fn delivery_numbers(delivery: Delivery, start: usize) -> FromModuleNumbers
             lqi: m.lqi,
             source: m.source,
             destination: m.destination,
+            start: start,
+            ..NO_MESSAGE
+        },
+        Delivery::Settings => FromModuleNumbers {
+            kind: 6,
             start: start,
             ..NO_MESSAGE
         },
@@ -165,6 +201,51 @@ fn remote_numbers(s: RemoteStatus) -> FromModuleNumbers
     }
 }
 
+fn state_number(released: bool) -> u8
+    ensures { λ r. ⌜ r ≡ stateByte released ⌝ }
+{
+    if released {
+        return 1;
+    }
+    0
+}
+
+fn report_numbers(report: SetupReport) -> FromModuleNumbers
+    ensures { λ r. ⌜ r ≡ reportNumbers report ⌝ }
+{
+    match report {
+        SetupReport::Acknowledged => FromModuleNumbers {
+            kind: 7,
+            command: 0xF0,
+            ..NO_MESSAGE
+        },
+        SetupReport::Information(m) => FromModuleNumbers {
+            kind: 7,
+            command: 0xF1,
+            information: InformationNumbers {
+                application: m.application,
+                version: m.version,
+                device: m.device,
+                serial: m.serial,
+                silent: m.silent,
+                network: m.network,
+            },
+            ..NO_MESSAGE
+        },
+        SetupReport::SettingsFailed => FromModuleNumbers {
+            kind: 7,
+            command: 0xF3,
+            ..NO_MESSAGE
+        },
+        SetupReport::SilentMode { released } => FromModuleNumbers {
+            kind: 7,
+            command: 0xF8,
+            result: state_number(released),
+            ..NO_MESSAGE
+        },
+    }
+}
+
 fn notice_numbers(notice: Notice) -> FromModuleNumbers
     ensures { λ r. ⌜ r ≡ noticeNumbers notice ⌝ }
 {
@@ -172,6 +253,7 @@ fn notice_numbers(notice: Notice) -> FromModuleNumbers
         Notice::Response(m) => response_numbers(m),
         Notice::Standard(m) => standard_numbers(m),
         Notice::Remote(m) => remote_numbers(m),
+        Notice::Setup(m) => report_numbers(m),
     }
 }
 
@@ -206,6 +288,9 @@ fn delivery_in(n: FromModuleNumbers) -> NamedDelivery
             lqi: n.lqi,
         }));
     }
+    if n.kind == 6 {
+        return NamedDelivery::Known(Delivery::Settings);
+    }
     NamedDelivery::Unknown
 }
 
@@ -227,10 +312,50 @@ fn response_in(id: u8, result: u8) -> NamedNotice
     NamedNotice::BadResult
 }
 
+fn information_in(n: InformationNumbers) -> Information
+    ensures { λ r. ⌜ r ≡ informationIn n ⌝ }
+{
+    Information {
+        application: n.application,
+        version: n.version,
+        device: n.device,
+        serial: n.serial,
+        silent: n.silent,
+        network: n.network,
+    }
+}
+
+fn control_in(result: u8) -> NamedNotice
+    ensures { λ r. ⌜ r ≡ controlIn result ⌝ }
+{
+    if result == 0 {
+        return NamedNotice::Known(Notice::Setup(SetupReport::SilentMode { released: false }));
+    }
+    if result == 1 {
+        return NamedNotice::Known(Notice::Setup(SetupReport::SilentMode { released: true }));
+    }
+    NamedNotice::BadResult
+}
+
+fn report_in(command: u8, result: u8, information: InformationNumbers) -> NamedNotice
+    ensures { λ r. ⌜ r ≡ reportIn command result information ⌝ }
+{
+    match command {
+        0xF0 => NamedNotice::Known(Notice::Setup(SetupReport::Acknowledged)),
+        0xF1 => NamedNotice::Known(Notice::Setup(SetupReport::Information(information_in(
+            information,
+        )))),
+        0xF3 => NamedNotice::Known(Notice::Setup(SetupReport::SettingsFailed)),
+        0xF8 => control_in(result),
+        _ => NamedNotice::BadCommand,
+    }
+}
+
 fn notice_in(n: FromModuleNumbers) -> NamedNotice
     ensures { λ r. ⌜ r ≡ noticeIn n ⌝ }
 {
     let status = n.status;
+    let information = n.information;
     if n.kind == 3 {
         return response_in(n.response_id, n.result);
     }
@@ -239,6 +364,9 @@ fn notice_in(n: FromModuleNumbers) -> NamedNotice
     }
     if n.kind == 5 {
         return NamedNotice::Known(Notice::Remote(remote_in(n.address, n.lqi, status)));
+    }
+    if n.kind == 7 {
+        return report_in(n.command, n.result, information);
     }
     NamedNotice::Unknown
 }
@@ -272,7 +400,8 @@ pub extern "C" fn boundary_write_delivery(
 }
 
 // Writes a message from the module without data as a frame, as `message::write_notice` does. A framing or a kind that stands for none, or for a message
-// with data, is refused with 255, a response whose result is neither 0 nor 1 with 11; then buf stays.
+// with data, is refused with 255, a report whose number names no command with 9, a response or a state of silent mode whose result is neither 0 nor 1 with
+// 11; then buf stays.
 #[no_mangle]
 pub extern "C" fn boundary_write_notice(
     framing: u8,
@@ -287,6 +416,7 @@ pub extern "C" fn boundary_write_notice(
     match notice_in(notice) {
         NamedNotice::Known(m) => written_of(message::write_notice(f, m, buf)),
         NamedNotice::BadResult => unwritten(11),
+        NamedNotice::BadCommand => unwritten(9),
         NamedNotice::Unknown => unwritten(255),
     }
 }

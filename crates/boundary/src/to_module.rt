@@ -11,18 +11,21 @@ use crate::written::written_of;
 use message::Address;
 use message::OutputChange;
 use message::Request;
+use message::SetupCommand;
 use message::Simple;
 use message::ToModule;
 use message::Transmission;
 ghost use mathlib.Core.Path.{_≡_};
+ghost use Rattle.message.specs.Setup.{commandNumber, commandOf};
 ghost use Rattle.message.specs.ToModule.{toModuleOf, readToModule};
 ghost use Rattle.boundary.specs.Framing.{framingOf};
 ghost use Rattle.boundary.specs.ToModule.{transmissionNumbers, requestNumbers, toModuleNumbers};
-ghost use Rattle.boundary.specs.ToModule.{transmissionIn, requestIn, WritesRequest, WritesChange};
+ghost use Rattle.boundary.specs.ToModule.{transmissionIn, requestIn, setupOf, setupIn, WritesRequest, WritesChange, WritesSetup};
 
 // A message to the module. `kind` is 0 for a refusal, 1 for a simple message, 2 for an extended one to a plain address, 3 for an extended one to an
-// extended address, 4 for a change of outputs. Fields that the kind does not have are 0 in an answer, and are not looked at in a write; `refusal` and
-// `start`, the index at which the data begin, belong to answers alone.
+// extended address, 4 for a change of outputs, 5 for a settings list, which is the data, 6 for a command to the module itself, whose number is `command`.
+// Fields that the kind does not have are 0 in an answer, and are not looked at in a write; `refusal` and `start`, the index at which the data begin, belong
+// to answers alone.
 #[repr(C)]
 pub struct ToModuleNumbers {
     pub kind: u8,
@@ -55,6 +58,27 @@ const NO_MESSAGE: ToModuleNumbers = ToModuleNumbers {
 pub(crate) enum NamedRequest {
     Known(Request),
     Unknown,
+}
+
+// The command to the module itself that numbers stand for, if any.
+pub(crate) enum NamedSetup {
+    Known(SetupCommand),
+    // A number that names no command.
+    BadCommand,
+    Unknown,
+}
+
+fn setup_number(command: SetupCommand) -> u8
+    ensures { λ r. ⌜ r ≡ commandNumber command ⌝ }
+{
+    match command {
+        SetupCommand::EnableAck => 0xF0,
+        SetupCommand::GetInformation => 0xF1,
+        SetupCommand::GetSettings => 0xF3,
+        SetupCommand::EraseSettings => 0xFD,
+        SetupCommand::SaveSettings => 0xFE,
+        SetupCommand::Reset => 0xFF,
+    }
 }
 
 fn transmission_numbers(m: Transmission, start: usize) -> ToModuleNumbers
@@ -95,6 +119,11 @@ fn request_numbers(request: Request, start: usize) -> ToModuleNumbers
             ..NO_MESSAGE
         },
         Request::Extended(m) => transmission_numbers(m, start),
+        Request::Settings => ToModuleNumbers {
+            kind: 5,
+            start: start,
+            ..NO_MESSAGE
+        },
     }
 }
 
@@ -108,6 +137,11 @@ fn to_module_numbers(answer: ToModule) -> ToModuleNumbers
             address: m.address,
             signals: m.signals,
             mask: m.mask,
+            ..NO_MESSAGE
+        },
+        ToModule::Setup(command) => ToModuleNumbers {
+            kind: 6,
+            command: setup_number(command),
             ..NO_MESSAGE
         },
         ToModule::Refused(refusal) => ToModuleNumbers {
@@ -149,7 +183,33 @@ fn request_in(n: ToModuleNumbers) -> NamedRequest
             n,
         )));
     }
+    if n.kind == 5 {
+        return NamedRequest::Known(Request::Settings);
+    }
     NamedRequest::Unknown
+}
+
+fn command_in(number: u8) -> NamedSetup
+    ensures { λ r. ⌜ r ≡ setupOf (commandOf number) ⌝ }
+{
+    match number {
+        0xF0 => NamedSetup::Known(SetupCommand::EnableAck),
+        0xF1 => NamedSetup::Known(SetupCommand::GetInformation),
+        0xF3 => NamedSetup::Known(SetupCommand::GetSettings),
+        0xFD => NamedSetup::Known(SetupCommand::EraseSettings),
+        0xFE => NamedSetup::Known(SetupCommand::SaveSettings),
+        0xFF => NamedSetup::Known(SetupCommand::Reset),
+        _ => NamedSetup::BadCommand,
+    }
+}
+
+fn setup_in(n: ToModuleNumbers) -> NamedSetup
+    ensures { λ r. ⌜ r ≡ setupIn n ⌝ }
+{
+    if n.kind == 6 {
+        return command_in(n.command);
+    }
+    NamedSetup::Unknown
 }
 
 // Reads a payload as a message to the module, as `message::read_to_module` does.
@@ -202,4 +262,24 @@ pub extern "C" fn boundary_write_output_change(
         mask: change.mask,
     };
     written_of(message::write_output_change(f, c, buf))
+}
+
+// Writes a command to the module itself as a frame, as `message::write_setup` does. A framing that stands for none, or a kind that is not 6, is refused with
+// 255, a command number that names none with 9; then buf stays.
+#[no_mangle]
+pub extern "C" fn boundary_write_setup(
+    framing: u8,
+    command: ToModuleNumbers,
+    buf: &mut [u8],
+) -> FlatWriting
+    ensures { λ r. ⌜ WritesSetup (framingOf framing) (setupIn command) (now (buf .entry)) r (now (buf .exit)) ⌝ }
+{
+    let NamedFraming::Known(f) = framing_of(framing) else {
+        return unwritten(255);
+    };
+    match setup_in(command) {
+        NamedSetup::Known(c) => written_of(message::write_setup(f, c, buf)),
+        NamedSetup::BadCommand => unwritten(9),
+        NamedSetup::Unknown => unwritten(255),
+    }
 }

@@ -8,11 +8,11 @@ use mathlib.Core.List.{List, [], _∷_, _++_}
 use mathlib.Core.Bool.{Bool, true, false, cond}
 use borrow.Author.Tests.{lt-ltb, le-ltb}
 use lib.Dec.{ltb}
-use lib.ListN.{length, take, length-append}
+use lib.ListN.{length, take, drop, length-append}
 use Rattle.frame.specs.Hex.{hex}
 use Rattle.frame.specs.Ascii.{lineFeed}
 use Rattle.io.specs.Digits.{digits, glyph, Fewest}
-use Rattle.message.specs.Number.{bytes4}
+use Rattle.message.specs.Number.{byteAt, bytes4}
 use Rattle.message.specs.Text.{text}
 use Rattle.message.specs.declared.simple.Simple.{Simple}
 use Rattle.message.specs.declared.from_module.Reception.{Reception}
@@ -21,7 +21,7 @@ use Rattle.message.specs.declared.from_module.Response.{Response}
 use Rattle.message.specs.declared.status.StandardStatus.{StandardStatus}
 use Rattle.message.specs.declared.status.RemoteStatus.{RemoteStatus}
 use Rattle.listing.specs.Line.{dataField, digitsOf, decimal, simpleLine, receptionLine, outcomeText, responseLine, standardLine, remoteLine}
-use Rattle.listing.specs.Line.{refusalLine, noiseLine}
+use Rattle.listing.specs.Line.{settingsLine, refusalLine, noiseLine}
 use Rattle.listing.specs.Parts.{fields, statusBytes}
 
 -- The end of a line.
@@ -44,6 +44,9 @@ standardRow bytes = text "standard" ++ fields 355 bytes
 
 abbrev pub remoteRow : List ℕ → List ℕ
 remoteRow bytes = text "remote" ++ fields 99 (take 8 bytes)
+
+abbrev pub settingsRow : List ℕ → List ℕ
+settingsRow p = text "settings" ++ fields 1 (byteAt p 1 ∷ [])
 
 -- A line is its word and fields, then what ends it.
 pub simple-parts : (m : Simple) (dat : List ℕ) → simpleRow m ++ (dataField dat ++ newline) ≡ simpleLine m dat ++ newline
@@ -69,6 +72,10 @@ pub remote-parts :
     remoteRow bytes ++ newline ≡ remoteLine m ++ newline
 unfolding remoteLine
 remote-parts m e = rw e
+
+pub settings-parts : (p : List ℕ) {rest : List ℕ} → rest ≡ drop 2 p → settingsRow p ++ (dataField rest ++ newline) ≡ settingsLine p ++ newline
+unfolding settingsLine
+settings-parts p e = rw e
 
 pub refusal-parts : (n : ℕ) → text "refused " ++ (decimal n ++ newline) ≡ refusalLine n ++ newline
 unfolding refusalLine

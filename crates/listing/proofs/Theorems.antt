@@ -17,10 +17,12 @@ use Rattle.frame.specs.Reader.{stateOf, sound}
 use Rattle.frame.specs.Single.{Writing, writingOf}
 use Rattle.frame.specs.Drain.{drain, ruleAfter}
 use Rattle.frame.specs.declared.reader.Reader.{Reader}
+use Rattle.settings.specs.List.{widthOf, listFrom, isList}
 use Rattle.message.specs.Address.{isPlain}
-use Rattle.message.specs.FromModule.{readFromModule, senderMeaning, responseMeaning, receptionMeaning, statusMeaning, standardMeaning, remoteMeaning}
+use Rattle.message.specs.FromModule.{readFromModule, fromItself, responseMeaning, ackMeaning, informationMeaning, settingsMeaning, controlMeaning}
+use Rattle.message.specs.FromModule.{senderMeaning, receptionMeaning, statusMeaning, standardMeaning, remoteMeaning}
 use Rattle.listing.specs.Line.{linesOf, noiseLine, decimal, lineOf, simpleLine, responseLine}
-use Rattle.listing.specs.Line.{receptionLine, standardLine, remoteLine, refusalLine}
+use Rattle.listing.specs.Line.{receptionLine, standardLine, remoteLine, settingsLine, refusalLine}
 use Rattle.listing.specs.Listing.{ListValues, valuesOf, Lists, chunkRefusal, endRefusal}
 use Rattle.listing.specs.Claims.{RunIsListing, RunExists, ChunkStaysInLimit, ChunkIsSmall, QuietIsSmall, TotalIsSmall, AnyCutIsListed}
 use Rattle.listing.specs.Claims.{ExampleIsListed, KindsAreListed}
@@ -114,9 +116,9 @@ total-is-small noise out a out′ p = by (leb 27 (length out)) refl (p .answers)
     by false h e l = (omega (arith, ap (λ (w : Writing). w .len) e), ap length l)
 
 pub kinds-are-listed : KindsAreListed
-unfolding digitOf isPlain readFromModule senderMeaning responseMeaning receptionMeaning statusMeaning standardMeaning remoteMeaning simpleLine receptionLine responseLine standardLine remoteLine refusalLine decimal lineOf
+unfolding digitOf isPlain widthOf listFrom isList readFromModule fromItself responseMeaning ackMeaning informationMeaning settingsMeaning controlMeaning senderMeaning receptionMeaning statusMeaning standardMeaning remoteMeaning simpleLine receptionLine responseLine standardLine remoteLine settingsLine refusalLine decimal lineOf
 kinds-are-listed = refl
 
 pub example-is-listed : ExampleIsListed
-unfolding byte test isDigit digitValue digitOf hexDigits lineEnd crLf afterDigits ascii join rule places outFrom isPlain readFromModule senderMeaning responseMeaning simpleLine responseLine decimal lineOf noiseLine
+unfolding byte test isDigit digitValue digitOf hexDigits lineEnd crLf afterDigits ascii join rule places outFrom isPlain readFromModule fromItself responseMeaning senderMeaning simpleLine responseLine decimal lineOf noiseLine
 example-is-listed = refl

@@ -1,5 +1,5 @@
 -- What follows from the promises: the calls over a segment print its listing, however it is cut into chunks. Document 01, end of "Frames to check
--- against", with its example.
+-- against", with its example; document 02, CR 1, for the lines of settings.
 use Prim.Native.Nat.{ℕ, _+_, _≤_}
 use mathlib.Core.Path.{_≡_}
 use mathlib.Core.List.{List, [], _∷_, _++_, flatten}
@@ -114,8 +114,15 @@ payloadsShown =
     ∷ 0x00 ∷ 0x0C ∷ 0x04 ∷ 0x22 ∷ 0x01 ∷ 0x00 ∷ 0xFF ∷ 0xFF ∷ 0xFF ∷ 0xFF ∷ 0xFF ∷ [])
     ∷ (0x78 ∷ 0x81 ∷ 0x0F ∷ 0x01 ∷ 0x75 ∷ 0x81 ∷ 0x00 ∷ 0x00 ∷ 0x38 ∷ 0x00 ∷ 0x26 ∷ 0xC9
     ∷ 0x00 ∷ 0xBE ∷ 0xEF ∷ 0x00 ∷ 0x01 ∷ 0x00 ∷ 0x00 ∷ 0x00 ∷ [])
+    ∷ (0xDB ∷ 0xF0 ∷ 0x01 ∷ [])
+    ∷ (0xDB ∷ 0xF1 ∷ 0x67 ∷ 0x72 ∷ 0x01 ∷ 0x02 ∷ 0x00 ∷ 0x01 ∷ 0x04 ∷ 0x07 ∷ 0x78 ∷ 0x81 ∷ 0x00 ∷ 0x00 ∷ 0x38 ∷ 0x00 ∷ 0x01 ∷ [])
+    ∷ (0xDB ∷ 0xF3 ∷ [])
+    ∷ (0xDB ∷ 0xF3 ∷ 0x03 ∷ 0x78 ∷ [])
+    ∷ (0xDB ∷ 0xF3 ∷ 0xFF ∷ [])
+    ∷ (0xDB ∷ 0xF8 ∷ 0x11 ∷ 0x01 ∷ [])
     ∷ (0x01 ∷ [])
     ∷ (0xDB ∷ 0xA1 ∷ 0x01 ∷ 0x02 ∷ [])
+    ∷ (0xDB ∷ 0xF3 ∷ 0x03 ∷ [])
     ∷ []
 
 abbrev pub KindsAreListed : Type 0
@@ -126,4 +133,11 @@ KindsAreListed =
     ++ (lineFeed ∷ (text "response 13 fail"
     ++ (lineFeed ∷ (text "standard 78 81000038 75 0C04 01"
     ++ (lineFeed ∷ (text "remote 78 81000038 75 BEEF"
-    ++ (lineFeed ∷ (text "refused 7" ++ (lineFeed ∷ (text "refused 11" ++ (lineFeed ∷ [])))))))))))))
+    ++ (lineFeed ∷ (text "settings F0 01"
+    ++ (lineFeed ∷ (text "settings F1 677201020001040778810000380001"
+    ++ (lineFeed ∷ (text "settings F3 -"
+    ++ (lineFeed ∷ (text "settings F3 0378"
+    ++ (lineFeed ∷ (text "settings F3 FF"
+    ++ (lineFeed ∷ (text "settings F8 1101"
+    ++ (lineFeed ∷ (text "refused 7"
+    ++ (lineFeed ∷ (text "refused 11" ++ (lineFeed ∷ (text "refused 17" ++ (lineFeed ∷ [])))))))))))))))))))))))))))

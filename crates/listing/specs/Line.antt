@@ -1,5 +1,5 @@
 -- The text that booth-list prints. Document 01, end of "Frames to check against": a line per frame, then the noise total in decimal. Fields are hex
--- capitals, empty data is `-`.
+-- capitals, empty data is `-`. Document 02, CR 1, has the line of settings.
 use Prim.Native.Nat.{ℕ, zero, suc, _+_, _/_, _%_}
 use mathlib.Core.List.{List, [], _∷_, _++_}
 use mathlib.Core.Bool.{cond}
@@ -10,16 +10,16 @@ use Rattle.frame.specs.Ascii.{lineFeed}
 use Rattle.message.specs.Text.{text}
 use Rattle.message.specs.FromModule.{readFromModule}
 use Rattle.message.specs.Meaning.{Meaning, refused, carrying, bare}
-use Rattle.message.specs.Number.{bytes2, bytes4}
+use Rattle.message.specs.Number.{byteAt, bytes2, bytes4}
 use Rattle.message.specs.declared.simple.Simple.{Simple}
 use Rattle.message.specs.declared.from_module.Reception.{Reception}
 use Rattle.message.specs.declared.from_module.Response.{Response}
 use Rattle.message.specs.declared.from_module.Outcome.{Outcome}
 use Rattle.message.specs.declared.from_module.Outcome.the-variants.{Failure, Success}
 use Rattle.message.specs.declared.from_module.Delivery.{Delivery}
-use Rattle.message.specs.declared.from_module.Delivery.the-variants.{Simple as SimpleDelivery, Extended as ExtendedDelivery}
+use Rattle.message.specs.declared.from_module.Delivery.the-variants.{Simple as SimpleDelivery, Extended as ExtendedDelivery, Settings}
 use Rattle.message.specs.declared.from_module.Notice.{Notice}
-use Rattle.message.specs.declared.from_module.Notice.the-variants.{Response as IsResponse, Standard, Remote}
+use Rattle.message.specs.declared.from_module.Notice.the-variants.{Response as IsResponse, Standard, Remote, Setup}
 use Rattle.message.specs.declared.status.StandardStatus.{StandardStatus}
 use Rattle.message.specs.declared.status.RemoteStatus.{RemoteStatus}
 
@@ -71,25 +71,31 @@ unfoldable pub remoteLine : RemoteStatus → List ℕ
 remoteLine m =
     text "remote" ++ (field (m .sender ∷ []) ++ (field (bytes4 (m .serial)) ++ (field (m .lqi ∷ []) ++ field (bytes2 (m .signals)))))
 
+-- settings CMD REST, of the payload p: its second byte, and all that follow
+unfoldable pub settingsLine : List ℕ → List ℕ
+settingsLine p = text "settings" ++ (field (byteAt p 1 ∷ []) ++ dataField (drop 2 p))
+
 -- refused N (decimal)
 unfoldable pub refusalLine : ℕ → List ℕ
 refusalLine n = text "refused " ++ decimal n
 
--- The line of a message with data, and of one without.
-abbrev pub deliveryLine : Delivery → List ℕ → List ℕ
-deliveryLine (SimpleDelivery m) dat = simpleLine m dat
-deliveryLine (ExtendedDelivery m) dat = receptionLine m dat
+-- The line of a message with data, and of one without, from the payload p.
+abbrev pub deliveryLine : List ℕ → Delivery → List ℕ → List ℕ
+deliveryLine p (SimpleDelivery m) dat = simpleLine m dat
+deliveryLine p (ExtendedDelivery m) dat = receptionLine m dat
+deliveryLine p Settings dat = settingsLine p
 
-abbrev pub noticeLine : Notice → List ℕ
-noticeLine (IsResponse m) = responseLine m
-noticeLine (Standard m) = standardLine m
-noticeLine (Remote m) = remoteLine m
+abbrev pub noticeLine : List ℕ → Notice → List ℕ
+noticeLine p (IsResponse m) = responseLine m
+noticeLine p (Standard m) = standardLine m
+noticeLine p (Remote m) = remoteLine m
+noticeLine p (Setup m) = settingsLine p
 
 -- The line of what a payload p means.
 abbrev pub meaningLine : List ℕ → Meaning Delivery Notice → List ℕ
 meaningLine p (refused n) = refusalLine n
-meaningLine p (carrying m start) = deliveryLine m (drop start p)
-meaningLine p (bare m) = noticeLine m
+meaningLine p (carrying m start) = deliveryLine p m (drop start p)
+meaningLine p (bare m) = noticeLine p m
 
 -- The line of a frame with the payload p, from the module.
 unfoldable pub lineOf : List ℕ → List ℕ

@@ -20,7 +20,7 @@ ghost use lib.ListN.{length};
 ghost use Rattle.frame.specs.Ascii.{lineFeed};
 ghost use Rattle.message.specs.Put.{Puts};
 ghost use Rattle.message.specs.Refusal.{numberOf};
-ghost use Rattle.listing.specs.Line.{simpleLine, receptionLine, responseLine, standardLine, remoteLine, refusalLine, lineOf};
+ghost use Rattle.listing.specs.Line.{simpleLine, receptionLine, responseLine, standardLine, remoteLine, settingsLine, refusalLine, lineOf};
 ghost use mathlib.Core.Path.{_≡_};
 ghost use Rattle.listing.specs.Parts.{statusBytes};
 
@@ -108,6 +108,17 @@ fn put_remote(status: RemoteStatus, out: &mut [u8], at: usize) -> usize
     put_row_line(out, at, b"remote", &bytes[..8], 0b1100011)
 }
 
+// The line of a message that sets up the module, from its payload.
+fn put_settings(payload: &[u8], out: &mut [u8], at: usize) -> usize
+    requires { ⌜ 2 ≤ length (now payload) ⌝ }
+    requires { ⌜ at + length (settingsLine (now payload) ++ (lineFeed ∷ [])) ≤ length (now out) ⌝ }
+    ensures { λ r. ⌜ Puts (now (out .entry)) at (settingsLine (now (payload .entry)) ++ (lineFeed ∷ [])) r (now (out .exit)) ⌝ }
+{
+    let bytes = [payload[1]];
+    let end = put_row(out, at, b"settings", &bytes, 0b1);
+    put_data(out, end, &payload[2..])
+}
+
 fn put_refusal(refusal: Refusal, out: &mut [u8], at: usize) -> usize
     requires { ⌜ at + length (refusalLine (numberOf refusal) ++ (lineFeed ∷ [])) ≤ length (now out) ⌝ }
     ensures { λ r. ⌜ Puts (now (out .entry)) at (refusalLine (numberOf refusal) ++ (lineFeed ∷ [])) r (now (out .exit)) ⌝ }
@@ -128,12 +139,14 @@ pub(crate) fn put_line(payload: &[u8], out: &mut [u8], at: usize) -> usize
             match delivery {
                 Delivery::Simple(m) => put_simple(m, data, out, at),
                 Delivery::Extended(m) => put_reception(m, data, out, at),
+                Delivery::Settings => put_settings(payload, out, at),
             }
         }
         FromModule::Notice(notice) => match notice {
             Notice::Response(m) => put_response(m, out, at),
             Notice::Standard(m) => put_standard(m, out, at),
             Notice::Remote(m) => put_remote(m, out, at),
+            Notice::Setup(_) => put_settings(payload, out, at),
         },
         FromModule::Refused(refusal) => put_refusal(refusal, out, at),
     }

@@ -151,6 +151,34 @@ fn show_kinds() {
     );
 }
 
+// What the module says of itself when it is set up, and the refusals of that.
+fn show_settings() {
+    show(
+        b"settings",
+        b":DBF00134\r\n:DBF16772010200010407788100003800011A\r\n:DBF332\r\n:DBF30378B7\r\n:DBF3FF33\r\n:DBF3FF0033\r\n:DBF811011B\r\n:DBF811001C\r\n",
+    );
+    show(
+        b"every setting",
+        b":DBF3FF010C0D0A0AA0A1A2A3A4A5A6A7A8A9AAABACADAEAF09010801070001C200060205020400037802008301000400000067720102BC\r\n",
+    );
+    show(
+        b"settings refused 7",
+        b":DBF035\r\n:DBF0010034\r\n:DBF167720102000104077881000038001B\r\n:DBF1677201020001040778810000380001001A\r\n:DBF8111C\r\n:DBF81100001C\r\n",
+    );
+    show(
+        b"settings refused 9",
+        b":DBF233\r\n:DBF40130\r\n:DBFF26\r\n",
+    );
+    show(
+        b"settings refused 11",
+        b":DBF00035\r\n:DBF810011C\r\n:DBF811021A\r\n",
+    );
+    show(
+        b"refused 17",
+        b":DBF30B0027\r\n:DBF3030003002C\r\n:DBF3020030\r\n:DBF3032F\r\n:DBF30378FFB8\r\n",
+    );
+}
+
 // Damage: what is no frame, and good frames behind it.
 fn show_damage() {
     show(b"wrong checksum", b":00010203FB\r\n:DBA1120171\r\n");
@@ -165,9 +193,10 @@ fn show_damage() {
     show(b"unfinished at the end", b":DBA1120171\r\n:00010203FA\r");
 }
 
-// Lists every segment of the two groups, then the longest frames, then one that is too long.
+// Lists every segment of the three groups, then the longest frames, then one that is too long.
 fn main() {
     show_kinds();
+    show_settings();
     show_damage();
     show_longest(b"longest simple", &[1, 2]);
     show_longest(

@@ -2,50 +2,40 @@
 -- Assumes nothing.
 use Prim.Native.Nat.{ℕ, _-_, _≤_, _<_}
 use mathlib.Core.Path.{_≡_}
-use mathlib.Core.Bool.{true, false}
 use mathlib.Core.List.{List}
 use borrow.Author.Tests.{lt-ltb, le-ltb, le-leb, lt-leb, eq-eqb, ne-eqb}
 use lib.ListN.{length}
 use Rattle.message.specs.Number.{byteAt, wordAt, longAt}
-use Rattle.message.specs.Address.{isPlain}
 use Rattle.message.specs.Meaning.{refused, carrying, bare}
 use Rattle.message.specs.FromModule.{responseMeaning, receptionMeaning, standardMeaning, remoteMeaning, statusMeaning}
-use Rattle.message.specs.FromModule.{senderMeaning, readFromModule}
+use Rattle.message.specs.FromModule.{ackMeaning, informationMeaning, settingsMeaning, controlMeaning, fromItself, senderMeaning}
 use Rattle.message.specs.Status.{standardAt, remoteAt}
 use Rattle.message.specs.declared.from_module.Delivery.the-variants.{Simple as SimpleDelivery, Extended as ExtendedDelivery}
 use Rattle.message.specs.declared.from_module.Outcome.the-variants.{Failure, Success}
 use Rattle.message.specs.declared.from_module.Notice.the-variants.{Response as IsResponse, Standard, Remote}
 
 module _ (p : List ℕ) where
-  -- A response: 9.
-  pub response-command : (byteAt p 1 ≡ 0xA1 → ⊥) → refused 9 ≡ responseMeaning p
+  -- A response: 7.
+  pub response-length : (length p ≡ 4 → ⊥) → refused 7 ≡ responseMeaning p
   unfolding responseMeaning
-  response-command h = simp (ne-eqb (byteAt p 1) 0xA1 h)
+  response-length h = simp (ne-eqb (length p) 4 h)
 
-  module _ (command : byteAt p 1 ≡ 0xA1) where
-    -- 7.
-    pub response-length : (length p ≡ 4 → ⊥) → refused 7 ≡ responseMeaning p
+  module _ (four : length p ≡ 4) where
+    -- The result 0.
+    pub response-failure : byteAt p 3 ≡ 0 → bare (IsResponse (record { id = byteAt p 2; outcome = Failure })) ≡ responseMeaning p
     unfolding responseMeaning
-    response-length h = simp (eq-eqb (byteAt p 1) 0xA1 command, ne-eqb (length p) 4 h)
+    response-failure h = simp (eq-eqb (length p) 4 four, eq-eqb (byteAt p 3) 0 h)
 
-    module _ (four : length p ≡ 4) where
-      -- The result 0.
-      pub response-failure : byteAt p 3 ≡ 0 → bare (IsResponse (record { id = byteAt p 2; outcome = Failure })) ≡ responseMeaning p
-      unfolding responseMeaning
-      response-failure h = simp (eq-eqb (byteAt p 1) 0xA1 command, eq-eqb (length p) 4 four, eq-eqb (byteAt p 3) 0 h)
+    -- The result 1.
+    pub response-success : (byteAt p 3 ≡ 0 → ⊥) → byteAt p 3 ≡ 1 →
+        bare (IsResponse (record { id = byteAt p 2; outcome = Success })) ≡ responseMeaning p
+    unfolding responseMeaning
+    response-success k h = simp (eq-eqb (length p) 4 four, ne-eqb (byteAt p 3) 0 k, eq-eqb (byteAt p 3) 1 h)
 
-      -- The result 1.
-      pub response-success : (byteAt p 3 ≡ 0 → ⊥) → byteAt p 3 ≡ 1 →
-          bare (IsResponse (record { id = byteAt p 2; outcome = Success })) ≡ responseMeaning p
-      unfolding responseMeaning
-      response-success k h =
-          simp (eq-eqb (byteAt p 1) 0xA1 command, eq-eqb (length p) 4 four, ne-eqb (byteAt p 3) 0 k, eq-eqb (byteAt p 3) 1 h)
-
-      -- Any other result: 11.
-      pub response-result : (byteAt p 3 ≡ 0 → ⊥) → (byteAt p 3 ≡ 1 → ⊥) → refused 11 ≡ responseMeaning p
-      unfolding responseMeaning
-      response-result k h =
-          simp (eq-eqb (byteAt p 1) 0xA1 command, eq-eqb (length p) 4 four, ne-eqb (byteAt p 3) 0 k, ne-eqb (byteAt p 3) 1 h)
+    -- Any other result: 11.
+    pub response-result : (byteAt p 3 ≡ 0 → ⊥) → (byteAt p 3 ≡ 1 → ⊥) → refused 11 ≡ responseMeaning p
+    unfolding responseMeaning
+    response-result k h = simp (eq-eqb (length p) 4 four, ne-eqb (byteAt p 3) 0 k, ne-eqb (byteAt p 3) 1 h)
 
   -- An extended message: 7.
   pub reception-short : length p < 14 → refused 7 ≡ receptionMeaning p
@@ -108,34 +98,43 @@ module _ (p : List ℕ) where
   unfolding statusMeaning
   status-length k h = simp (ne-eqb (length p) 23 k, ne-eqb (length p) 20 h)
 
-  -- Reading: 7 under 2 bytes.
-  pub module-short : length p < 2 → refused 7 ≡ readFromModule p
-  unfolding readFromModule
-  module-short h = simp (lt-leb 2 (length p) h)
+  -- The module itself: a response.
+  pub itself-response : byteAt p 1 ≡ 0xA1 → responseMeaning p ≡ fromItself p
+  unfolding fromItself
+  itself-response e = rw e
 
-  module _ (some : 2 ≤ length p) where
-    -- 7 over 256 bytes.
-    pub module-long : 256 < length p → refused 7 ≡ readFromModule p
-    unfolding readFromModule
-    module-long h = simp (le-leb 2 (length p) some, lt-leb (length p) 256 h)
+  -- An acknowledgement.
+  pub itself-ack : byteAt p 1 ≡ 0xF0 → ackMeaning p ≡ fromItself p
+  unfolding fromItself
+  itself-ack e = rw e
 
-    module _ (most : length p ≤ 256) where
-      -- Behind DB.
-      pub module-response : byteAt p 0 ≡ 0xDB → responseMeaning p ≡ readFromModule p
-      unfolding readFromModule
-      module-response h = simp (le-leb 2 (length p) some, le-leb (length p) 256 most, eq-eqb (byteAt p 0) 0xDB h)
+  -- The module's information.
+  pub itself-information : byteAt p 1 ≡ 0xF1 → informationMeaning p ≡ fromItself p
+  unfolding fromItself
+  itself-information e = rw e
 
-      module _ (other : byteAt p 0 ≡ 0xDB → ⊥) where
-        -- 8.
-        pub module-address : isPlain (byteAt p 0) ≡ false → refused 8 ≡ readFromModule p
-        unfolding readFromModule
-        module-address h = simp (le-leb 2 (length p) some, le-leb (length p) 256 most, ne-eqb (byteAt p 0) 0xDB other, h)
+  -- The module's settings.
+  pub itself-settings : byteAt p 1 ≡ 0xF3 → settingsMeaning p ≡ fromItself p
+  unfolding fromItself
+  itself-settings e = rw e
 
-        module _ (plain : isPlain (byteAt p 0) ≡ true) where
-          -- Behind a plain address.
-          pub module-sender : senderMeaning p ≡ readFromModule p
-          unfolding readFromModule
-          module-sender = simp (le-leb 2 (length p) some, le-leb (length p) 256 most, ne-eqb (byteAt p 0) 0xDB other, plain)
+  -- The state of silent mode.
+  pub itself-control : byteAt p 1 ≡ 0xF8 → controlMeaning p ≡ fromItself p
+  unfolding fromItself
+  itself-control e = rw e
+
+  -- 9.
+  pub itself-command : (byteAt p 1 ≡ 0xA1 → ⊥) → (byteAt p 1 ≡ 0xF0 → ⊥) → (byteAt p 1 ≡ 0xF1 → ⊥) → (byteAt p 1 ≡ 0xF3 → ⊥)
+      → (byteAt p 1 ≡ 0xF8 → ⊥) → refused 9 ≡ fromItself p
+  unfolding fromItself
+  itself-command response ack information settings control =
+      simp (
+        ne-eqb (byteAt p 1) 0xA1 response,
+        ne-eqb (byteAt p 1) 0xF0 ack,
+        ne-eqb (byteAt p 1) 0xF1 information,
+        ne-eqb (byteAt p 1) 0xF3 settings,
+        ne-eqb (byteAt p 1) 0xF8 control,
+      )
 
   -- A plain address: a simple message.
   pub sender-simple : byteAt p 1 < 0x80 →

@@ -7,9 +7,9 @@ use mathlib.Core.Bool.{true, false}
 use borrow.Author.Tests.{eq-eqb, ne-eqb, le-leb, lt-leb, lt-ltb, le-ltb}
 use lib.ListN.{length}
 use Rattle.message.specs.Number.{byteAt, wordAt, longAt}
-use Rattle.message.specs.Address.{isPlain, isExtended}
-use Rattle.message.specs.Meaning.{refused, carrying, bare}
-use Rattle.message.specs.ToModule.{requestAt, toExtendedAddress, outputChangeAt, toPlainAddress, readToModule}
+use Rattle.message.specs.Address.{isExtended}
+use Rattle.message.specs.Meaning.{refused, carrying, bare, byPlain}
+use Rattle.message.specs.ToModule.{change, requestAt, toExtendedAddress, outputChangeAt, toPlainAddress, toAddress}
 use Rattle.message.specs.declared.to_module.Address.the-variants.{Plain, Extended as ExtendedAddress}
 use Rattle.message.specs.declared.to_module.Request.the-variants.{Simple as SimpleRequest}
 
@@ -39,7 +39,7 @@ module _ (p : List ℕ) where
 
       -- The message.
       pub change-read : longAt p 7 ≡ 0 → longAt p 11 ≡ 0
-          → bare (record { address = byteAt p 0; signals = wordAt p 3; mask = wordAt p 5 }) ≡ outputChangeAt p
+          → bare (change (record { address = byteAt p 0; signals = wordAt p 3; mask = wordAt p 5 })) ≡ outputChangeAt p
       unfolding outputChangeAt
       change-read z y = simp (eq-eqb (length p) 15 l, eq-eqb (byteAt p 2) 1 one, eq-eqb (longAt p 7) 0 z, eq-eqb (longAt p 11) 0 y)
 
@@ -66,36 +66,19 @@ module _ (p : List ℕ) where
     unfolding toExtendedAddress
     extended-read h x = simp (eq-eqb (byteAt p 1) 0xA0 e, le-leb 7 (length p) h, x)
 
--- Reading a message to the module: each way out.
+-- Reading a message with an address: each way out.
 module _ (p : List ℕ) where
-  -- Under 2 bytes (7).
-  pub read-short : length p < 2 → refused 7 ≡ readToModule p
-  unfolding readToModule
-  read-short h = simp (lt-leb 2 (length p) h)
+  -- An extended address.
+  pub to-extended : byteAt p 0 ≡ 0x80 → toExtendedAddress p ≡ toAddress p
+  unfolding toAddress
+  to-extended e = simp (eq-eqb (byteAt p 0) 0x80 e)
 
-  -- Over 256 bytes (7).
-  pub read-long : 2 ≤ length p → 256 < length p → refused 7 ≡ readToModule p
-  unfolding readToModule
-  read-long some h = simp (le-leb 2 (length p) some, lt-leb (length p) 256 h)
+  -- Any other, which must be a plain one.
+  pub to-other : (byteAt p 0 ≡ 0x80 → ⊥) → byPlain toPlainAddress p ≡ toAddress p
+  unfolding toAddress
+  to-other n = simp (ne-eqb (byteAt p 0) 0x80 n)
 
-  module _ (some : 2 ≤ length p) (most : length p ≤ 256) where
-    -- An extended address.
-    pub read-extended : byteAt p 0 ≡ 0x80 → toExtendedAddress p ≡ readToModule p
-    unfolding readToModule
-    read-extended e = simp (le-leb 2 (length p) some, le-leb (length p) 256 most, eq-eqb (byteAt p 0) 0x80 e)
-
-    module _ (not-extended : byteAt p 0 ≡ 0x80 → ⊥) where
-      -- The address (8).
-      pub read-address : isPlain (byteAt p 0) ≡ false → refused 8 ≡ readToModule p
-      unfolding readToModule
-      read-address x = simp (le-leb 2 (length p) some, le-leb (length p) 256 most, ne-eqb (byteAt p 0) 0x80 not-extended, x)
-
-      -- A plain address.
-      pub read-plain : isPlain (byteAt p 0) ≡ true → toPlainAddress p ≡ readToModule p
-      unfolding readToModule
-      read-plain x = simp (le-leb 2 (length p) some, le-leb (length p) 256 most, ne-eqb (byteAt p 0) 0x80 not-extended, x)
-
-  -- A simple message.
+  -- A plain address: a simple message.
   pub plain-simple : byteAt p 1 < 0x80 → carrying (SimpleRequest (record { address = byteAt p 0; command = byteAt p 1 })) 2 ≡ toPlainAddress p
   unfolding toPlainAddress
   plain-simple h = simp (lt-ltb (byteAt p 1) 0x80 h)

@@ -19,17 +19,19 @@ use Rattle.frame.specs.declared.refusal.Refusal.the-variants.{Start, Cut, Lengt
 use Rattle.frame.specs.declared.refusal.Refusal.the-variants.{Buffer as FrameBuffer, Payload as FramePayload, Chunk, State}
 use Rattle.frame.specs.declared.single.WriteAnswer.{WriteAnswer as FrameAnswer}
 use Rattle.frame.specs.declared.single.WriteAnswer.the-variants.{Refused as FrameRefused}
+use Rattle.settings.specs.List.{isList}
 use Rattle.message.specs.Address.{isPlain, plainRefusal}
 use Rattle.message.specs.Options.{retryAllowed}
 use Rattle.message.specs.Put.{Puts}
 use Rattle.message.specs.Refusal.{numberOf}
+use Rattle.message.specs.Setup.{settingsRefusal}
 use Rattle.message.specs.Simple.{simpleRefusal}
 use Rattle.message.specs.ToModule.{addressBytes}
 use Rattle.message.specs.ToModule.{addressAllowed, transmissionRefusal}
 use Rattle.message.specs.Write.{writtenOf, Writes}
 use Rattle.message.specs.declared.refusal.Refusal.{Refusal}
 use Rattle.message.specs.declared.refusal.Refusal.the-variants.{Length, Address as BadAddress, Command, Option}
-use Rattle.message.specs.declared.refusal.Refusal.the-variants.{Field, Count, Buffer, Payload}
+use Rattle.message.specs.declared.refusal.Refusal.the-variants.{Field, Count, Buffer, Payload, Identifier}
 use Rattle.message.specs.declared.to_module.Address.{Address}
 use Rattle.message.specs.declared.to_module.Address.the-variants.{Plain, Extended as ExtendedAddress}
 use Rattle.message.specs.declared.simple.Simple.{Simple}
@@ -47,6 +49,7 @@ refusal-numbered Field = refl
 refusal-numbered Count = refl
 refusal-numbered Buffer = refl
 refusal-numbered Payload = refl
+refusal-numbered Identifier = refl
 
 -- No refusal of a frame has the number 0.
 frame-numbered : (r : FrameRefusal) → 1 ≤ frameNumber r
@@ -224,3 +227,13 @@ module _ {f : Framing} (a : ℕ) {p buf : List ℕ} where
   -- A payload over 256 bytes (14).
   pub plain-payload : isPlain a ≡ true → 256 < length p → Writes f (plainRefusal a) p buf (Refused Payload) buf
   plain-payload plain h = plain-written plain (writes-payload f p buf h)
+
+-- Why settings are not written.
+module _ {f : Framing} (list : List ℕ) {p buf : List ℕ} where
+  -- No settings list (17).
+  pub settings-refused : isList list ≡ false → Writes f (settingsRefusal list) p buf (Refused Identifier) buf
+  settings-refused h = record { answers = simp h; leaves = simp h }
+
+  -- They are written.
+  pub settings-written : isList list ≡ true → {r : WriteAnswer} {after : List ℕ} → Writes f 0 p buf r after → Writes f (settingsRefusal list) p buf r after
+  settings-written good w = rw good w

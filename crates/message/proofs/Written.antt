@@ -13,7 +13,6 @@ use Rattle.frame.specs.Framing.{layout, inFront}
 use Rattle.frame.specs.Single.{Writing, noWriting, writable}
 use Rattle.frame.specs.declared.framing.Framing.{Framing}
 use Rattle.message.specs.Write.{Writes}
-use Rattle.message.specs.Claims.{CanWrite}
 use Rattle.message.specs.declared.write.WriteAnswer.the-variants.{Written}
 use Rattle.message.proofs.Numbers.{both-true}
 
@@ -52,8 +51,9 @@ wrote f refusal p buf len after h =
     }
 
 -- Where all its tests hold, a write answers with the frame's length.
-pub can-write : CanWrite
-can-write f refusal p buf none some most room =
+pub wrote-back : (f : Framing) (refusal : ℕ) (p buf : List ℕ) → refusal ≡ 0 → 1 ≤ length p → length p ≤ 256 → length (layout f p) ≤ length buf →
+    Writes f refusal p buf (Written (length (layout f p))) (inFront (layout f p) buf)
+wrote-back f refusal p buf none some most room =
     let allowed = eq-eqb refusal 0 none in
     let least = le-leb 1 (length p) some in
     let short = le-leb (length p) 256 most in

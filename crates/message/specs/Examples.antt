@@ -1,4 +1,5 @@
--- All starred rows of document 01, "Frames to check against", and payloads of each kind and refusal: one table, and one statement that is computed.
+-- All starred rows of document 01, "Frames to check against", and payloads of each kind and refusal, those of document 02, CR 1, among them: one table,
+-- and one statement that is computed.
 use Prim.Native.Nat.{ℕ}
 use mathlib.Core.Path.{_≡_}
 use mathlib.Core.List.{List, [], _∷_, _++_, map}
@@ -7,7 +8,7 @@ use lib.Dec.{leb}
 use lib.ListN.{length, take, drop, replicate}
 use Rattle.frame.specs.Checks.{Verdict}
 use Rattle.frame.specs.Framing.{read}
-use Rattle.frame.specs.Single.{Reading, reading, readInto}
+use Rattle.frame.specs.Single.{Reading, reading, readInto, Writing}
 use Rattle.frame.specs.Reader.{State, Called, line, quiet, after, stateOf, newReader, Values, valuesAt, bufferAt, feedRefusal, quietRefusal}
 use Rattle.frame.specs.declared.framing.Framing.{Framing}
 use Rattle.frame.specs.declared.framing.Framing.the-variants.{Binary, Ascii}
@@ -15,30 +16,36 @@ use Rattle.frame.specs.declared.reader.Reader.{Reader}
 use Rattle.message.specs.Text.{text}
 use Rattle.message.specs.Meaning.{Meaning, refused, carrying, bare}
 use Rattle.message.specs.Options.{noOptions}
-use Rattle.message.specs.ToModule.{readToModule}
+use Rattle.message.specs.ToModule.{Order, change, setup, readToModule}
 use Rattle.message.specs.FromModule.{readFromModule}
 use Rattle.message.specs.Status.{millivolts}
+use Rattle.message.specs.Write.{messageWriting}
+use Rattle.message.specs.Claims.{Kind, requests, orders, deliveries, notices, family}
 use Rattle.message.specs.AnyOrder.{sheetOptions}
 use Rattle.message.specs.declared.options.Options.{Options}
 use Rattle.message.specs.declared.options.MaybeByte.the-variants.{NotGiven as NoByte, Given as Byte}
 use Rattle.message.specs.declared.options.MaybeWord.the-variants.{NotGiven as NoWord, Given as Word}
+use Rattle.message.specs.declared.setup.SetupCommand.{SetupCommand}
+use Rattle.message.specs.declared.setup.SetupCommand.the-variants.{EnableAck, GetInformation, GetSettings, EraseSettings, SaveSettings, Reset}
+use Rattle.message.specs.declared.setup.SetupReport.{SetupReport}
+use Rattle.message.specs.declared.setup.SetupReport.the-variants.{Acknowledged, Information as IsInformation, SettingsFailed, SilentMode}
 use Rattle.message.specs.declared.to_module.Address.the-variants.{Plain, Extended as ExtendedAddress}
 use Rattle.message.specs.declared.to_module.Request.{Request}
-use Rattle.message.specs.declared.to_module.Request.the-variants.{Simple as SimpleRequest, Extended as ExtendedRequest}
-use Rattle.message.specs.declared.to_module.OutputChange.{OutputChange}
+use Rattle.message.specs.declared.to_module.Request.the-variants.{Simple as SimpleRequest, Extended as ExtendedRequest, Settings as SettingsRequest}
 use Rattle.message.specs.declared.from_module.Delivery.{Delivery}
-use Rattle.message.specs.declared.from_module.Delivery.the-variants.{Simple as SimpleDelivery, Extended as ExtendedDelivery}
+use Rattle.message.specs.declared.from_module.Delivery.the-variants.{Simple as SimpleDelivery, Extended as ExtendedDelivery, Settings as SettingsDelivery}
 use Rattle.message.specs.declared.from_module.Notice.{Notice}
-use Rattle.message.specs.declared.from_module.Notice.the-variants.{Response as IsResponse, Standard, Remote}
+use Rattle.message.specs.declared.from_module.Notice.the-variants.{Response as IsResponse, Standard, Remote, Setup}
 use Rattle.message.specs.declared.from_module.Outcome.the-variants.{Success}
 use Rattle.message.specs.declared.status.StandardStatus.{StandardStatus}
 use Rattle.message.specs.declared.status.Channel.the-variants.{One, Two, Three, Four}
 
 -- What a row says of a call or of a payload: a call's refusal number, 0 for none, the bytes used or taken, the noise and the payloads handed out;
--- or a message with its data, in a direction.
+-- a message with its data, in a direction; or a write's refusal number and length.
 pub data Said : Type 0 where
   call : (number bytes noise : ℕ) → List (List ℕ) → Said
-  to : Meaning Request OutputChange → List ℕ → Said
+  to : Meaning Request Order → List ℕ → Said
+  writing : (number len : ℕ) → Said
   from : Meaning Delivery Notice → List ℕ → Said
 
 -- A lent buffer.
@@ -73,12 +80,14 @@ module _ {A B : Type 0} where
   dataIn (carrying m start) p = drop start p
   dataIn (bare m) p = []
 
--- What a row asks: a single read; a line call of a new reader over the whole segment and then two quiet calls; the meaning of a payload.
+-- What a row asks: a single read; a line call of a new reader over the whole segment and then two quiet calls; the meaning of a payload; a write of a message
+-- into a buffer of so many bytes.
 pub data Ask : Type 0 where
   single : Framing → List ℕ → Ask
   segment : Framing → List ℕ → Ask
   toModule : List ℕ → Ask
   fromModule : List ℕ → Ask
+  write : Framing → (k : Kind) → family k .Message → ℕ → Ask
 
 abbrev pub answers : Ask → List Said
 answers (single f s) = singleRead (read f s) ∷ []
@@ -94,6 +103,9 @@ answers (segment f s) =
     ∷ []
 answers (toModule p) = to (readToModule p) (dataIn (readToModule p) p) ∷ []
 answers (fromModule p) = from (readFromModule p) (dataIn (readFromModule p) p) ∷ []
+answers (write f k m room) =
+    let w : Writing = messageWriting f (family k .refusalOf m) (family k .layoutOf m) room in
+    writing (w .number) (w .len) ∷ []
 
 -- A row: what is asked, and what is answered.
 pub record Row : Type 0 where
@@ -179,10 +191,9 @@ toRows =
     (0xAB ∷ 0xCD ∷ 0xEF ∷ [])
     ∷ [])
     ∷ row (toModule (0x78 ∷ 0x80 ∷ 0x01 ∷ 0x00 ∷ 0x0F ∷ 0x01 ∷ 0x03 ∷ replicate 8 0x00))
-    (to (bare (record { address = 0x78; signals = 0x000F; mask = 0x0103 })) [] ∷ [])
+    (to (bare (change (record { address = 0x78; signals = 0x000F; mask = 0x0103 }))) [] ∷ [])
     ∷ toRefused (0x00 ∷ 0xA0 ∷ []) 7
     ∷ toRefused (0x80 ∷ 0xA0 ∷ 0x01 ∷ 0x00 ∷ 0x00 ∷ 0x00 ∷ []) 7
-    ∷ toRefused (0xDB ∷ 0xA1 ∷ 0x12 ∷ 0x01 ∷ []) 8
     ∷ toRefused (0x80 ∷ 0xA0 ∷ 0x01 ∷ 0x00 ∷ 0x01 ∷ 0x00 ∷ 0x00 ∷ []) 8
     ∷ toRefused (0x80 ∷ 0x80 ∷ []) 9
     ∷ toRefused (0x80 ∷ 0xA0 ∷ 0x01 ∷ 0x00 ∷ 0x00 ∷ 0xFF ∷ 0xFF ∷ []) 10
@@ -428,8 +439,112 @@ edgeRows =
     ∷ toRefused (0x00 ∷ 0xA0 ∷ 0x12 ∷ 0x02 ∷ 0x90 ∷ 0xFF ∷ []) 10
     ∷ []
 
--- Each row is answered as document 01 says.
+-- Setting up the module (CR 1). A settings list in each direction, and a command or a report without one.
+abbrev toSettings : List ℕ → Row
+toSettings list = row (toModule (0xDB ∷ 0xF2 ∷ list)) (to (carrying SettingsRequest 2) list ∷ [])
+
+abbrev fromSettings : List ℕ → Row
+fromSettings list = row (fromModule (0xDB ∷ 0xF3 ∷ list)) (from (carrying SettingsDelivery 2) list ∷ [])
+
+abbrev toSetup : ℕ → SetupCommand → Row
+toSetup number c = row (toModule (0xDB ∷ number ∷ [])) (to (bare (setup c)) [] ∷ [])
+
+abbrev fromSetup : List ℕ → SetupReport → Row
+fromSetup p m = row (fromModule p) (from (bare (Setup m)) [] ∷ [])
+
+-- A list of three settings that do not ascend: the mode, the application ID, the error.
+abbrev threeSettings : List ℕ
+threeSettings = 0x06 ∷ 0x01 ∷ 0x00 ∷ 0x67 ∷ 0x72 ∷ 0x01 ∷ 0x02 ∷ 0xFF ∷ 0x00 ∷ []
+
+-- Each message, and a refusal for each of its causes: 9 for commands of the other direction, F8 and A1 among them, and for others; 7 for a byte too many or
+-- too few; 11 for another 01, 11 or state; 17 for an identifier unknown, repeated or cut. The frame that sheet 000 prints has the payload DB F8 10.
+abbrev pub setupRows : List Row
+setupRows =
+    toSetup 0xF0 EnableAck
+    ∷ toSetup 0xF1 GetInformation
+    ∷ toSetup 0xF3 GetSettings
+    ∷ toSetup 0xFD EraseSettings
+    ∷ toSetup 0xFE SaveSettings
+    ∷ toSetup 0xFF Reset
+    ∷ toSettings []
+    ∷ toSettings threeSettings
+    ∷ toRefused (0xDB ∷ 0xF8 ∷ 0x10 ∷ []) 9
+    ∷ toRefused (0xDB ∷ 0xA1 ∷ 0x12 ∷ 0x01 ∷ []) 9
+    ∷ toRefused (0xDB ∷ 0xF4 ∷ []) 9
+    ∷ toRefused (0xDB ∷ 0xF0 ∷ 0x01 ∷ []) 7
+    ∷ toRefused (0xDB ∷ 0xF1 ∷ 0x00 ∷ []) 7
+    ∷ toRefused (0xDB ∷ 0xF3 ∷ 0xFF ∷ []) 7
+    ∷ toRefused (0xDB ∷ 0xFD ∷ 0x00 ∷ []) 7
+    ∷ toRefused (0xDB ∷ 0xFE ∷ 0x00 ∷ []) 7
+    ∷ toRefused (0xDB ∷ 0xFF ∷ 0x00 ∷ []) 7
+    ∷ toRefused (0xDB ∷ 0xF2 ∷ 0xFF ∷ []) 17
+    ∷ toRefused (0xDB ∷ 0xF2 ∷ 0x0B ∷ 0x00 ∷ []) 17
+    ∷ toRefused (0xDB ∷ 0xF2 ∷ 0x03 ∷ 0x01 ∷ 0x03 ∷ 0x01 ∷ []) 17
+    ∷ fromSetup (0xDB ∷ 0xF0 ∷ 0x01 ∷ []) Acknowledged
+    ∷ fromSetup
+    (0xDB ∷ 0xF1 ∷ 0x67 ∷ 0x72 ∷ 0x01 ∷ 0x02 ∷ 0x00 ∷ 0x01 ∷ 0x04 ∷ 0x07 ∷ 0x78 ∷ 0x82 ∷ 0x03 ∷ 0x68 ∷ 0x41 ∷ 0x05 ∷ 0x06 ∷ [])
+    (IsInformation
+    (record { application = 0x67720102; version = 0x00010407; device = 0x78; serial = 0x82036841; silent = 0x05; network = 0x06 }))
+    ∷ fromSettings []
+    ∷ fromSettings threeSettings
+    ∷ fromSettings (0xFF ∷ 0x00 ∷ [])
+    ∷ fromSetup (0xDB ∷ 0xF3 ∷ 0xFF ∷ []) SettingsFailed
+    ∷ fromSetup (0xDB ∷ 0xF8 ∷ 0x11 ∷ 0x00 ∷ []) (SilentMode false)
+    ∷ fromSetup (0xDB ∷ 0xF8 ∷ 0x11 ∷ 0x01 ∷ []) (SilentMode true)
+    ∷ fromRefused (0xDB ∷ 0xF2 ∷ []) 9
+    ∷ fromRefused (0xDB ∷ 0xFD ∷ []) 9
+    ∷ fromRefused (0xDB ∷ 0xFE ∷ []) 9
+    ∷ fromRefused (0xDB ∷ 0xFF ∷ []) 9
+    ∷ fromRefused (0xDB ∷ 0xF4 ∷ []) 9
+    ∷ fromRefused (0xDB ∷ 0xF0 ∷ []) 7
+    ∷ fromRefused (0xDB ∷ 0xF8 ∷ 0x11 ∷ 0x01 ∷ 0x00 ∷ []) 7
+    ∷ fromRefused (0xDB ∷ 0xF8 ∷ 0x10 ∷ []) 7
+    ∷ fromRefused (0xDB ∷ 0xF0 ∷ 0x02 ∷ 0x01 ∷ []) 7
+    ∷ fromRefused (0xDB ∷ 0xF1 ∷ replicate 14 0x00) 7
+    ∷ fromRefused (0xDB ∷ 0xF1 ∷ replicate 16 0x00) 7
+    ∷ fromRefused (0xDB ∷ 0xF0 ∷ 0x02 ∷ []) 11
+    ∷ fromRefused (0xDB ∷ 0xF8 ∷ 0x10 ∷ 0x01 ∷ []) 11
+    ∷ fromRefused (0xDB ∷ 0xF8 ∷ 0x11 ∷ 0x02 ∷ []) 11
+    ∷ fromRefused (0xDB ∷ 0xF3 ∷ 0x03 ∷ []) 17
+    ∷ fromRefused (0xDB ∷ 0xF3 ∷ 0xFE ∷ 0x00 ∷ []) 17
+    ∷ fromRefused (0xDB ∷ 0xF3 ∷ 0xFF ∷ 0x00 ∷ 0xFF ∷ 0x00 ∷ []) 17
+    ∷ []
+
+-- Writing. A setup command has a frame of 9 bytes in ASCII framing and 8 in binary framing.
+abbrev wrote : Framing → (k : Kind) → family k .Message → ℕ → ℕ → ℕ → Row
+wrote f k m room number len = row (write f k m room) (writing number len ∷ [])
+
+abbrev simpleTo : ℕ → ℕ → Request
+simpleTo address command = SimpleRequest (record { address = address; command = command })
+
+-- Each refusal of writing for its cause, and those that come first before those that come later: 8, 9, 10, 17, then 14, then 13; DB is no plain address.
+abbrev pub writeRows : List Row
+writeRows =
+    wrote Ascii orders (setup Reset) 9 0 9
+    ∷ wrote Ascii orders (setup Reset) 8 13 0
+    ∷ wrote Binary orders (setup Reset) 8 0 8
+    ∷ wrote Binary orders (setup Reset) 7 13 0
+    ∷ wrote Ascii requests (SettingsRequest, threeSettings) 27 0 27
+    ∷ wrote Ascii requests (SettingsRequest, []) 9 0 9
+    ∷ wrote Ascii requests (SettingsRequest, 0xFF ∷ []) 517 17 0
+    ∷ wrote Ascii requests (SettingsRequest, replicate 300 0x00) 0 17 0
+    ∷ wrote Ascii deliveries (SettingsDelivery, 0xFF ∷ []) 517 17 0
+    ∷ wrote Binary deliveries (SettingsDelivery, replicate 300 0x00) 0 17 0
+    ∷ wrote Ascii notices (Setup SettingsFailed) 11 0 11
+    ∷ wrote Ascii notices (Setup SettingsFailed) 10 13 0
+    ∷ wrote Ascii requests (simpleTo 0xDB 0x05, []) 517 8 0
+    ∷ wrote Ascii requests (simpleTo 0x65 0x80, replicate 300 0x00) 0 8 0
+    ∷ wrote Ascii requests (simpleTo 0x64 0x80, replicate 300 0x00) 0 9 0
+    ∷ wrote Ascii requests
+    (ExtendedRequest (record { address = Plain 0x00; «response_id» = 0x12; options = retriesAlone 0x10 }), replicate 300 0x00)
+    0 10 0
+    ∷ wrote Ascii requests (simpleTo 0x64 0x7F, replicate 255 0x00) 0 14 0
+    ∷ wrote Ascii requests (simpleTo 0x64 0x7F, replicate 254 0x00) 516 13 0
+    ∷ wrote Ascii requests (simpleTo 0x64 0x7F, replicate 254 0x00) 517 0 517
+    ∷ []
+
+-- Each row is answered as documents 01 and 02 say.
 abbrev pub Examples : Type 0
 Examples =
-    let all : List Row = rows ++ (toRows ++ (fromRows ++ (distinctRows ++ (causeRows ++ edgeRows)))) in
+    let all : List Row = rows ++ (toRows ++ (fromRows ++ (distinctRows ++ (causeRows ++ (edgeRows ++ (setupRows ++ writeRows)))))) in
     map (λ (r : Row). answers (r .ask)) all ≡ map (λ (r : Row). r .says) all

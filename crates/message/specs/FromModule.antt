@@ -1,4 +1,4 @@
--- Messages from the module. Document 01, "Payloads" and "Refusal numbers".
+-- Messages from the module. Document 01, "Payloads" and "Refusal numbers"; document 02, CR 1.
 use Prim.Native.Nat.{ℕ, _-_}
 use mathlib.Core.List.{List, [], _∷_, _++_}
 use mathlib.Core.Bool.{cond, _&&_}
@@ -6,17 +6,20 @@ use lib.Dec.{leb, ltb, eqb}
 use lib.ListN.{length}
 use Rattle.message.specs.Number.{byteAt, wordAt, longAt, bytes2, bytes4}
 use Rattle.message.specs.Address.{plainRefusal}
-use Rattle.message.specs.Meaning.{Meaning, refused, carrying, bare, byAddress}
+use Rattle.message.specs.Meaning.{Meaning, refused, carrying, bare, byAddress, byPlain}
 use Rattle.message.specs.Refusal.{numberOf}
+use Rattle.message.specs.Setup.{informationAt, reportLayout, settingsLayout, listMeaning, settingsRefusal}
 use Rattle.message.specs.Simple.{simpleLayout, simpleRefusal}
 use Rattle.message.specs.Status.{standardLayout, standardAt, remoteLayout, remoteAt}
+use Rattle.message.specs.declared.setup.SetupReport.{SetupReport}
+use Rattle.message.specs.declared.setup.SetupReport.the-variants.{Acknowledged, Information as IsInformation, SettingsFailed, SilentMode}
 use Rattle.message.specs.declared.from_module.Reception.{Reception}
 use Rattle.message.specs.declared.from_module.Delivery.{Delivery}
-use Rattle.message.specs.declared.from_module.Delivery.the-variants.{Simple as SimpleDelivery, Extended as ExtendedDelivery}
+use Rattle.message.specs.declared.from_module.Delivery.the-variants.{Simple as SimpleDelivery, Extended as ExtendedDelivery, Settings}
 use Rattle.message.specs.declared.from_module.Outcome.{Outcome}
 use Rattle.message.specs.declared.from_module.Outcome.the-variants.{Failure, Success}
 use Rattle.message.specs.declared.from_module.Notice.{Notice}
-use Rattle.message.specs.declared.from_module.Notice.the-variants.{Response as IsResponse, Standard, Remote}
+use Rattle.message.specs.declared.from_module.Notice.the-variants.{Response as IsResponse, Standard, Remote, Setup}
 use Rattle.message.specs.declared.from_module.FromModule.{FromModule}
 use Rattle.message.specs.declared.from_module.FromModule.the-variants.{Delivery as IsDelivery, Notice as IsNotice, Refused}
 
@@ -30,6 +33,7 @@ receptionLayout m dat =
 abbrev pub deliveryLayout : Delivery → List ℕ → List ℕ
 deliveryLayout (SimpleDelivery m) dat = simpleLayout m dat
 deliveryLayout (ExtendedDelivery m) dat = receptionLayout m dat
+deliveryLayout Settings dat = settingsLayout 0xF3 dat
 
 -- The result of a response: 0 or 1.
 abbrev pub outcomeByte : Outcome → ℕ
@@ -41,17 +45,44 @@ abbrev pub noticeLayout : Notice → List ℕ
 noticeLayout (IsResponse m) = 0xDB ∷ 0xA1 ∷ m .id ∷ outcomeByte (m .outcome) ∷ []
 noticeLayout (Standard m) = standardLayout m
 noticeLayout (Remote m) = remoteLayout m
+noticeLayout (Setup m) = reportLayout m
 
--- Behind DB the command is A1 (9); then the length (7) and the result (11).
+-- A response: the length (7), then the result (11).
 unfoldable pub responseMeaning : List ℕ → Meaning Delivery Notice
 responseMeaning p =
-    cond (eqb (byteAt p 1) 0xA1)
-    (cond (eqb (length p) 4)
+    cond (eqb (length p) 4)
     (cond (eqb (byteAt p 3) 0)
     (bare (IsResponse (record { id = byteAt p 2; outcome = Failure })))
     (cond (eqb (byteAt p 3) 1) (bare (IsResponse (record { id = byteAt p 2; outcome = Success }))) (refused 11)))
-    (refused 7))
-    (refused 9)
+    (refused 7)
+
+-- An acknowledgement: the length (7), then the 01 (11).
+unfoldable pub ackMeaning : List ℕ → Meaning Delivery Notice
+ackMeaning p = cond (eqb (length p) 3) (cond (eqb (byteAt p 2) 0x01) (bare (Setup Acknowledged)) (refused 11)) (refused 7)
+
+-- The module's information: the length (7).
+unfoldable pub informationMeaning : List ℕ → Meaning Delivery Notice
+informationMeaning p = cond (eqb (length p) 17) (bare (Setup (IsInformation (informationAt p)))) (refused 7)
+
+-- The module's settings: FF alone is the failure; otherwise a settings list.
+unfoldable pub settingsMeaning : List ℕ → Meaning Delivery Notice
+settingsMeaning p = cond (eqb (length p) 3 && eqb (byteAt p 2) 0xFF) (bare (Setup SettingsFailed)) (listMeaning Settings p)
+
+-- The state of silent mode: the length (7), then the 11 and the state, 0 or 1 (11).
+unfoldable pub controlMeaning : List ℕ → Meaning Delivery Notice
+controlMeaning p =
+    cond (eqb (length p) 4)
+    (cond (eqb (byteAt p 2) 0x11 && leb (byteAt p 3) 1) (bare (Setup (SilentMode (eqb (byteAt p 3) 1)))) (refused 11))
+    (refused 7)
+
+-- The module itself: A1 is a response, F0 an acknowledgement, F1 the information, F3 the settings, F8 the state of silent mode; any other command is 9.
+unfoldable pub fromItself : List ℕ → Meaning Delivery Notice
+fromItself p =
+    cond (eqb (byteAt p 1) 0xA1) (responseMeaning p)
+    (cond (eqb (byteAt p 1) 0xF0) (ackMeaning p)
+    (cond (eqb (byteAt p 1) 0xF1) (informationMeaning p)
+    (cond (eqb (byteAt p 1) 0xF3) (settingsMeaning p)
+    (cond (eqb (byteAt p 1) 0xF8) (controlMeaning p) (refused 9)))))
 
 -- An extended message: at least 14 bytes (7); then M (12). Both addresses are carried unjudged.
 unfoldable pub receptionMeaning : List ℕ → Meaning Delivery Notice
@@ -83,9 +114,9 @@ senderMeaning p =
     (carrying (SimpleDelivery (record { address = byteAt p 0; command = byteAt p 1 })) 2)
     (cond (eqb (byteAt p 1) 0x81) (statusMeaning p) (cond (eqb (byteAt p 1) 0xA0) (receptionMeaning p) (refused 9)))
 
--- Reading: DB in place of an address begins a response.
+-- Reading.
 unfoldable pub readFromModule : List ℕ → Meaning Delivery Notice
-readFromModule p = byAddress 0xDB responseMeaning senderMeaning p
+readFromModule p = byAddress fromItself (byPlain senderMeaning) p
 
 -- The number and the message of each answer.
 abbrev pub fromModuleOf : FromModule → Meaning Delivery Notice
@@ -93,16 +124,18 @@ fromModuleOf (IsDelivery m start) = carrying m start
 fromModuleOf (IsNotice m) = bare m
 fromModuleOf (Refused r) = refused (numberOf r)
 
--- Why a message is not written: 8, 9; 0 where none of these applies, and 14 and 13 follow (Write.antt). A response has no refusal of its own: its
--- result is a type of two values (11).
+-- Why a message is not written: 8, 9, 17; 0 where none of these applies, and 14 and 13 follow (Write.antt). A response has no refusal of its own, nor
+-- has the state of silent mode: each is a type of two values (11). The module's other reports have no field that could be wrong.
 abbrev pub receptionRefusal : Reception → ℕ
 receptionRefusal m = plainRefusal (m .sender)
 
-abbrev pub deliveryRefusal : Delivery → ℕ
-deliveryRefusal (SimpleDelivery m) = simpleRefusal m
-deliveryRefusal (ExtendedDelivery m) = receptionRefusal m
+abbrev pub deliveryRefusal : Delivery → List ℕ → ℕ
+deliveryRefusal (SimpleDelivery m) dat = simpleRefusal m
+deliveryRefusal (ExtendedDelivery m) dat = receptionRefusal m
+deliveryRefusal Settings dat = settingsRefusal dat
 
 abbrev pub noticeRefusal : Notice → ℕ
 noticeRefusal (IsResponse m) = 0
 noticeRefusal (Standard m) = plainRefusal (m .sender)
 noticeRefusal (Remote m) = plainRefusal (m .sender)
+noticeRefusal (Setup m) = 0

@@ -6,6 +6,7 @@ pub mod Address
 pub mod Meaning
 pub mod Simple
 pub mod Options
+pub mod Setup
 pub mod ToModule
 pub mod FromModule
 pub mod Status

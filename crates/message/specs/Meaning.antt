@@ -1,4 +1,4 @@
--- What reading a payload gives, in either direction. Document 01, "Payloads" and "Refusal numbers".
+-- What reading a payload gives, in either direction. Document 01, "Payloads" and "Refusal numbers"; document 02, CR 1.
 use Prim.Native.Nat.{ℕ}
 use mathlib.Core.List.{List}
 use mathlib.Core.Bool.{cond, _&&_}
@@ -13,11 +13,12 @@ pub data Meaning (A B : Type 0) : Type 0 where
   carrying : A → ℕ → Meaning A B
   bare : B → Meaning A B
 
--- Reading by the first byte: fewer than 2 or over 256 bytes 7; the byte `special` has a meaning of its own in this direction; any other must be a plain
--- address (8).
+-- Reading by the first byte: fewer than 2 or over 256 bytes 7; DB stands for the module itself; any other byte is an address.
 module _ {A B : Type 0} where
-  abbrev pub byAddress : ℕ → (List ℕ → Meaning A B) → (List ℕ → Meaning A B) → List ℕ → Meaning A B
-  byAddress special specially plainly p =
-      cond (leb 2 (length p) && leb (length p) 256)
-      (cond (eqb (byteAt p 0) special) (specially p) (cond (isPlain (byteAt p 0)) (plainly p) (refused 8)))
-      (refused 7)
+  abbrev pub byAddress : (List ℕ → Meaning A B) → (List ℕ → Meaning A B) → List ℕ → Meaning A B
+  byAddress itself addressed p =
+      cond (leb 2 (length p) && leb (length p) 256) (cond (eqb (byteAt p 0) 0xDB) (itself p) (addressed p)) (refused 7)
+
+  -- The address must be a plain one (8).
+  abbrev pub byPlain : (List ℕ → Meaning A B) → List ℕ → Meaning A B
+  byPlain plainly p = cond (isPlain (byteAt p 0)) (plainly p) (refused 8)

@@ -3,6 +3,13 @@ use crate::address::is_plain;
 use crate::number::long;
 use crate::number::word;
 use crate::refusal::Refusal;
+use crate::setup::SetupReport;
+use crate::setup::read_ack;
+use crate::setup::read_control;
+use crate::setup::read_information;
+use crate::setup::read_settings;
+use crate::setup::write_report;
+use crate::setup::write_settings;
 use crate::simple::Simple;
 use crate::simple::write_simple;
 use crate::status::RemoteStatus;
@@ -14,7 +21,7 @@ use frame::Framing;
 ghost use mathlib.Core.Path.{_≡_};
 ghost use Prim.Native.Nat.{_≤_};
 ghost use lib.ListN.{length, getD};
-ghost use Rattle.message.specs.FromModule.{fromModuleOf, readFromModule, responseMeaning, receptionMeaning, statusMeaning};
+ghost use Rattle.message.specs.FromModule.{fromModuleOf, readFromModule, fromItself, responseMeaning, receptionMeaning, statusMeaning};
 ghost use Rattle.message.specs.FromModule.{standardMeaning, remoteMeaning, receptionRefusal, receptionLayout, deliveryRefusal};
 ghost use Rattle.message.specs.FromModule.{deliveryLayout, noticeRefusal, noticeLayout, outcomeByte};
 ghost use Rattle.message.specs.Status.{standardLayout, remoteLayout};
@@ -34,6 +41,8 @@ pub struct Reception {
 pub enum Delivery {
     Simple(Simple),
     Extended(Reception),
+    // F3: the module's settings, a list, which is the data.
+    Settings,
 }
 
 pub enum Outcome {
@@ -52,6 +61,8 @@ pub enum Notice {
     Response(Response),
     Standard(StandardStatus),
     Remote(RemoteStatus),
+    // A report of the module on itself.
+    Setup(SetupReport),
 }
 
 // What a payload from the module is.
@@ -62,14 +73,10 @@ pub enum FromModule {
     Refused(Refusal),
 }
 
-// Reads a payload that begins with DB: a response.
+// Reads a response.
 fn read_response(payload: &[u8]) -> FromModule
-    requires { ⌜ 2 ≤ length (now payload) ⌝ }
     ensures { λ r. ⌜ fromModuleOf r ≡ responseMeaning (now (payload .entry)) ⌝ }
 {
-    if payload[1] != 0xA1 {
-        return FromModule::Refused(Refusal::Command);
-    }
     if payload.len() != 4 {
         return FromModule::Refused(Refusal::Length);
     }
@@ -88,6 +95,21 @@ fn read_response(payload: &[u8]) -> FromModule
         }));
     }
     FromModule::Refused(Refusal::Field)
+}
+
+// Reads a payload that begins with DB: a response, or a report of the module on itself.
+fn read_from_itself(payload: &[u8]) -> FromModule
+    requires { ⌜ 2 ≤ length (now payload) ⌝ }
+    ensures { λ r. ⌜ fromModuleOf r ≡ fromItself (now (payload .entry)) ⌝ }
+{
+    match payload[1] {
+        0xA1 => read_response(payload),
+        0xF0 => read_ack(payload),
+        0xF1 => read_information(payload),
+        0xF3 => read_settings(payload),
+        0xF8 => read_control(payload),
+        _ => FromModule::Refused(Refusal::Command),
+    }
 }
 
 // Reads an extended message.
@@ -186,7 +208,7 @@ fn read_status(payload: &[u8]) -> FromModule
 }
 
 // Reads a payload as a message from the module. The refusals in their order: 7 where it has under 2 or over 256 bytes, 8 for an address, 9 for a
-// command, 7 for a length, then 11, 12.
+// command, 7 for a length, then 11, 12, 17.
 pub fn read_from_module(payload: &[u8]) -> FromModule
     ensures { λ r. ⌜ fromModuleOf r ≡ readFromModule (now (payload .entry)) ⌝ }
 {
@@ -200,7 +222,7 @@ pub fn read_from_module(payload: &[u8]) -> FromModule
     let address = payload[0];
     let command = payload[1];
     if address == 0xDB {
-        return read_response(payload);
+        return read_from_itself(payload);
     }
     if !is_plain(address) {
         return FromModule::Refused(Refusal::Address);
@@ -252,19 +274,20 @@ fn write_reception(framing: Framing, message: Reception, data: &[u8], buf: &mut 
     write_parts(framing, &head, data, buf)
 }
 
-// Writes a message from the module with its data as a frame into the front of buf; the rest of buf stays. The refusals in their order: 8, 9, then 14
-// where the payload has over 256 bytes, 13 where buf is shorter than the frame. A refusal leaves all of buf.
+// Writes a message from the module with its data as a frame into the front of buf; the rest of buf stays. The refusals in their order: 8, 9, 17, then
+// 14 where the payload has over 256 bytes, 13 where buf is shorter than the frame. A refusal leaves all of buf.
 pub fn write_delivery(
     framing: Framing,
     delivery: Delivery,
     data: &[u8],
     buf: &mut [u8],
 ) -> WriteAnswer
-    ensures { λ r. ⌜ Writes framing (deliveryRefusal delivery) (deliveryLayout delivery (now («data» .entry))) (now (buf .entry)) r (now (buf .exit)) ⌝ }
+    ensures { λ r. ⌜ Writes framing (deliveryRefusal delivery (now («data» .entry))) (deliveryLayout delivery (now («data» .entry))) (now (buf .entry)) r (now (buf .exit)) ⌝ }
 {
     match delivery {
         Delivery::Simple(message) => write_simple(framing, message, data, buf),
         Delivery::Extended(message) => write_reception(framing, message, data, buf),
+        Delivery::Settings => write_settings(framing, 0xF3, data, buf),
     }
 }
 
@@ -365,5 +388,6 @@ pub fn write_notice(framing: Framing, notice: Notice, buf: &mut [u8]) -> WriteAn
         }
         Notice::Standard(status) => write_standard(framing, status, buf),
         Notice::Remote(status) => write_remote(framing, status, buf),
+        Notice::Setup(report) => write_report(framing, report, buf),
     }
 }

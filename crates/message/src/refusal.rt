@@ -11,7 +11,7 @@ pub enum Refusal {
     Command,
     // 10: an option unknown, repeated or cut, a wrong retry byte, or no FF.
     Option,
-    // 11: a fixed field, a zero word or a result has another value.
+    // 11: a fixed field, a zero word, a result or a state has another value.
     Field,
     // 12: the count of data bytes in an extended message is not the payload's length less 14.
     Count,
@@ -19,10 +19,12 @@ pub enum Refusal {
     Buffer,
     // 14: the payload to write is longer than 256 bytes. (None is empty.)
     Payload,
+    // 17: in a settings list an identifier unknown, repeated or cut.
+    Identifier,
 }
 
 impl Refusal {
-    // The refusal's number in document 01.
+    // The refusal's number in documents 01 and 02.
     pub fn number(self) -> u8
         ensures { λ r. ⌜ r ≡ numberOf self ⌝ }
     {
@@ -35,6 +37,7 @@ impl Refusal {
             Refusal::Count => 12,
             Refusal::Buffer => 13,
             Refusal::Payload => 14,
+            Refusal::Identifier => 17,
         }
     }
 }

@@ -9,6 +9,9 @@ use crate::options::put_options;
 use crate::options::read_options;
 use crate::options::retry_allowed;
 use crate::refusal::Refusal;
+use crate::setup::SetupCommand;
+use crate::setup::read_setup;
+use crate::setup::write_settings;
 use crate::simple::Simple;
 use crate::simple::write_simple;
 use crate::write::WriteAnswer;
@@ -42,6 +45,8 @@ pub struct Transmission {
 pub enum Request {
     Simple(Simple),
     Extended(Transmission),
+    // F2: applies a settings list, which is the data.
+    Settings,
 }
 
 // The message of the remote app that sets outputs. It carries no data.
@@ -56,6 +61,8 @@ pub enum ToModule {
     // A message whose data are the payload's bytes from `start` on.
     Request { request: Request, start: usize },
     OutputChange(OutputChange),
+    // A command to the module itself.
+    Setup(SetupCommand),
     Refused(Refusal),
 }
 
@@ -120,7 +127,7 @@ fn read_output_change(payload: &[u8]) -> ToModule
 }
 
 // Reads a payload as a message to the module. The refusals in their order: 7 where it has under 2 or over 256 bytes, 8 for an address, 9 for a
-// command, 7 for a length, 8 for an extended address, then 10, 11.
+// command, 7 for a length, 8 for an extended address, then 10, 11, 17.
 pub fn read_to_module(payload: &[u8]) -> ToModule
     ensures { λ r. ⌜ toModuleOf r ≡ readToModule (now (payload .entry)) ⌝ }
 {
@@ -133,6 +140,9 @@ pub fn read_to_module(payload: &[u8]) -> ToModule
     }
     let address = payload[0];
     let command = payload[1];
+    if address == 0xDB {
+        return read_setup(payload);
+    }
     if address == 0x80 {
         return read_to_extended_address(payload);
     }
@@ -215,14 +225,15 @@ fn write_transmission(
     write_parts(framing, &whole[..end], data, buf)
 }
 
-// Writes a message to the module with its data as a frame into the front of buf; the rest of buf stays. The refusals in their order: 8, 9, 10, then 14
-// where the payload has over 256 bytes, 13 where buf is shorter than the frame. A refusal leaves all of buf.
+// Writes a message to the module with its data as a frame into the front of buf; the rest of buf stays. The refusals in their order: 8, 9, 10, 17,
+// then 14 where the payload has over 256 bytes, 13 where buf is shorter than the frame. A refusal leaves all of buf.
 pub fn write_request(framing: Framing, request: Request, data: &[u8], buf: &mut [u8]) -> WriteAnswer
-    ensures { λ r. ⌜ Writes framing (requestRefusal request) (requestLayout request (now («data» .entry))) (now (buf .entry)) r (now (buf .exit)) ⌝ }
+    ensures { λ r. ⌜ Writes framing (requestRefusal request (now («data» .entry))) (requestLayout request (now («data» .entry))) (now (buf .entry)) r (now (buf .exit)) ⌝ }
 {
     match request {
         Request::Simple(message) => write_simple(framing, message, data, buf),
         Request::Extended(message) => write_transmission(framing, message, data, buf),
+        Request::Settings => write_settings(framing, 0xF2, data, buf),
     }
 }
 

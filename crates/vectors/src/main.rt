@@ -1,4 +1,4 @@
-// Runs frames and payloads through the public calls of the crates frame and message and prints what each gives.
+// Runs frames, payloads and settings lists through the public calls of the crates frame, message and settings and prints what each gives.
 //
 // Standard input, of which 65,536 bytes are read, has a row to a line, and empty lines are passed over:
 // - `# ..`: a heading, printed as it is. The rows under one that ends in `not counted` stay out of the totals.
@@ -6,14 +6,16 @@
 // - `ascii ..`: bytes in ASCII framing, as hex pairs with a space between; `ascii` alone is the empty slice.
 // - `binary ..`, or the pairs alone: bytes in binary framing.
 // - `payload ..`: a payload, as hex pairs.
+// - `list ..`: a settings list, as hex pairs.
 //
 // A frame's row prints `frame`, the bytes used, the payload and whether it is written back as the bytes that were read, and what
-// the payload means to the module and from it; or `refused` and the number. A payload's row prints itself and both meanings. The
-// last line has the totals of the frames' rows.
+// the payload means to the module and from it; or `refused` and the number. A payload's row prints itself and both meanings. A list's
+// row prints itself, then `walk` and its settings, or `refused` and the number. The last line has the totals of the frames' rows.
 mod meaning;
 mod show;
 
 use crate::meaning::show_meanings;
+use crate::meaning::show_walk;
 use crate::show::print_bytes;
 use crate::show::print_either;
 use crate::show::print_field;
@@ -34,7 +36,7 @@ ghost use Rattle.io.specs.Counts.{Counts};
 
 // What became of a line.
 enum Row {
-    // An empty line or a payload.
+    // An empty line, a payload or a list.
     Uncounted,
     Heading { counted: bool },
     Frame,
@@ -121,6 +123,9 @@ fn run_row(line: &[u8]) -> Row {
     if first == b'p' {
         return run_payload(line, &bytes[..n]);
     }
+    if first == b'l' {
+        return run_list(line, &bytes[..n]);
+    }
     if first == b'a' {
         return run_frame(Framing::Ascii, &bytes[..n]);
     }
@@ -152,11 +157,12 @@ fn text_bytes(line: &[u8], bytes: &mut [u8]) -> usize
     append(bytes, n, b"\r\n")
 }
 
-// Where the hex pairs of a line with this first character begin: behind the word `ascii`, `binary` or `payload`, or at once.
+// Where the hex pairs of a line with this first character begin: behind the word `ascii`, `binary`, `list` or `payload`, or at once.
 fn pairs_from(first: u8) -> usize {
     match first {
         b'a' => 6,
         b'b' => 7,
+        b'l' => 5,
         b'p' => 8,
         _ => 0,
     }
@@ -172,6 +178,15 @@ fn run_payload(line: &[u8], payload: &[u8]) -> Row {
         payload,
         front(&whole, written_length(answer)),
     );
+    Row::Uncounted
+}
+
+// Prints the row of a settings list and its settings.
+fn run_list(line: &[u8], list: &[u8]) -> Row {
+    print_line(line);
+    io::write_all(STDOUT_FILENO, b"  walk");
+    show_walk(list);
+    io::write_all(STDOUT_FILENO, b"\n");
     Row::Uncounted
 }
 

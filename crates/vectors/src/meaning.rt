@@ -3,6 +3,8 @@
 // - `simple ADDRESS COMMAND DATA`
 // - `extended ADDRESS ID OPTIONS DATA`, the address with two digits or, an extended one, with eight
 // - `output ADDRESS SIGNALS MASK`
+// - `settings F2 LIST`, and each setting of the list as `ID@START+LEN`: where its data begin and their length, decimal
+// - `setup COMMAND`
 //
 // Behind `from`:
 // - `simple SENDER COMMAND DATA`
@@ -11,6 +13,11 @@
 // - `standard SENDER IDENTIFIER LQI SERIAL DESTINATION TIME RELAYS SUPPLY UNUSED DI CHANGED AD1 AD2 AD3 AD4 CORRECTION` and the
 //   four channels in mV
 // - `remote SENDER LQI SERIAL DESTINATION TIME RELAYS SIGNALS MASK INTERRUPTS UNUSED`
+// - `settings F3 LIST`, and each setting of the list likewise
+// - `acknowledged`
+// - `information APPLICATION VERSION DEVICE SERIAL SILENT NETWORK`
+// - `failed`
+// - `control 0` or `control 1`
 //
 // Such a line ends in `same` where the message, written with its data by the crate message, is the frame that was read, and in
 // `other` where it is not, as with options that do not stand in ascending order. Behind either: `refused` and the number.
@@ -30,6 +37,7 @@ use message::Address;
 use message::Channel;
 use message::Delivery;
 use message::FromModule;
+use message::Information;
 use message::MaybeByte;
 use message::MaybeWord;
 use message::Notice;
@@ -40,11 +48,15 @@ use message::Reception;
 use message::RemoteStatus;
 use message::Request;
 use message::Response;
+use message::SetupCommand;
+use message::SetupReport;
 use message::Simple;
 use message::StandardStatus;
 use message::ToModule;
 use message::Transmission;
 use message::WriteAnswer;
+use settings::Setting;
+use settings::SettingAnswer;
 
 // Prints both meanings of a frame's payload. `whole` is the frame.
 pub fn show_meanings(framing: Framing, payload: &[u8], whole: &[u8]) {
@@ -65,6 +77,7 @@ fn show_to_module(framing: Framing, payload: &[u8], whole: &[u8]) {
             whole,
         ),
         ToModule::OutputChange(change) => run_output_change(framing, change, whole),
+        ToModule::Setup(command) => run_setup(framing, command, whole),
         ToModule::Refused(refusal) => show_refusal(refusal.number()),
     }
 }
@@ -86,8 +99,7 @@ fn show_from_module(framing: Framing, payload: &[u8], whole: &[u8]) {
 
 // Prints a message with data to the module, and whether it is written as the frame that was read.
 fn run_request(framing: Framing, request: Request, tail: &[u8], whole: &[u8]) {
-    show_request(request);
-    data_field(tail);
+    show_request(request, tail);
     let mut back = [0u8; 517];
     let answer = message::write_request(framing, request, tail, &mut back);
     show_ending(&back, answer, whole);
@@ -95,8 +107,7 @@ fn run_request(framing: Framing, request: Request, tail: &[u8], whole: &[u8]) {
 
 // The same for a message with data from the module.
 fn run_delivery(framing: Framing, delivery: Delivery, tail: &[u8], whole: &[u8]) {
-    show_delivery(delivery);
-    data_field(tail);
+    show_delivery(delivery, tail);
     let mut back = [0u8; 517];
     let answer = message::write_delivery(framing, delivery, tail, &mut back);
     show_ending(&back, answer, whole);
@@ -107,6 +118,14 @@ fn run_output_change(framing: Framing, change: OutputChange, whole: &[u8]) {
     show_output_change(change);
     let mut back = [0u8; 517];
     let answer = message::write_output_change(framing, change, &mut back);
+    show_ending(&back, answer, whole);
+}
+
+// The same for a command to the module itself.
+fn run_setup(framing: Framing, command: SetupCommand, whole: &[u8]) {
+    show_setup(command);
+    let mut back = [0u8; 517];
+    let answer = message::write_setup(framing, command, &mut back);
     show_ending(&back, answer, whole);
 }
 
@@ -131,19 +150,33 @@ fn show_ending(back: &[u8], answer: WriteAnswer, whole: &[u8]) {
     );
 }
 
-// Prints the head of a message with data to the module.
-fn show_request(request: Request) {
+// Prints a message with data to the module.
+fn show_request(request: Request, tail: &[u8]) {
     match request {
-        Request::Simple(simple) => show_simple(simple),
-        Request::Extended(transmission) => show_transmission(transmission),
+        Request::Simple(simple) => {
+            show_simple(simple);
+            data_field(tail);
+        }
+        Request::Extended(transmission) => {
+            show_transmission(transmission);
+            data_field(tail);
+        }
+        Request::Settings => show_settings(0xF2, tail),
     }
 }
 
-// Prints the head of a message with data from the module.
-fn show_delivery(delivery: Delivery) {
+// Prints a message with data from the module.
+fn show_delivery(delivery: Delivery, tail: &[u8]) {
     match delivery {
-        Delivery::Simple(simple) => show_simple(simple),
-        Delivery::Extended(reception) => show_reception(reception),
+        Delivery::Simple(simple) => {
+            show_simple(simple);
+            data_field(tail);
+        }
+        Delivery::Extended(reception) => {
+            show_reception(reception);
+            data_field(tail);
+        }
+        Delivery::Settings => show_settings(0xF3, tail),
     }
 }
 
@@ -153,7 +186,84 @@ fn show_notice(notice: Notice) {
         Notice::Response(response) => show_response(response),
         Notice::Standard(status) => show_standard(status),
         Notice::Remote(status) => show_remote(status),
+        Notice::Setup(report) => show_report(report),
     }
+}
+
+// Prints a settings list and its settings.
+fn show_settings(command: u8, list: &[u8]) {
+    io::write_all(STDOUT_FILENO, b"settings");
+    byte_field(command);
+    data_field(list);
+    show_walk(list);
+}
+
+// Prints the settings of a list, found by their indices from 0 on until one is past the last, or that the bytes are no list. Each setting has a byte at
+// least, so no index above the list's length is looked at.
+pub fn show_walk(list: &[u8]) {
+    let mut index: usize = 0;
+    while index <= list.len() {
+        let answer = settings::setting_at(list, index);
+        match answer {
+            SettingAnswer::Found(setting) => show_setting(setting),
+            SettingAnswer::Past => {
+                return;
+            }
+            SettingAnswer::Refused => {
+                io::write_all(STDOUT_FILENO, b" refused 17");
+                return;
+            }
+        }
+        index += 1;
+    }
+}
+
+// Prints a setting of a list.
+fn show_setting(setting: Setting) {
+    byte_field(setting.identifier);
+    io::write_all(STDOUT_FILENO, b"@");
+    io::print_decimal(STDOUT_FILENO, setting.start as u64);
+    io::write_all(STDOUT_FILENO, b"+");
+    io::print_decimal(STDOUT_FILENO, setting.len as u64);
+}
+
+// Prints a command to the module itself.
+fn show_setup(command: SetupCommand) {
+    let number = match command {
+        SetupCommand::EnableAck => 0xF0,
+        SetupCommand::GetInformation => 0xF1,
+        SetupCommand::GetSettings => 0xF3,
+        SetupCommand::EraseSettings => 0xFD,
+        SetupCommand::SaveSettings => 0xFE,
+        SetupCommand::Reset => 0xFF,
+    };
+    io::write_all(STDOUT_FILENO, b"setup");
+    byte_field(number);
+}
+
+// Prints what the module reports of itself, but for its settings.
+fn show_report(report: SetupReport) {
+    match report {
+        SetupReport::Acknowledged => {
+            io::write_all(STDOUT_FILENO, b"acknowledged");
+        }
+        SetupReport::Information(information) => show_information(information),
+        SetupReport::SettingsFailed => {
+            io::write_all(STDOUT_FILENO, b"failed");
+        }
+        SetupReport::SilentMode { released } => print_either(released, b"control 1", b"control 0"),
+    }
+}
+
+// Prints the module's information.
+fn show_information(information: Information) {
+    io::write_all(STDOUT_FILENO, b"information");
+    long_field(information.application);
+    long_field(information.version);
+    byte_field(information.device);
+    long_field(information.serial);
+    byte_field(information.silent);
+    byte_field(information.network);
 }
 
 // Prints the address and the command of a simple message.

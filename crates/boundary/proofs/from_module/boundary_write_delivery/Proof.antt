@@ -1,9 +1,9 @@
 -- `boundary::from_module::boundary_write_delivery` meets its contract: the message crate's promise, or the refusal of an unknown framing or kind.
 -- Assumes nothing.
-use mathlib.Core.Path.{sym, ap, _∙_}
+use mathlib.Core.Path.{refl, sym, _∙_}
 use borrow.Author.Needs.{needs}
 use Rattle.boundary.specs.FromModule.{deliveryRefusalIn, deliveryLayoutIn}
-use Rattle.boundary.proofs.Crossing.{no-framing, no-message, named-crosses}
+use Rattle.boundary.proofs.Crossing.{no-framing, none-named, named-crosses}
 use Rattle.boundary.proofs.from_module.boundary_write_delivery.Tie as tie
 use Rattle.boundary.proofs.from_module.boundary_write_delivery.Statement.{statement}
 
@@ -35,7 +35,8 @@ unwritten-requires-2 : tie.Need-unwritten-requires-2
 unwritten-requires-2 c κs = search needs
 
 returns-2 : tie.Need-returns-2
-returns-2 c = no-message (ap deliveryRefusalIn (sym (c .before .before .before .delivery-in .ensures) ∙ c .before .enum-told2 .given .1)) (c .unwritten2 .ensures)
+returns-2 c =
+    none-named deliveryRefusalIn _ (c .before .before .before .delivery-in .ensures) (c .before .enum-told2 .given .1) refl (c .unwritten2 .ensures)
 
 write-delivery-requires : tie.Need-write-delivery-requires
 write-delivery-requires c κs = search needs

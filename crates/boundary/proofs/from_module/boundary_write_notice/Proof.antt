@@ -1,4 +1,5 @@
--- `boundary::from_module::boundary_write_notice` meets its contract: the message crate's promise, or the refusal of an unknown framing or kind, or of a result.
+-- `boundary::from_module::boundary_write_notice` meets its contract: the message crate's promise, or the refusal of an unknown framing or kind, of a result
+-- or of a command number.
 -- Assumes nothing.
 use mathlib.Core.Path.{refl, sym, ap, _∙_}
 use borrow.Author.Needs.{needs}
@@ -46,6 +47,12 @@ enum-told-3 c = search needs
 unwritten-requires-3 : tie.Need-unwritten-requires-3
 unwritten-requires-3 c κs = search needs
 
+enum-told-4 : tie.Need-enum-told-4
+enum-told-4 c = search needs
+
+unwritten-requires-4 : tie.Need-unwritten-requires-4
+unwritten-requires-4 c κs = search needs
+
 same-length : tie.Need-same-length
 same-length c = search needs
 
@@ -64,7 +71,13 @@ returns-3 c =
     (ap noticeRefusalIn (sym (d .notice-in .ensures) ∙ c .before .enum-told2 .given .1)) refl (c .unwritten2 .ensures)
 
 returns-4 : tie.Need-returns-4
-returns-4 c = no-message (ap noticeRefusalIn (sym (c .before .before .before .notice-in .ensures) ∙ c .before .enum-told3 .given .1)) (c .unwritten3 .ensures)
+returns-4 c =
+    let d = c .before .before .before in
+    refused-crosses (sym (d .before .before .before .before .framing-of .ensures) ∙ d .before .before .f .given .1)
+    (ap noticeRefusalIn (sym (d .notice-in .ensures) ∙ c .before .enum-told3 .given .1)) refl (c .unwritten3 .ensures)
+
+returns-5 : tie.Need-returns-5
+returns-5 c = no-message (ap noticeRefusalIn (sym (c .before .before .before .notice-in .ensures) ∙ c .before .enum-told4 .given .1)) (c .unwritten4 .ensures)
 
 pub boundary-write-notice-spec : {M : Type 1} → statement M
 boundary-write-notice-spec =
@@ -83,7 +96,10 @@ boundary-write-notice-spec =
     unwritten-requires-2
     enum-told-3
     unwritten-requires-3
+    enum-told-4
+    unwritten-requires-4
     same-length
     returns-2
     returns-3
-    returns-4)
+    returns-4
+    returns-5)

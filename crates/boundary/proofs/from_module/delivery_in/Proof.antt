@@ -15,7 +15,15 @@ returns-2 c = simp (ne-eqb _ _ (c .before .before .if1 .left), eq-eqb _ _ (c .if
 
 returns-3 : tie.Need-returns-3
 unfolding deliveryIn
-returns-3 c = simp (ne-eqb _ _ (c .before .before .if1 .left), ne-eqb _ _ (c .if2 .left))
+returns-3 c =
+    let d = c .before .before in
+    simp (ne-eqb _ _ (d .before .before .if1 .left), ne-eqb _ _ (d .if2 .left), eq-eqb _ _ (c .if3 .taken))
+
+returns-4 : tie.Need-returns-4
+unfolding deliveryIn
+returns-4 c =
+    let d = c .before .before in
+    simp (ne-eqb _ _ (d .before .before .if1 .left), ne-eqb _ _ (d .if2 .left), ne-eqb _ _ (c .if3 .left))
 
 pub delivery-in-spec : {M : Type 1} → statement M
-delivery-in-spec = tie.close (tie.spec returns returns-2 returns-3)
+delivery-in-spec = tie.close (tie.spec returns returns-2 returns-3 returns-4)

@@ -33,7 +33,7 @@ returns-2 c = rw (c .before .before .answer2 .given .1) (c .notice-numbers .ensu
 
 returns-3 : tie.Need-returns-3
 unfolding fromModuleNumbers
-returns-3 c = rw (c .before .before .before .answer3 .given .1, c .before .number .ensures)
+returns-3 c = rw (c .before .before .before .before .answer3 .given .1, c .before .before .number .ensures)
 
 pub from-module-numbers-spec : {M : Type 1} → statement M
 from-module-numbers-spec =

@@ -3,8 +3,8 @@
 use borrow.Author.Needs.{needs}
 use borrow.Author.Tests.{eq-eqb, ne-eqb}
 use Rattle.boundary.specs.FromModule.{noticeIn}
-use Rattle.boundary.proofs.from_module.notice_in.Tie as tie
 use Rattle.boundary.proofs.from_module.notice_in.Statement.{statement}
+use Rattle.boundary.proofs.from_module.notice_in.Tie as tie
 
 response-in-requires : tie.Need-response-in-requires
 response-in-requires c κs = search needs
@@ -30,11 +30,23 @@ returns-3 c =
     simp
     (ne-eqb _ _ (d .before .before .if1 .left), ne-eqb _ _ (d .if2 .left), eq-eqb _ _ (c .before .if3 .taken), c .remote-in .ensures)
 
+report-in-requires : tie.Need-report-in-requires
+report-in-requires c κs = search needs
+
 returns-4 : tie.Need-returns-4
 unfolding noticeIn
 returns-4 c =
-    let d = c .before .before .before .before in
-    simp (ne-eqb _ _ (d .if1 .left), ne-eqb _ _ (c .before .before .if2 .left), ne-eqb _ _ (c .if3 .left))
+    let e = c .before .before .before in
+    let d = e .before .before in
+    simp
+    (ne-eqb _ _ (d .before .before .if1 .left), ne-eqb _ _ (d .if2 .left), ne-eqb _ _ (e .if3 .left), eq-eqb _ _ (c .before .if4 .taken), c .report-in .ensures)
+
+returns-5 : tie.Need-returns-5
+unfolding noticeIn
+returns-5 c =
+    let e = c .before .before in
+    let d = e .before .before in
+    simp (ne-eqb _ _ (d .before .before .if1 .left), ne-eqb _ _ (d .if2 .left), ne-eqb _ _ (e .if3 .left), ne-eqb _ _ (c .if4 .left))
 
 pub notice-in-spec : {M : Type 1} → statement M
 notice-in-spec =
@@ -46,4 +58,6 @@ notice-in-spec =
     returns-2
     remote-in-requires
     returns-3
-    returns-4)
+    report-in-requires
+    returns-4
+    returns-5)

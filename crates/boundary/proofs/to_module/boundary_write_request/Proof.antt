@@ -1,9 +1,9 @@
 -- `boundary::to_module::boundary_write_request` meets its contract: the message crate's promise, or the refusal of an unknown framing or kind.
 -- Assumes nothing.
-use mathlib.Core.Path.{sym, ap, _∙_}
+use mathlib.Core.Path.{refl, sym, _∙_}
 use borrow.Author.Needs.{needs}
 use Rattle.boundary.specs.ToModule.{requestRefusalIn, requestLayoutIn}
-use Rattle.boundary.proofs.Crossing.{no-framing, no-message, named-crosses}
+use Rattle.boundary.proofs.Crossing.{no-framing, none-named, named-crosses}
 use Rattle.boundary.proofs.to_module.boundary_write_request.Tie as tie
 use Rattle.boundary.proofs.to_module.boundary_write_request.Statement.{statement}
 
@@ -35,7 +35,8 @@ unwritten-requires-2 : tie.Need-unwritten-requires-2
 unwritten-requires-2 c κs = search needs
 
 returns-2 : tie.Need-returns-2
-returns-2 c = no-message (ap requestRefusalIn (sym (c .before .before .before .request-in .ensures) ∙ c .before .enum-told2 .given .1)) (c .unwritten2 .ensures)
+returns-2 c =
+    none-named requestRefusalIn _ (c .before .before .before .request-in .ensures) (c .before .enum-told2 .given .1) refl (c .unwritten2 .ensures)
 
 write-request-requires : tie.Need-write-request-requires
 write-request-requires c κs = search needs

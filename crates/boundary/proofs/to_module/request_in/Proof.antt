@@ -3,8 +3,8 @@
 use borrow.Author.Needs.{needs}
 use borrow.Author.Tests.{eq-eqb, ne-eqb}
 use Rattle.boundary.specs.ToModule.{requestIn}
-use Rattle.boundary.proofs.to_module.request_in.Tie as tie
 use Rattle.boundary.proofs.to_module.request_in.Statement.{statement}
+use Rattle.boundary.proofs.to_module.request_in.Tie as tie
 
 returns : tie.Need-returns
 unfolding requestIn
@@ -30,8 +30,16 @@ returns-3 c =
 returns-4 : tie.Need-returns-4
 unfolding requestIn
 returns-4 c =
-    let d = c .before .before .before .before in
-    simp (ne-eqb _ _ (d .if1 .left), ne-eqb _ _ (c .before .before .if2 .left), ne-eqb _ _ (c .if3 .left))
+    let e = c .before .before in
+    let d = e .before .before in
+    simp (ne-eqb _ _ (d .before .before .if1 .left), ne-eqb _ _ (d .if2 .left), ne-eqb _ _ (e .if3 .left), eq-eqb _ _ (c .if4 .taken))
+
+returns-5 : tie.Need-returns-5
+unfolding requestIn
+returns-5 c =
+    let e = c .before .before in
+    let d = e .before .before in
+    simp (ne-eqb _ _ (d .before .before .if1 .left), ne-eqb _ _ (d .if2 .left), ne-eqb _ _ (e .if3 .left), ne-eqb _ _ (c .if4 .left))
 
 pub request-in-spec : {M : Type 1} → statement M
 request-in-spec =
@@ -42,4 +50,5 @@ request-in-spec =
     returns-2
     transmission-in-requires-2
     returns-3
-    returns-4)
+    returns-4
+    returns-5)

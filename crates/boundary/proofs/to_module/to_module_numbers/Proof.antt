@@ -2,8 +2,8 @@
 -- Assumes nothing.
 use borrow.Author.Needs.{needs}
 use Rattle.boundary.specs.ToModule.{toModuleNumbers}
-use Rattle.boundary.proofs.to_module.to_module_numbers.Tie as tie
 use Rattle.boundary.proofs.to_module.to_module_numbers.Statement.{statement}
+use Rattle.boundary.proofs.to_module.to_module_numbers.Tie as tie
 
 enum-known-answer : tie.Need-enum-known-answer
 enum-known-answer c = search needs
@@ -16,6 +16,12 @@ enum-known-answer-2 c = search needs
 
 enum-known-answer-3 : tie.Need-enum-known-answer-3
 enum-known-answer-3 c = search needs
+
+setup-number-requires : tie.Need-setup-number-requires
+setup-number-requires c κs = search needs
+
+enum-known-answer-4 : tie.Need-enum-known-answer-4
+enum-known-answer-4 c = search needs
 
 number-requires : tie.Need-number-requires
 number-requires c κs = search needs
@@ -30,7 +36,11 @@ returns-2 c = rw (c .before .before .answer2 .given .1)
 
 returns-3 : tie.Need-returns-3
 unfolding toModuleNumbers
-returns-3 c = rw (c .before .before .before .answer3 .given .1, c .before .number .ensures)
+returns-3 c = rw (c .before .before .before .answer3 .given .1, c .before .setup-number .ensures)
+
+returns-4 : tie.Need-returns-4
+unfolding toModuleNumbers
+returns-4 c = rw (c .before .before .before .answer4 .given .1, c .before .number .ensures)
 
 pub to-module-numbers-spec : {M : Type 1} → statement M
 to-module-numbers-spec =
@@ -40,7 +50,10 @@ to-module-numbers-spec =
     request-numbers-requires
     enum-known-answer-2
     enum-known-answer-3
+    setup-number-requires
+    enum-known-answer-4
     number-requires
     returns
     returns-2
-    returns-3)
+    returns-3
+    returns-4)

@@ -11,7 +11,7 @@ use Rattle.message.specs.Meaning.{carrying, bare}
 use Rattle.message.specs.declared.from_module.Delivery.{Delivery}
 use Rattle.message.specs.declared.from_module.Notice.{Notice}
 use Rattle.listing.specs.Line.{deliveryLine, meaningLine, lineOf}
-use Rattle.listing.proofs.Fits.{line-by, start-inside, delivery-by}
+use Rattle.listing.proofs.Fits.{line-by, start-inside, delivery-long, notice-long, delivery-by}
 use Rattle.listing.proofs.Lines.{newline}
 use Rattle.listing.proofs.line.put_line.Statement.{statement}
 use Rattle.listing.proofs.line.put_line.Tie as tie
@@ -29,6 +29,9 @@ delivery-at-simple c = c .before .before .before .before .before .before
 abbrev delivery-at-reception : tie.After-put-reception-arg → tie.After-delivery
 delivery-at-reception c = c .before .before .before .before .before .before
 
+abbrev delivery-at-settings : tie.After-put-settings-arg → tie.After-delivery
+delivery-at-settings c = c .before .before .before .before .before
+
 abbrev notice-at-response : tie.After-put-response-arg → tie.After-notice
 notice-at-response c = c .before .before .before .before .before
 
@@ -38,6 +41,9 @@ notice-at-standard c = c .before .before .before .before .before
 abbrev notice-at-remote : tie.After-put-remote-arg → tie.After-notice
 notice-at-remote c = c .before .before .before .before .before
 
+abbrev notice-at-settings : tie.After-put-settings-arg2 → tie.After-notice
+notice-at-settings c = c .before .before .before .before
+
 -- A message with data, and its line by its kind.
 delivery-means : (d : tie.After-delivery) →
     carrying (d .delivery .given .0 .0) (d .delivery .given .0 .1 .0) ≡ readFromModule (entry-at-delivery d .args .payload .now)
@@ -46,14 +52,17 @@ delivery-means d = rw (d .delivery .given .1) at (d .before .before .read-from-m
 delivery-line : (d : tie.After-delivery) {m : Delivery} → d .delivery .given .0 .0 ≡ m →
     let p = entry-at-delivery d .args .payload .now in
     let start = d .delivery .given .0 .1 .0 in
-    deliveryLine m (take (length p - start) (drop start p)) ++ newline ≡ lineOf p
+    deliveryLine p m (take (length p - start) (drop start p)) ++ newline ≡ lineOf p
 delivery-line d = delivery-by (entry-at-delivery d .args .payload .now) (delivery-means d)
 
 -- A message without data.
+notice-means : (n : tie.After-notice) {m : Notice} → n .notice .given .0 .0 ≡ m → bare m ≡ readFromModule (entry-at-notice n .args .payload .now)
+notice-means n e = rw e at (rw (n .notice .given .1) at (n .before .before .read-from-module .ensures))
+
 notice-line : (n : tie.After-notice) {m : Notice} → n .notice .given .0 .0 ≡ m →
     let p = entry-at-notice n .args .payload .now in
     meaningLine p (bare m) ++ newline ≡ lineOf p
-notice-line n e = line-by (entry-at-notice n .args .payload .now) (rw e at (rw (n .notice .given .1) at (n .before .before .read-from-module .ensures)))
+notice-line n e = line-by (entry-at-notice n .args .payload .now) (notice-means n e)
 
 read-from-module-requires : tie.Need-read-from-module-requires
 read-from-module-requires c κs = search needs
@@ -82,6 +91,15 @@ enum-known-delivery-3 c = search needs
 put-reception-requires : tie.Need-put-reception-requires
 put-reception-requires c κs = rw (delivery-line (delivery-at-reception c) (c .before .before .delivery3 .given .1)) (entry-at-delivery (delivery-at-reception c) .pre)
 
+enum-told : tie.Need-enum-told
+enum-told c = search needs
+
+put-settings-requires : tie.Need-put-settings-requires
+put-settings-requires c κs =
+    let d = delivery-at-settings c in
+    let s = entry-at-delivery d in
+    (delivery-long (s .args .payload .now) (delivery-means d), rw (delivery-line d (c .before .enum-told .given .1)) (s .pre))
+
 enum-known-notice : tie.Need-enum-known-notice
 enum-known-notice c = search needs
 
@@ -102,6 +120,16 @@ enum-known-notice-4 c = search needs
 
 put-remote-requires : tie.Need-put-remote-requires
 put-remote-requires c κs = rw (notice-line (notice-at-remote c) (c .before .before .notice4 .given .1)) (entry-at-notice (notice-at-remote c) .pre)
+
+enum-told-2 : tie.Need-enum-told-2
+enum-told-2 c = search needs
+
+put-settings-requires-2 : tie.Need-put-settings-requires-2
+put-settings-requires-2 c κs =
+    let n = notice-at-settings c in
+    let s = entry-at-notice n in
+    let e = c .before .enum-told2 .given .1 in
+    (notice-long (s .args .payload .now) (notice-means n e), rw (notice-line n e) (s .pre))
 
 enum-known-refusal : tie.Need-enum-known-refusal
 enum-known-refusal c = search needs
@@ -135,7 +163,7 @@ same-length-3 c = search needs
 returns-3 : tie.Need-returns-3
 returns-3 c =
     let a = c .before .before .before in
-    rw (← notice-line (notice-at-response a) (a .before .before .notice2 .given .1)) (c .before .before .put-response .ensures)
+    rw (← delivery-line (delivery-at-settings a) (a .before .enum-told .given .1)) (c .before .before .put-settings .ensures)
 
 same-length-4 : tie.Need-same-length-4
 same-length-4 c = search needs
@@ -143,7 +171,7 @@ same-length-4 c = search needs
 returns-4 : tie.Need-returns-4
 returns-4 c =
     let a = c .before .before .before in
-    rw (← notice-line (notice-at-standard a) (a .before .before .notice3 .given .1)) (c .before .before .put-standard .ensures)
+    rw (← notice-line (notice-at-response a) (a .before .before .notice2 .given .1)) (c .before .before .put-response .ensures)
 
 same-length-5 : tie.Need-same-length-5
 same-length-5 c = search needs
@@ -151,13 +179,29 @@ same-length-5 c = search needs
 returns-5 : tie.Need-returns-5
 returns-5 c =
     let a = c .before .before .before in
-    rw (← notice-line (notice-at-remote a) (a .before .before .notice4 .given .1)) (c .before .before .put-remote .ensures)
+    rw (← notice-line (notice-at-standard a) (a .before .before .notice3 .given .1)) (c .before .before .put-standard .ensures)
 
 same-length-6 : tie.Need-same-length-6
 same-length-6 c = search needs
 
 returns-6 : tie.Need-returns-6
 returns-6 c =
+    let a = c .before .before .before in
+    rw (← notice-line (notice-at-remote a) (a .before .before .notice4 .given .1)) (c .before .before .put-remote .ensures)
+
+same-length-7 : tie.Need-same-length-7
+same-length-7 c = search needs
+
+returns-7 : tie.Need-returns-7
+returns-7 c =
+    let a = c .before .before .before in
+    rw (← notice-line (notice-at-settings a) (a .before .enum-told2 .given .1)) (c .before .before .put-settings2 .ensures)
+
+same-length-8 : tie.Need-same-length-8
+same-length-8 c = search needs
+
+returns-8 : tie.Need-returns-8
+returns-8 c =
     let k = c .before .before in
     let m = k .before .before .before in
     let s = m .before .before .before .before .before in
@@ -177,6 +221,8 @@ put-line-spec =
     put-simple-requires
     enum-known-delivery-3
     put-reception-requires
+    enum-told
+    put-settings-requires
     enum-known-notice
     enum-known-notice-2
     put-response-requires
@@ -184,6 +230,8 @@ put-line-spec =
     put-standard-requires
     enum-known-notice-4
     put-remote-requires
+    enum-told-2
+    put-settings-requires-2
     enum-known-refusal
     put-refusal-requires
     same-length
@@ -197,4 +245,8 @@ put-line-spec =
     same-length-5
     returns-5
     same-length-6
-    returns-6)
+    returns-6
+    same-length-7
+    returns-7
+    same-length-8
+    returns-8)

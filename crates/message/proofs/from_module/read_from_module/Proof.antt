@@ -6,32 +6,40 @@ use borrow.Author.Needs.{needs}
 use mathlib.Core.List.{List}
 use mathlib.Core.Path.{_≡_, sym, _∙_}
 use borrow.Author.Tests.{not-true, not-false}
-use Rattle.message.specs.FromModule.{senderMeaning, readFromModule}
-use Rattle.message.proofs.ReportLaws.{module-short, module-long, module-response, module-address, module-sender}
+use Rattle.message.specs.Meaning.{byPlain}
+use Rattle.message.specs.FromModule.{fromItself, senderMeaning, readFromModule}
+use Rattle.message.proofs.AddressLaws.{too-short, too-long, by-itself, by-address, by-plain, not-plain}
 use Rattle.message.proofs.ReportLaws.{sender-simple, sender-status, sender-reception, sender-command}
 use Rattle.message.proofs.from_module.read_from_module.Statement.{statement}
 use Rattle.message.proofs.from_module.read_from_module.Tie as tie
 
--- The place behind the tests of the length, and the payload, from the place behind the test of a plain address.
-abbrev measured : tie.Else4 → tie.Else2
-measured c = c .before .before .before .before .before
+-- The place behind the tests of the length, and the payload, from the place behind the test for DB.
+abbrev measured : tie.Else3 → tie.Else2
+measured c = c .before .before .before
 
-abbrev payload : tie.Else4 → List ℕ
+abbrev payload : tie.Else3 → List ℕ
 payload c = measured c .before .before .before .args .payload .now
 
--- There the command decides.
-plain : (c : tie.Else4) → senderMeaning (payload c) ≡ readFromModule (payload c)
-plain c =
+-- There the sender decides.
+sender : (c : tie.Else3) → byPlain senderMeaning (payload c) ≡ readFromModule (payload c)
+unfolding readFromModule
+sender c =
     let d = measured c in
-    let e = c .before in
-    module-sender _ (d .before .if1 .left) (d .if2 .left) (e .before .if3 .left)
-    (sym (e .is-plain .ensures) ∙ not-false (e .is-plain .result) (c .if4 .left))
+    by-address fromItself (byPlain senderMeaning) (payload c) (d .before .if1 .left) (d .if2 .left) (c .if3 .left)
+
+-- Behind the test of a plain address the command decides.
+plain : (c : tie.Else4) → let d = c .before .before in senderMeaning (payload d) ≡ readFromModule (payload d)
+plain c =
+    let d = c .before .before in
+    by-plain senderMeaning (payload d) (sym (c .before .is-plain .ensures) ∙ not-false _ (c .if4 .left)) ∙ sender d
 
 returns : tie.Need-returns
-returns c = module-short _ (c .if1 .taken)
+unfolding readFromModule
+returns c = too-short fromItself (byPlain senderMeaning) (c .before .before .args .payload .now) (c .if1 .taken)
 
 returns-2 : tie.Need-returns-2
-returns-2 c = module-long _ (c .before .if1 .left) (c .if2 .taken)
+unfolding readFromModule
+returns-2 c = too-long fromItself (byPlain senderMeaning) (c .before .before .before .args .payload .now) (c .before .if1 .left) (c .if2 .taken)
 
 shared-slice-read-address : tie.Need-shared-slice-read-address
 shared-slice-read-address c = search needs
@@ -39,23 +47,23 @@ shared-slice-read-address c = search needs
 shared-slice-read-command : tie.Need-shared-slice-read-command
 shared-slice-read-command c = search needs
 
-read-response-requires : tie.Need-read-response-requires
-read-response-requires c κs = search needs
+read-from-itself-requires : tie.Need-read-from-itself-requires
+read-from-itself-requires c κs = search needs
 
 returns-3 : tie.Need-returns-3
+unfolding readFromModule
 returns-3 c =
     let d = c .before .before .before .before in
-    c .read-response .ensures ∙ module-response _ (d .before .if1 .left) (d .if2 .left) (c .before .if3 .taken)
+    c .read-from-itself .ensures
+    ∙ by-itself fromItself (byPlain senderMeaning) _ (d .before .if1 .left) (d .if2 .left) (c .before .if3 .taken)
 
 is-plain-requires : tie.Need-is-plain-requires
 is-plain-requires c κs = search needs
 
 returns-4 : tie.Need-returns-4
 returns-4 c =
-    let d = c .before .before .before .before .before in
-    let e = c .before in
-    module-address _ (d .before .if1 .left) (d .if2 .left) (e .before .if3 .left)
-    (sym (e .is-plain .ensures) ∙ not-true (e .is-plain .result) (c .if4 .taken))
+    let d = c .before .before in
+    not-plain senderMeaning (payload d) (sym (c .before .is-plain .ensures) ∙ not-true _ (c .if4 .taken)) ∙ sender d
 
 read-status-requires : tie.Need-read-status-requires
 read-status-requires c κs = search needs
@@ -89,7 +97,7 @@ read-from-module-spec =
     returns-2
     shared-slice-read-address
     shared-slice-read-command
-    read-response-requires
+    read-from-itself-requires
     returns-3
     is-plain-requires
     returns-4

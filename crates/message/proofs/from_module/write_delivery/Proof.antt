@@ -16,6 +16,12 @@ enum-known-delivery-2 c = search needs
 write-reception-requires : tie.Need-write-reception-requires
 write-reception-requires c κs = search needs
 
+enum-told : tie.Need-enum-told
+enum-told c = search needs
+
+write-settings-requires : tie.Need-write-settings-requires
+write-settings-requires c κs = search needs
+
 same-length : tie.Need-same-length
 same-length c = search needs
 
@@ -28,6 +34,12 @@ same-length-2 c = search needs
 returns-2 : tie.Need-returns-2
 returns-2 c = rw (c .before .before .before .before .before .delivery2 .given .1) (c .before .before .write-reception .ensures)
 
+same-length-3 : tie.Need-same-length-3
+same-length-3 c = search needs
+
+returns-3 : tie.Need-returns-3
+returns-3 c = rw (c .before .before .before .before .enum-told .given .1) (c .before .before .write-settings .ensures)
+
 pub write-delivery-spec : {M : Type 1} → statement M
 write-delivery-spec =
     tie.close
@@ -36,7 +48,11 @@ write-delivery-spec =
     write-simple-requires
     enum-known-delivery-2
     write-reception-requires
+    enum-told
+    write-settings-requires
     same-length
     returns
     same-length-2
-    returns-2)
+    returns-2
+    same-length-3
+    returns-3)

@@ -1,4 +1,4 @@
--- `message::from_module::write_notice` meets its contract: a response's array is its layout, and each status is written by its call.
+-- `message::from_module::write_notice` meets its contract: a response's array is its layout, and the others are written by their calls.
 -- Assumes nothing.
 use borrow.Author.Needs.{needs}
 use Rattle.message.proofs.from_module.write_notice.Statement.{statement}
@@ -28,6 +28,12 @@ enum-known-notice-3 c = search needs
 write-remote-requires : tie.Need-write-remote-requires
 write-remote-requires c κs = search needs
 
+enum-known-notice-4 : tie.Need-enum-known-notice-4
+enum-known-notice-4 c = search needs
+
+write-report-requires : tie.Need-write-report-requires
+write-report-requires c κs = search needs
+
 same-length : tie.Need-same-length
 same-length c = search needs
 
@@ -48,6 +54,12 @@ same-length-3 c = search needs
 returns-3 : tie.Need-returns-3
 returns-3 c = rw (c .before .before .before .before .before .notice3 .given .1) (c .before .before .write-remote .ensures)
 
+same-length-4 : tie.Need-same-length-4
+same-length-4 c = search needs
+
+returns-4 : tie.Need-returns-4
+returns-4 c = rw (c .before .before .before .before .before .notice4 .given .1) (c .before .before .write-report .ensures)
+
 pub write-notice-spec : {M : Type 1} → statement M
 write-notice-spec =
     tie.close
@@ -60,9 +72,13 @@ write-notice-spec =
     write-standard-requires
     enum-known-notice-3
     write-remote-requires
+    enum-known-notice-4
+    write-report-requires
     same-length
     returns
     same-length-2
     returns-2
     same-length-3
-    returns-3)
+    returns-3
+    same-length-4
+    returns-4)

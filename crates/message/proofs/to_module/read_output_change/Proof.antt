@@ -6,6 +6,7 @@ use mathlib.Core.Path.{_≡_, sym, ap₂, _∙_}
 use borrow.Author.Needs.{needs}
 use Rattle.message.specs.Number.{byteAt, longAt}
 use Rattle.message.specs.Meaning.{bare}
+use Rattle.message.specs.ToModule.{change}
 use Rattle.message.proofs.RequestLaws.{change-length, change-fixed, change-first, change-second, change-read}
 use Rattle.message.proofs.to_module.read_output_change.Statement.{statement}
 use Rattle.message.proofs.to_module.read_output_change.Tie as tie
@@ -64,7 +65,7 @@ returns-5 c =
     let first = second .before .before in
     let d = first .before .before in
     let p = payload d in
-    ap₂ (λ (x y : ℕ). bare (record { address = byteAt p 0; signals = x; mask = y })) (c .before .word .ensures) (c .word2 .ensures)
+    ap₂ (λ (x y : ℕ). bare (change (record { address = byteAt p 0; signals = x; mask = y }))) (c .before .word .ensures) (c .word2 .ensures)
     ∙ change-read p (d .before .before .if1 .left) (d .if2 .left) (zero-first first) (zero-second second)
 
 pub read-output-change-spec : {M : Type 1} → statement M

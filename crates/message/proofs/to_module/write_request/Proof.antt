@@ -1,10 +1,6 @@
 -- `message::to_module::write_request` meets its contract: each arm writes its kind of message.
 -- Assumes nothing.
-use mathlib.Core.Path.{sym, subst}
 use borrow.Author.Needs.{needs}
-use Rattle.message.specs.ToModule.{requestRefusal, requestLayout}
-use Rattle.message.specs.Write.{Writes}
-use Rattle.message.specs.declared.to_module.Request.{Request}
 use Rattle.message.proofs.to_module.write_request.Statement.{statement}
 use Rattle.message.proofs.to_module.write_request.Tie as tie
 
@@ -20,29 +16,29 @@ enum-known-request-2 c = search needs
 write-transmission-requires : tie.Need-write-transmission-requires
 write-transmission-requires c κs = search needs
 
+enum-told : tie.Need-enum-told
+enum-told c = search needs
+
+write-settings-requires : tie.Need-write-settings-requires
+write-settings-requires c κs = search needs
+
 same-length : tie.Need-same-length
 same-length c = search needs
 
 returns : tie.Need-returns
-returns c =
-    let d = c .before .before .before .before .before in
-    let a = d .before .before .before .before .args in
-    let w = c .before .before .write-simple in
-    let s = a .«data» .now in
-    subst (λ (q : Request). Writes (a .framing) (requestRefusal q) (requestLayout q s) (a .buf .now) (w .result) (w .last .1 .1 .1 .0))
-    (sym (d .request .given .1)) (w .ensures)
+returns c = rw (c .before .before .before .before .before .request .given .1) (c .before .before .write-simple .ensures)
 
 same-length-2 : tie.Need-same-length-2
 same-length-2 c = search needs
 
 returns-2 : tie.Need-returns-2
-returns-2 c =
-    let d = c .before .before .before .before .before in
-    let a = d .before .before .before .before .args in
-    let w = c .before .before .write-transmission in
-    let s = a .«data» .now in
-    subst (λ (q : Request). Writes (a .framing) (requestRefusal q) (requestLayout q s) (a .buf .now) (w .result) (w .last .1 .1 .1 .0))
-    (sym (d .request2 .given .1)) (w .ensures)
+returns-2 c = rw (c .before .before .before .before .before .request2 .given .1) (c .before .before .write-transmission .ensures)
+
+same-length-3 : tie.Need-same-length-3
+same-length-3 c = search needs
+
+returns-3 : tie.Need-returns-3
+returns-3 c = rw (c .before .before .before .before .enum-told .given .1) (c .before .before .write-settings .ensures)
 
 pub write-request-spec : {M : Type 1} → statement M
 write-request-spec =
@@ -52,7 +48,11 @@ write-request-spec =
     write-simple-requires
     enum-known-request-2
     write-transmission-requires
+    enum-told
+    write-settings-requires
     same-length
     returns
     same-length-2
-    returns-2)
+    returns-2
+    same-length-3
+    returns-3)
