@@ -230,8 +230,8 @@ responseIn id result =
     cond (eqb result 0) (KnownNotice (IsResponse (record { id = id; outcome = Failure })))
     (cond (eqb result 1) (KnownNotice (IsResponse (record { id = id; outcome = Success }))) BadResult)
 
-unfoldable pub controlIn : ℕ → NamedNotice
-controlIn result =
+unfoldable pub silentModeIn : ℕ → NamedNotice
+silentModeIn result =
     cond (eqb result 0) (KnownNotice (Setup (SilentMode false)))
     (cond (eqb result 1) (KnownNotice (Setup (SilentMode true))) BadResult)
 
@@ -239,7 +239,7 @@ unfoldable pub reportIn : ℕ → ℕ → InformationNumbers → NamedNotice
 reportIn command result information =
     cond (eqb command 0xF0) (KnownNotice (Setup Acknowledged))
     (cond (eqb command 0xF1) (KnownNotice (Setup (IsInformation (informationIn information))))
-    (cond (eqb command 0xF3) (KnownNotice (Setup SettingsFailed)) (cond (eqb command 0xF8) (controlIn result) BadCommand)))
+    (cond (eqb command 0xF3) (KnownNotice (Setup SettingsFailed)) (cond (eqb command 0xF8) (silentModeIn result) BadCommand)))
 
 unfoldable pub noticeIn : FromModuleNumbers → NamedNotice
 noticeIn n =

@@ -5,9 +5,11 @@ use mathlib.Core.List.{List, []}
 use mathlib.Core.Bool.{cond}
 use lib.Dec.{eqb}
 use Rattle.message.specs.Meaning.{Meaning, refused, carrying, bare}
-use Rattle.message.specs.Setup.{Named, unknown, known, commandNumber, commandOf, setupLayout}
+use Rattle.message.specs.Setup.{commandNumber, commandOf, setupLayout}
 use Rattle.message.specs.ToModule.{Order, change, setup, requestRefusal, requestLayout, changeRefusal, changeLayout}
 use Rattle.message.specs.declared.setup.SetupCommand.{SetupCommand}
+use Rattle.message.specs.declared.setup.NamedCommand.{NamedCommand}
+use Rattle.message.specs.declared.setup.NamedCommand.the-variants.{Known as KnownCommand, Unknown as NoCommand}
 use Rattle.message.specs.declared.to_module.Address.{Address}
 use Rattle.message.specs.declared.to_module.Address.the-variants.{Plain, Extended}
 use Rattle.message.specs.declared.to_module.Transmission.{Transmission}
@@ -22,8 +24,6 @@ use Rattle.boundary.specs.declared.single.FlatWriting.{FlatWriting}
 use Rattle.boundary.specs.declared.to_module.ToModuleNumbers.{ToModuleNumbers}
 use Rattle.boundary.specs.declared.to_module.NamedRequest.{NamedRequest}
 use Rattle.boundary.specs.declared.to_module.NamedRequest.the-variants.{Known, Unknown}
-use Rattle.boundary.specs.declared.to_module.NamedSetup.{NamedSetup}
-use Rattle.boundary.specs.declared.to_module.NamedSetup.the-variants.{Known as KnownSetup, BadCommand, Unknown as NoSetup}
 
 -- A plain address, an extended one, and the kind of an extended message to it.
 abbrev pub plainOf : Address → ℕ
@@ -150,13 +150,6 @@ requestIn n =
 abbrev pub changeIn : ToModuleNumbers → OutputChange
 changeIn n = record { address = n .address; signals = n .signals; mask = n .mask }
 
-abbrev pub setupOf : Named → NamedSetup
-setupOf unknown = BadCommand
-setupOf (known c) = KnownSetup c
-
-unfoldable pub setupIn : ToModuleNumbers → NamedSetup
-setupIn n = cond (eqb (n .kind) 6) (setupOf (commandOf (n .command))) NoSetup
-
 -- Why they are not written, 0 for no reason, and the payload. A number that names no command is document 01's refusal 9.
 abbrev pub requestRefusalIn : NamedRequest → List ℕ → ℕ
 requestRefusalIn (Known q) dat = requestRefusal q dat
@@ -169,15 +162,16 @@ requestLayoutIn Unknown dat = []
 abbrev pub changeRefusalIn : ToModuleNumbers → ℕ
 changeRefusalIn n = cond (eqb (n .kind) 4) (changeRefusal (changeIn n)) unknownNumber
 
-abbrev pub setupRefusalIn : NamedSetup → ℕ
-setupRefusalIn (KnownSetup c) = 0
-setupRefusalIn BadCommand = 9
-setupRefusalIn NoSetup = unknownNumber
+abbrev pub commandRefusal : NamedCommand → ℕ
+commandRefusal (KnownCommand c) = 0
+commandRefusal NoCommand = 9
 
-abbrev pub setupLayoutIn : NamedSetup → List ℕ
-setupLayoutIn (KnownSetup c) = setupLayout c
-setupLayoutIn BadCommand = []
-setupLayoutIn NoSetup = []
+abbrev pub setupRefusalIn : ToModuleNumbers → ℕ
+setupRefusalIn n = cond (eqb (n .kind) 6) (commandRefusal (commandOf (n .command))) unknownNumber
+
+abbrev pub commandLayout : NamedCommand → List ℕ
+commandLayout (KnownCommand c) = setupLayout c
+commandLayout NoCommand = []
 
 -- The promise of a write of such a message into buf, which then holds `after`.
 abbrev pub WritesRequest : NamedFraming → NamedRequest → List ℕ → List ℕ → FlatWriting → List ℕ → Type 0
@@ -186,5 +180,5 @@ WritesRequest f q dat buf answer after = WritesFlat f (requestRefusalIn q dat) (
 abbrev pub WritesChange : NamedFraming → ToModuleNumbers → List ℕ → FlatWriting → List ℕ → Type 0
 WritesChange f n buf answer after = WritesFlat f (changeRefusalIn n) (changeLayout (changeIn n)) buf answer after
 
-abbrev pub WritesSetup : NamedFraming → NamedSetup → List ℕ → FlatWriting → List ℕ → Type 0
-WritesSetup f c buf answer after = WritesFlat f (setupRefusalIn c) (setupLayoutIn c) buf answer after
+abbrev pub WritesSetup : NamedFraming → ToModuleNumbers → List ℕ → FlatWriting → List ℕ → Type 0
+WritesSetup f n buf answer after = WritesFlat f (setupRefusalIn n) (commandLayout (commandOf (n .command))) buf answer after

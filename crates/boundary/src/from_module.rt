@@ -24,7 +24,7 @@ ghost use Rattle.message.specs.Setup.{stateByte};
 ghost use Rattle.message.specs.FromModule.{fromModuleOf, readFromModule, outcomeByte};
 ghost use Rattle.boundary.specs.Framing.{framingOf};
 ghost use Rattle.boundary.specs.FromModule.{deliveryNumbers, responseNumbers, standardNumbers, remoteNumbers, reportNumbers};
-ghost use Rattle.boundary.specs.FromModule.{noticeNumbers, fromModuleNumbers, deliveryIn, responseIn, informationIn, controlIn, reportIn, noticeIn};
+ghost use Rattle.boundary.specs.FromModule.{noticeNumbers, fromModuleNumbers, deliveryIn, responseIn, informationIn, silentModeIn, reportIn, noticeIn};
 ghost use Rattle.boundary.specs.FromModule.{WritesDelivery, WritesNotice};
 
 // The information of F1.
@@ -325,8 +325,8 @@ fn information_in(n: InformationNumbers) -> Information
     }
 }
 
-fn control_in(result: u8) -> NamedNotice
-    ensures { λ r. ⌜ r ≡ controlIn result ⌝ }
+fn silent_mode_in(result: u8) -> NamedNotice
+    ensures { λ r. ⌜ r ≡ silentModeIn result ⌝ }
 {
     if result == 0 {
         return NamedNotice::Known(Notice::Setup(SetupReport::SilentMode { released: false }));
@@ -346,7 +346,7 @@ fn report_in(command: u8, result: u8, information: InformationNumbers) -> NamedN
             information,
         )))),
         0xF3 => NamedNotice::Known(Notice::Setup(SetupReport::SettingsFailed)),
-        0xF8 => control_in(result),
+        0xF8 => silent_mode_in(result),
         _ => NamedNotice::BadCommand,
     }
 }

@@ -9,6 +9,7 @@ use crate::single::FlatWriting;
 use crate::single::unwritten;
 use crate::written::written_of;
 use message::Address;
+use message::NamedCommand;
 use message::OutputChange;
 use message::Request;
 use message::SetupCommand;
@@ -16,11 +17,10 @@ use message::Simple;
 use message::ToModule;
 use message::Transmission;
 ghost use mathlib.Core.Path.{_≡_};
-ghost use Rattle.message.specs.Setup.{commandNumber, commandOf};
 ghost use Rattle.message.specs.ToModule.{toModuleOf, readToModule};
 ghost use Rattle.boundary.specs.Framing.{framingOf};
 ghost use Rattle.boundary.specs.ToModule.{transmissionNumbers, requestNumbers, toModuleNumbers};
-ghost use Rattle.boundary.specs.ToModule.{transmissionIn, requestIn, setupOf, setupIn, WritesRequest, WritesChange, WritesSetup};
+ghost use Rattle.boundary.specs.ToModule.{transmissionIn, requestIn, WritesRequest, WritesChange, WritesSetup};
 
 // A message to the module. `kind` is 0 for a refusal, 1 for a simple message, 2 for an extended one to a plain address, 3 for an extended one to an
 // extended address, 4 for a change of outputs, 5 for a settings list, which is the data, 6 for a command to the module itself, whose number is `command`.
@@ -58,27 +58,6 @@ const NO_MESSAGE: ToModuleNumbers = ToModuleNumbers {
 pub(crate) enum NamedRequest {
     Known(Request),
     Unknown,
-}
-
-// The command to the module itself that numbers stand for, if any.
-pub(crate) enum NamedSetup {
-    Known(SetupCommand),
-    // A number that names no command.
-    BadCommand,
-    Unknown,
-}
-
-fn setup_number(command: SetupCommand) -> u8
-    ensures { λ r. ⌜ r ≡ commandNumber command ⌝ }
-{
-    match command {
-        SetupCommand::EnableAck => 0xF0,
-        SetupCommand::GetInformation => 0xF1,
-        SetupCommand::GetSettings => 0xF3,
-        SetupCommand::EraseSettings => 0xFD,
-        SetupCommand::SaveSettings => 0xFE,
-        SetupCommand::Reset => 0xFF,
-    }
 }
 
 fn transmission_numbers(m: Transmission, start: usize) -> ToModuleNumbers
@@ -141,7 +120,7 @@ fn to_module_numbers(answer: ToModule) -> ToModuleNumbers
         },
         ToModule::Setup(command) => ToModuleNumbers {
             kind: 6,
-            command: setup_number(command),
+            command: command.number(),
             ..NO_MESSAGE
         },
         ToModule::Refused(refusal) => ToModuleNumbers {
@@ -187,29 +166,6 @@ fn request_in(n: ToModuleNumbers) -> NamedRequest
         return NamedRequest::Known(Request::Settings);
     }
     NamedRequest::Unknown
-}
-
-fn command_in(number: u8) -> NamedSetup
-    ensures { λ r. ⌜ r ≡ setupOf (commandOf number) ⌝ }
-{
-    match number {
-        0xF0 => NamedSetup::Known(SetupCommand::EnableAck),
-        0xF1 => NamedSetup::Known(SetupCommand::GetInformation),
-        0xF3 => NamedSetup::Known(SetupCommand::GetSettings),
-        0xFD => NamedSetup::Known(SetupCommand::EraseSettings),
-        0xFE => NamedSetup::Known(SetupCommand::SaveSettings),
-        0xFF => NamedSetup::Known(SetupCommand::Reset),
-        _ => NamedSetup::BadCommand,
-    }
-}
-
-fn setup_in(n: ToModuleNumbers) -> NamedSetup
-    ensures { λ r. ⌜ r ≡ setupIn n ⌝ }
-{
-    if n.kind == 6 {
-        return command_in(n.command);
-    }
-    NamedSetup::Unknown
 }
 
 // Reads a payload as a message to the module, as `message::read_to_module` does.
@@ -272,14 +228,16 @@ pub extern "C" fn boundary_write_setup(
     command: ToModuleNumbers,
     buf: &mut [u8],
 ) -> FlatWriting
-    ensures { λ r. ⌜ WritesSetup (framingOf framing) (setupIn command) (now (buf .entry)) r (now (buf .exit)) ⌝ }
+    ensures { λ r. ⌜ WritesSetup (framingOf framing) command (now (buf .entry)) r (now (buf .exit)) ⌝ }
 {
     let NamedFraming::Known(f) = framing_of(framing) else {
         return unwritten(255);
     };
-    match setup_in(command) {
-        NamedSetup::Known(c) => written_of(message::write_setup(f, c, buf)),
-        NamedSetup::BadCommand => unwritten(9),
-        NamedSetup::Unknown => unwritten(255),
+    if command.kind != 6 {
+        return unwritten(255);
     }
+    let NamedCommand::Known(c) = SetupCommand::named(command.command) else {
+        return unwritten(9);
+    };
+    written_of(message::write_setup(f, c, buf))
 }

@@ -10,8 +10,8 @@ use Rattle.frame.specs.Elements.{Bytes}
 use Rattle.message.specs.Number.{byteAt, wordAt, longAt, bytes2}
 use Rattle.message.specs.Meaning.{Meaning, refused, carrying, bare}
 use Rattle.message.specs.Options.{optionBytes}
-use Rattle.message.specs.ToModule.{Order, readToModule, requestLayout, requestRefusal, addressBytes, orderLayout, orderRefusal}
-use Rattle.message.specs.FromModule.{readFromModule, deliveryLayout, deliveryRefusal, noticeLayout, noticeRefusal}
+use Rattle.message.specs.ToModule.{Order, requestLayout, requestRefusal, addressBytes, orderLayout, orderRefusal}
+use Rattle.message.specs.FromModule.{deliveryLayout, deliveryRefusal, noticeLayout, noticeRefusal}
 use Rattle.message.specs.Setup.{stateByte}
 use Rattle.message.specs.Claims.{SpellsRequest, requests, orders, deliveries, notices, family}
 use Rattle.message.specs.Claims.{MessageIsSized, DataIsInside, WhatIsReadIsWritten, RefusesNoMore, ReadingIsExact}

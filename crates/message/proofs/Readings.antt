@@ -15,10 +15,12 @@ use Rattle.message.specs.Options.{Opted, bad, opted, option, optionsFrom
 use Rattle.message.specs.ToModule.{Order, change, setup, readToModule, toItself, toAddress, toPlainAddress, toExtendedAddress, requestAt, requestAs, outputChangeAt, commandAs}
 use Rattle.message.specs.FromModule.{readFromModule, senderMeaning, statusMeaning, standardMeaning, remoteMeaning, receptionMeaning}
 use Rattle.message.specs.FromModule.{fromItself, responseMeaning, ackMeaning, informationMeaning, settingsMeaning, controlMeaning}
-use Rattle.message.specs.Setup.{commandNumber, Named, unknown, known, named, commands, commandOf, informationAt}
+use Rattle.message.specs.Setup.{commandNumber, named, commands, commandOf, informationAt}
 use Rattle.message.specs.Status.{standardAt, remoteAt}
 use Rattle.message.specs.declared.options.Options.{Options}
 use Rattle.message.specs.declared.setup.SetupCommand.{SetupCommand}
+use Rattle.message.specs.declared.setup.NamedCommand.{NamedCommand}
+use Rattle.message.specs.declared.setup.NamedCommand.the-variants.{Known, Unknown}
 use Rattle.message.specs.declared.setup.SetupReport.the-variants.{Acknowledged, Information as IsInformation, SettingsFailed, SilentMode}
 use Rattle.message.specs.declared.to_module.Address.{Address}
 use Rattle.message.specs.declared.to_module.Address.the-variants.{Plain, Extended as ExtendedAddress}
@@ -82,11 +84,11 @@ pub data ToWay (p : List ℕ) (r : Meaning Request Order) : Type 0 where
   commanded : (c : SetupCommand) → byteAt p 0 ≡ 0xDB → byteAt p 1 ≡ commandNumber c → length p ≡ 2 → bare (setup c) ≡ r → ToWay p r
 
 -- A number that names a command is the command's number.
-abbrev Names : ℕ → Named → Type 0
-Names n unknown = Unit {0}
-Names n (known c) = n ≡ commandNumber c
+abbrev Names : ℕ → NamedCommand → Type 0
+Names n Unknown = Unit {0}
+Names n (Known c) = n ≡ commandNumber c
 
-named-first : (n : ℕ) (c : SetupCommand) (q : Named) (t : Bool) → eqb n (commandNumber c) ≡ t → Names n q → Names n (cond t (known c) q)
+named-first : (n : ℕ) (c : SetupCommand) (q : NamedCommand) (t : Bool) → eqb n (commandNumber c) ≡ t → Names n q → Names n (cond t (Known c) q)
 named-first n c q true e h = eqb-true n (commandNumber c) e
 named-first n c q false e h = h
 
@@ -137,11 +139,11 @@ module _ (p : List ℕ) {r : Meaning Request Order} (is : IsMessage r) where
       choose (eqb (byteAt p 0) 0x80) e (λ place. extended-way (eqb-true (byteAt p 0) 0x80 place))
       (λ other on. let plain = read-on (isPlain (byteAt p 0)) 8 on is in plain-way two (plain .0) (plain .1))
 
-  command-way : byteAt p 0 ≡ 0xDB → (q : Named) → Names (byteAt p 1) q → commandAs q p ≡ r → ToWay p r
-  command-way place (known c) names e =
+  command-way : byteAt p 0 ≡ 0xDB → (q : NamedCommand) → Names (byteAt p 1) q → commandAs q p ≡ r → ToWay p r
+  command-way place (Known c) names e =
       let long = read-on (eqb (length p) 2) 7 e is in
       commanded c place names (eqb-true (length p) 2 (long .0)) (long .1)
-  command-way place unknown names e = absurd (subst IsMessage (sym e) is)
+  command-way place Unknown names e = absurd (subst IsMessage (sym e) is)
 
   itself-way : 2 ≤ length p → byteAt p 0 ≡ 0xDB → toItself p ≡ r → ToWay p r
   unfolding toItself commandOf

@@ -12,7 +12,9 @@ use lib.Seq.{take-all}
 use Rattle.settings.specs.List.{isList}
 use Rattle.message.specs.Number.{byteAt}
 use Rattle.message.specs.Meaning.{refused, carrying, bare}
-use Rattle.message.specs.Setup.{Named, known, commandOf, informationAt}
+use Rattle.message.specs.Setup.{commandOf, informationAt}
+use Rattle.message.specs.declared.setup.NamedCommand.{NamedCommand}
+use Rattle.message.specs.declared.setup.NamedCommand.the-variants.{Known}
 use Rattle.message.specs.ToModule.{setup, commandAs, toItself}
 use Rattle.message.specs.FromModule.{ackMeaning, informationMeaning, settingsMeaning, controlMeaning}
 use Rattle.message.specs.declared.setup.SetupCommand.{SetupCommand}
@@ -39,17 +41,17 @@ module _ (p : List ℕ) where
     setup-list h = simp (eq-eqb (byteAt p 1) 0xF2 e, h)
 
   -- Any other command, by what its number names.
-  pub setup-named : (byteAt p 1 ≡ 0xF2 → ⊥) → {x : Named} → x ≡ commandOf (byteAt p 1) → commandAs x p ≡ toItself p
+  pub setup-named : (byteAt p 1 ≡ 0xF2 → ⊥) → {x : NamedCommand} → x ≡ commandOf (byteAt p 1) → commandAs x p ≡ toItself p
   unfolding toItself
   setup-named n e = simp (ne-eqb (byteAt p 1) 0xF2 n) (ap (λ x. commandAs x p) e)
 
   module _ (c : SetupCommand) where
     -- A known one: the length (7).
-    pub known-length : (length p ≡ 2 → ⊥) → refused 7 ≡ commandAs (known c) p
+    pub known-length : (length p ≡ 2 → ⊥) → refused 7 ≡ commandAs (Known c) p
     known-length h = simp (ne-eqb (length p) 2 h)
 
     -- The command.
-    pub known-read : length p ≡ 2 → bare (setup c) ≡ commandAs (known c) p
+    pub known-read : length p ≡ 2 → bare (setup c) ≡ commandAs (Known c) p
     known-read h = simp (eq-eqb (length p) 2 h)
 
   -- An acknowledgement: 7.

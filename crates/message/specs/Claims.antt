@@ -30,7 +30,6 @@ use Rattle.message.specs.declared.simple.Simple.{Simple}
 use Rattle.message.specs.declared.to_module.Transmission.{Transmission}
 use Rattle.message.specs.declared.to_module.Request.{Request}
 use Rattle.message.specs.declared.to_module.Request.the-variants.{Simple as SimpleRequest, Extended as ExtendedRequest, Settings as SettingsRequest}
-use Rattle.message.specs.declared.to_module.OutputChange.{OutputChange}
 use Rattle.message.specs.declared.from_module.Delivery.{Delivery}
 use Rattle.message.specs.declared.from_module.Delivery.the-variants.{Simple as SimpleDelivery, Extended as ExtendedDelivery, Settings as SettingsDelivery}
 use Rattle.message.specs.declared.from_module.Notice.{Notice}

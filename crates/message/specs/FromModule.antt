@@ -11,7 +11,6 @@ use Rattle.message.specs.Refusal.{numberOf}
 use Rattle.message.specs.Setup.{informationAt, reportLayout, settingsLayout, listMeaning, settingsRefusal}
 use Rattle.message.specs.Simple.{simpleLayout, simpleRefusal}
 use Rattle.message.specs.Status.{standardLayout, standardAt, remoteLayout, remoteAt}
-use Rattle.message.specs.declared.setup.SetupReport.{SetupReport}
 use Rattle.message.specs.declared.setup.SetupReport.the-variants.{Acknowledged, Information as IsInformation, SettingsFailed, SilentMode}
 use Rattle.message.specs.declared.from_module.Reception.{Reception}
 use Rattle.message.specs.declared.from_module.Delivery.{Delivery}

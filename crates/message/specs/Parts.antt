@@ -1,16 +1,9 @@
 -- What the functions behind the public calls answer.
 use Rattle.message.specs.Options.{Opted, bad, opted}
-use Rattle.message.specs.Setup.{Named, unknown, known}
 use Rattle.message.specs.declared.options.OptionsRead.{OptionsRead}
 use Rattle.message.specs.declared.options.OptionsRead.the-variants.{Ended, Bad}
-use Rattle.message.specs.declared.setup.NamedCommand.{NamedCommand}
-use Rattle.message.specs.declared.setup.NamedCommand.the-variants.{Known, Unknown}
 
 -- The result that an answer stands for.
 abbrev pub optionsRead : OptionsRead → Opted
 optionsRead (Ended o end) = opted o end
 optionsRead Bad = bad
-
-abbrev pub namedOf : NamedCommand → Named
-namedOf (Known c) = known c
-namedOf Unknown = unknown

@@ -9,6 +9,8 @@ use Rattle.message.specs.Number.{byteAt, longAt, bytes4}
 use Rattle.message.specs.Meaning.{Meaning, refused, carrying}
 use Rattle.message.specs.declared.setup.SetupCommand.{SetupCommand}
 use Rattle.message.specs.declared.setup.SetupCommand.the-variants.{EnableAck, GetInformation, GetSettings, EraseSettings, SaveSettings, Reset}
+use Rattle.message.specs.declared.setup.NamedCommand.{NamedCommand}
+use Rattle.message.specs.declared.setup.NamedCommand.the-variants.{Known, Unknown}
 use Rattle.message.specs.declared.setup.Information.{Information}
 use Rattle.message.specs.declared.setup.SetupReport.{SetupReport}
 use Rattle.message.specs.declared.setup.SetupReport.the-variants.{Acknowledged, Information as IsInformation, SettingsFailed, SilentMode}
@@ -26,15 +28,11 @@ commandNumber SaveSettings = 0xFE
 commandNumber Reset = 0xFF
 
 -- The one of these commands whose number is n, if any.
-pub data Named : Type 0 where
-  unknown : Named
-  known : SetupCommand → Named
+abbrev pub named : List SetupCommand → ℕ → NamedCommand
+named [] n = Unknown
+named (c ∷ cs) n = cond (eqb n (commandNumber c)) (Known c) (named cs n)
 
-abbrev pub named : List SetupCommand → ℕ → Named
-named [] n = unknown
-named (c ∷ cs) n = cond (eqb n (commandNumber c)) (known c) (named cs n)
-
-unfoldable pub commandOf : ℕ → Named
+unfoldable pub commandOf : ℕ → NamedCommand
 commandOf n = named commands n
 
 -- Such a command, 2 bytes: DB, its number.

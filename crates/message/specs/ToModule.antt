@@ -9,9 +9,11 @@ use Rattle.message.specs.Address.{isPlain, isExtended, plainRefusal}
 use Rattle.message.specs.Meaning.{Meaning, refused, carrying, bare, byAddress, byPlain}
 use Rattle.message.specs.Options.{Opted, bad, opted, option, optionsFrom, noOptions, optionBytes, retryAllowed}
 use Rattle.message.specs.Refusal.{numberOf}
-use Rattle.message.specs.Setup.{Named, unknown, known, commandOf, setupLayout, settingsLayout, listMeaning, settingsRefusal}
+use Rattle.message.specs.Setup.{commandOf, setupLayout, settingsLayout, listMeaning, settingsRefusal}
 use Rattle.message.specs.Simple.{simpleLayout, simpleRefusal}
 use Rattle.message.specs.declared.setup.SetupCommand.{SetupCommand}
+use Rattle.message.specs.declared.setup.NamedCommand.{NamedCommand}
+use Rattle.message.specs.declared.setup.NamedCommand.the-variants.{Known, Unknown}
 use Rattle.message.specs.declared.to_module.Address.{Address}
 use Rattle.message.specs.declared.to_module.Address.the-variants.{Plain, Extended as ExtendedAddress}
 use Rattle.message.specs.declared.to_module.Transmission.{Transmission}
@@ -91,9 +93,9 @@ unfoldable pub toAddress : List ℕ → Meaning Request Order
 toAddress p = cond (eqb (byteAt p 0) 0x80) (toExtendedAddress p) (byPlain toPlainAddress p)
 
 -- A command to the module itself with nothing after it: any more bytes are 7; an unknown one is 9.
-abbrev pub commandAs : Named → List ℕ → Meaning Request Order
-commandAs unknown p = refused 9
-commandAs (known c) p = cond (eqb (length p) 2) (bare (setup c)) (refused 7)
+abbrev pub commandAs : NamedCommand → List ℕ → Meaning Request Order
+commandAs Unknown p = refused 9
+commandAs (Known c) p = cond (eqb (length p) 2) (bare (setup c)) (refused 7)
 
 -- The module itself: F2 with a settings list, or one of those commands.
 unfoldable pub toItself : List ℕ → Meaning Request Order

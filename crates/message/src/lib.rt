@@ -24,6 +24,7 @@ pub use options::MaybeWord;
 pub use options::Options;
 pub use refusal::Refusal;
 pub use setup::Information;
+pub use setup::NamedCommand;
 pub use setup::SetupCommand;
 pub use setup::SetupReport;
 pub use setup::write_setup;

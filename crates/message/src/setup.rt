@@ -16,7 +16,6 @@ ghost use lib.ListN.{length};
 ghost use Rattle.message.specs.Setup.{commandNumber, commandOf, setupLayout, settingsLayout, settingsRefusal, informationLayout, stateByte, reportLayout};
 ghost use Rattle.message.specs.ToModule.{toModuleOf, toItself};
 ghost use Rattle.message.specs.FromModule.{fromModuleOf, ackMeaning, informationMeaning, settingsMeaning, controlMeaning};
-ghost use Rattle.message.specs.Parts.{namedOf};
 ghost use Rattle.message.specs.Write.{Writes};
 
 // The commands to the module itself with nothing after them.
@@ -36,7 +35,7 @@ pub enum SetupCommand {
 }
 
 // The command that a number names, if any.
-pub(crate) enum NamedCommand {
+pub enum NamedCommand {
     Known(SetupCommand),
     Unknown,
 }
@@ -67,30 +66,34 @@ pub enum SetupReport {
     SilentMode { released: bool },
 }
 
-fn command_number(command: SetupCommand) -> u8
-    ensures { λ r. ⌜ r ≡ commandNumber command ⌝ }
-{
-    match command {
-        SetupCommand::EnableAck => 0xF0,
-        SetupCommand::GetInformation => 0xF1,
-        SetupCommand::GetSettings => 0xF3,
-        SetupCommand::EraseSettings => 0xFD,
-        SetupCommand::SaveSettings => 0xFE,
-        SetupCommand::Reset => 0xFF,
+impl SetupCommand {
+    // The command's number in sheet 000.
+    pub fn number(self) -> u8
+        ensures { λ r. ⌜ r ≡ commandNumber self ⌝ }
+    {
+        match self {
+            SetupCommand::EnableAck => 0xF0,
+            SetupCommand::GetInformation => 0xF1,
+            SetupCommand::GetSettings => 0xF3,
+            SetupCommand::EraseSettings => 0xFD,
+            SetupCommand::SaveSettings => 0xFE,
+            SetupCommand::Reset => 0xFF,
+        }
     }
-}
 
-fn command_of(number: u8) -> NamedCommand
-    ensures { λ r. ⌜ namedOf r ≡ commandOf number ⌝ }
-{
-    match number {
-        0xF0 => NamedCommand::Known(SetupCommand::EnableAck),
-        0xF1 => NamedCommand::Known(SetupCommand::GetInformation),
-        0xF3 => NamedCommand::Known(SetupCommand::GetSettings),
-        0xFD => NamedCommand::Known(SetupCommand::EraseSettings),
-        0xFE => NamedCommand::Known(SetupCommand::SaveSettings),
-        0xFF => NamedCommand::Known(SetupCommand::Reset),
-        _ => NamedCommand::Unknown,
+    // The command with this number, if any.
+    pub fn named(number: u8) -> NamedCommand
+        ensures { λ r. ⌜ r ≡ commandOf number ⌝ }
+    {
+        match number {
+            0xF0 => NamedCommand::Known(SetupCommand::EnableAck),
+            0xF1 => NamedCommand::Known(SetupCommand::GetInformation),
+            0xF3 => NamedCommand::Known(SetupCommand::GetSettings),
+            0xFD => NamedCommand::Known(SetupCommand::EraseSettings),
+            0xFE => NamedCommand::Known(SetupCommand::SaveSettings),
+            0xFF => NamedCommand::Known(SetupCommand::Reset),
+            _ => NamedCommand::Unknown,
+        }
     }
 }
 
@@ -109,7 +112,7 @@ pub(crate) fn read_setup(payload: &[u8]) -> ToModule
             start: 2,
         };
     }
-    match command_of(number) {
+    match SetupCommand::named(number) {
         NamedCommand::Known(command) => {
             if payload.len() != 2 {
                 return ToModule::Refused(Refusal::Length);
@@ -207,7 +210,7 @@ pub(crate) fn write_settings(
 pub fn write_setup(framing: Framing, command: SetupCommand, buf: &mut [u8]) -> WriteAnswer
     ensures { λ r. ⌜ Writes framing 0 (setupLayout command) (now (buf .entry)) r (now (buf .exit)) ⌝ }
 {
-    let payload = [0xDB, command_number(command)];
+    let payload = [0xDB, command.number()];
     send(framing, &payload, buf)
 }
 

@@ -229,16 +229,8 @@ fn show_setting(setting: Setting) {
 
 // Prints a command to the module itself.
 fn show_setup(command: SetupCommand) {
-    let number = match command {
-        SetupCommand::EnableAck => 0xF0,
-        SetupCommand::GetInformation => 0xF1,
-        SetupCommand::GetSettings => 0xF3,
-        SetupCommand::EraseSettings => 0xFD,
-        SetupCommand::SaveSettings => 0xFE,
-        SetupCommand::Reset => 0xFF,
-    };
     io::write_all(STDOUT_FILENO, b"setup");
-    byte_field(number);
+    byte_field(command.number());
 }
 
 // Prints what the module reports of itself, but for its settings.

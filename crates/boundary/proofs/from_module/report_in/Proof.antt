@@ -9,8 +9,8 @@ use Rattle.boundary.proofs.from_module.report_in.Tie as tie
 information-in-requires : tie.Need-information-in-requires
 information-in-requires c κs = search needs
 
-control-in-requires : tie.Need-control-in-requires
-control-in-requires c κs = search needs
+silent-mode-in-requires : tie.Need-silent-mode-in-requires
+silent-mode-in-requires c κs = search needs
 
 returns : tie.Need-returns
 unfolding reportIn
@@ -26,7 +26,7 @@ returns-3 c = rw (c .match .keys3)
 
 returns-4 : tie.Need-returns-4
 unfolding reportIn
-returns-4 c = rw (c .before .match .keys4) (c .control-in .ensures)
+returns-4 c = rw (c .before .match .keys4) (c .silent-mode-in .ensures)
 
 returns-5 : tie.Need-returns-5
 unfolding reportIn
@@ -39,7 +39,7 @@ report-in-spec =
     tie.close
     (tie.spec
     information-in-requires
-    control-in-requires
+    silent-mode-in-requires
     returns
     returns-2
     returns-3

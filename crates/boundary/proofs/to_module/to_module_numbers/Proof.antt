@@ -17,14 +17,14 @@ enum-known-answer-2 c = search needs
 enum-known-answer-3 : tie.Need-enum-known-answer-3
 enum-known-answer-3 c = search needs
 
-setup-number-requires : tie.Need-setup-number-requires
-setup-number-requires c κs = search needs
+number-requires : tie.Need-number-requires
+number-requires c κs = search needs
 
 enum-known-answer-4 : tie.Need-enum-known-answer-4
 enum-known-answer-4 c = search needs
 
-number-requires : tie.Need-number-requires
-number-requires c κs = search needs
+number-requires-2 : tie.Need-number-requires-2
+number-requires-2 c κs = search needs
 
 returns : tie.Need-returns
 unfolding toModuleNumbers
@@ -36,11 +36,11 @@ returns-2 c = rw (c .before .before .answer2 .given .1)
 
 returns-3 : tie.Need-returns-3
 unfolding toModuleNumbers
-returns-3 c = rw (c .before .before .before .answer3 .given .1, c .before .setup-number .ensures)
+returns-3 c = rw (c .before .before .before .answer3 .given .1, c .before .number .ensures)
 
 returns-4 : tie.Need-returns-4
 unfolding toModuleNumbers
-returns-4 c = rw (c .before .before .before .answer4 .given .1, c .before .number .ensures)
+returns-4 c = rw (c .before .before .before .answer4 .given .1, c .before .number2 .ensures)
 
 pub to-module-numbers-spec : {M : Type 1} → statement M
 to-module-numbers-spec =
@@ -50,9 +50,9 @@ to-module-numbers-spec =
     request-numbers-requires
     enum-known-answer-2
     enum-known-answer-3
-    setup-number-requires
-    enum-known-answer-4
     number-requires
+    enum-known-answer-4
+    number-requires-2
     returns
     returns-2
     returns-3

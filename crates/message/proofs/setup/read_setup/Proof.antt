@@ -2,11 +2,10 @@
 -- Assumes nothing.
 use Prim.Native.Nat.{ℕ}
 use mathlib.Core.List.{List}
-use mathlib.Core.Path.{_≡_, sym, ap, _∙_}
+use mathlib.Core.Path.{_≡_, sym, _∙_}
 use borrow.Author.Needs.{needs}
 use borrow.Author.Tests.{not-true, not-false}
 use Rattle.message.specs.ToModule.{commandAs, toItself}
-use Rattle.message.specs.Parts.{namedOf}
 use Rattle.message.specs.declared.setup.NamedCommand.{NamedCommand}
 use Rattle.message.proofs.SetupLaws.{list-test, setup-no-list, setup-list, setup-named, known-length, known-read}
 use Rattle.message.proofs.setup.read_setup.Statement.{statement}
@@ -20,9 +19,9 @@ abbrev settings : tie.Then1 → List ℕ
 settings c = c .before .before .before .args .payload .now
 
 -- Where it is not F2, what the number names decides.
-named : (c : tie.After-command-of) {x : NamedCommand} → c .command-of .result ≡ x
-    → commandAs (namedOf x) (payload (c .before)) ≡ toItself (payload (c .before))
-named c e = setup-named _ (c .before .if1 .left) (ap namedOf (sym e) ∙ c .command-of .ensures)
+by-name : (c : tie.After-named) {x : NamedCommand} → c .named .result ≡ x
+    → commandAs x (payload (c .before)) ≡ toItself (payload (c .before))
+by-name c e = setup-named _ (c .before .if1 .left) (sym e ∙ c .named .ensures)
 
 shared-slice-read-number : tie.Need-shared-slice-read-number
 shared-slice-read-number c = search needs
@@ -49,8 +48,8 @@ returns-2 c =
     let d = c .before .before .before in
     setup-list _ (d .if1 .taken) (list-test (settings d) (c .before .is-list .ensures) ∙ not-false _ (c .if2 .left))
 
-command-of-requires : tie.Need-command-of-requires
-command-of-requires c κs = search needs
+named-requires : tie.Need-named-requires
+named-requires c κs = search needs
 
 enum-known-command : tie.Need-enum-known-command
 enum-known-command c = search needs
@@ -59,7 +58,7 @@ returns-3 : tie.Need-returns-3
 returns-3 c =
     let d = c .before .before in
     let e = d .before .before in
-    known-length (payload (e .before)) (d .command .given .0 .0) (c .if3 .taken) ∙ named e (d .command .given .1)
+    known-length (payload (e .before)) (d .command .given .0 .0) (c .if3 .taken) ∙ by-name e (d .command .given .1)
 
 enum-told : tie.Need-enum-told
 enum-told c = search needs
@@ -68,10 +67,10 @@ returns-4 : tie.Need-returns-4
 returns-4 c =
     let d = c .before .before in
     let e = d .before .before in
-    known-read (payload (e .before)) (d .command .given .0 .0) (c .if3 .left) ∙ named e (d .command .given .1)
+    known-read (payload (e .before)) (d .command .given .0 .0) (c .if3 .left) ∙ by-name e (d .command .given .1)
 
 returns-5 : tie.Need-returns-5
-returns-5 c = named (c .before .before) (c .enum-told .given .1)
+returns-5 c = by-name (c .before .before) (c .enum-told .given .1)
 
 pub read-setup-spec : {M : Type 1} → statement M
 read-setup-spec =
@@ -84,7 +83,7 @@ read-setup-spec =
     is-list-requires
     returns
     returns-2
-    command-of-requires
+    named-requires
     enum-known-command
     returns-3
     enum-told

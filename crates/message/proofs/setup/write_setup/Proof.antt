@@ -4,8 +4,8 @@ use borrow.Author.Needs.{needs}
 use Rattle.message.proofs.setup.write_setup.Statement.{statement}
 use Rattle.message.proofs.setup.write_setup.Tie as tie
 
-command-number-requires : tie.Need-command-number-requires
-command-number-requires c κs = search needs
+number-requires : tie.Need-number-requires
+number-requires c κs = search needs
 
 slice-aggregate-send : tie.Need-slice-aggregate-send
 slice-aggregate-send c = search needs
@@ -17,9 +17,9 @@ same-length : tie.Need-same-length
 same-length c = search needs
 
 returns : tie.Need-returns
-returns c = rw (← c .before .before .before .before .before .command-number .ensures) (c .before .before .send .ensures)
+returns c = rw (← c .before .before .before .before .before .number .ensures) (c .before .before .send .ensures)
 
 pub write-setup-spec : {M : Type 1} → statement M
 write-setup-spec =
     tie.close
-    (tie.spec command-number-requires slice-aggregate-send send-requires same-length returns)
+    (tie.spec number-requires slice-aggregate-send send-requires same-length returns)

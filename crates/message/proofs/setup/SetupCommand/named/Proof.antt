@@ -1,9 +1,9 @@
--- `message::setup::command_of` meets its contract: the definition at each number gives the same.
+-- `message::setup::SetupCommand::named` meets its contract: the definition at each number gives the same.
 -- Assumes nothing.
 use borrow.Author.Tests.{ne-eqb}
 use Rattle.message.specs.Setup.{commandOf}
-use Rattle.message.proofs.setup.command_of.Statement.{statement}
-use Rattle.message.proofs.setup.command_of.Tie as tie
+use Rattle.message.proofs.setup.SetupCommand.named.Statement.{statement}
+use Rattle.message.proofs.setup.SetupCommand.named.Tie as tie
 
 returns : tie.Need-returns
 unfolding commandOf
@@ -43,5 +43,5 @@ returns-7 c =
       ne-eqb _ _ (most .1),
     )
 
-pub command-of-spec : {M : Type 1} → statement M
-command-of-spec = tie.close (tie.spec returns returns-2 returns-3 returns-4 returns-5 returns-6 returns-7)
+pub named-spec : {M : Type 1} → statement M
+named-spec = tie.close (tie.spec returns returns-2 returns-3 returns-4 returns-5 returns-6 returns-7)
