@@ -11,5 +11,7 @@ pub mod ToModule
 -- Messages from the module, and the calls that read and write them.
 pub mod Status
 pub mod FromModule
+-- What follows from it; each claim is proved in proofs/Theorems.antt.
+pub mod Claims
 
--- Nothing more is claimed of them, and no file here is cited only by functions that are not public.
+-- No file here is cited only by functions that are not public.

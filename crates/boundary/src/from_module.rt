@@ -27,7 +27,7 @@ ghost use Rattle.boundary.specs.FromModule.{deliveryNumbers, responseNum
 ghost use Rattle.boundary.specs.FromModule.{noticeNumbers, fromModuleNumbers, deliveryIn, responseIn, informationIn, silentModeIn, reportIn, noticeIn};
 ghost use Rattle.boundary.specs.FromModule.{WritesDelivery, WritesNotice};
 
-// The information of F1.
+// The information of F1, its fields as in `message::Information`.
 #[repr(C)]
 pub struct InformationNumbers {
     pub application: u32,
@@ -50,9 +50,10 @@ const NO_INFORMATION: InformationNumbers = InformationNumbers {
 
 // A message from the module. `kind` is 0 for a refusal, 1 for a simple message, 2 for an extended one, 3 for a response, 4 for a standard status, 5 for a
 // remote status, 6 for a settings list, which is the data, 7 for a report of the module on itself. `address` is the sender's, `response_id` also a
-// response's own ID, `lqi` also a status's. The `command` of a report is F0 where it acknowledges, F1 where it has the information, F3 where its settings
-// failed, F8 where `result` is the state of silent mode, 1 released and 0 not. Fields that the kind does not have are 0 in an answer, and are not looked at
-// in a write; `refusal` and `start`, the index at which the data begin, belong to answers alone.
+// response's own ID, `lqi` also a status's. `command` is a simple message's, or says which report it is: F0 an acknowledgement, F1 the information, in
+// `information`, F3 that settings were not applied, F8 the state of silent mode. `result` is a response's, 1 success and 0 failure, or F8's state, 1 released
+// and 0 not. Fields that the kind, or the report, does not have are 0 in an answer, and are not looked at in a write; `refusal` and `start`, the index at
+// which the data begin, belong to answers alone.
 #[repr(C)]
 pub struct FromModuleNumbers {
     pub kind: u8,
@@ -400,8 +401,8 @@ pub extern "C" fn boundary_write_delivery(
 }
 
 // Writes a message from the module without data as a frame, as `message::write_notice` does. A framing or a kind that stands for none, or for a message
-// with data, is refused with 255, a report whose number names no command with 9, a response or a state of silent mode whose result is neither 0 nor 1 with
-// 11; then buf stays.
+// with data, is refused with 255, a report whose command is none of F0, F1, F3, F8 with 9, a response or a state of silent mode whose result is neither 0
+// nor 1 with 11; then buf stays.
 #[no_mangle]
 pub extern "C" fn boundary_write_notice(
     framing: u8,

@@ -221,7 +221,7 @@ pub extern "C" fn boundary_write_output_change(
 }
 
 // Writes a command to the module itself as a frame, as `message::write_setup` does. A framing that stands for none, or a kind that is not 6, is refused with
-// 255, a command number that names none with 9; then buf stays.
+// 255, a command that is none of F0, F1, F3, FD, FE, FF with 9; then buf stays.
 #[no_mangle]
 pub extern "C" fn boundary_write_setup(
     framing: u8,

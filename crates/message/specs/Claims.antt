@@ -192,7 +192,7 @@ RoundTrip =
     Writes f (family k .refusalOf m) (family k .layoutOf m) buf (Written len) after →
     FrameStands f (family k .layoutOf m) len after × family k .ReadAs (family k .layoutOf m) m
 
--- Given room, a message that is not refused is written, so the claim above is not about nothing.
+-- Given room, a message of at most 256 bytes that has no refusal of its own is written, so the claim above is not about nothing.
 abbrev pub CanWrite : Type 0
 CanWrite =
     (k : Kind) (f : Framing) (m : family k .Message) (buf : List ℕ) →

@@ -477,6 +477,9 @@ setupRows =
     ∷ toRefused (0xDB ∷ 0xFD ∷ 0x00 ∷ []) 7
     ∷ toRefused (0xDB ∷ 0xFE ∷ 0x00 ∷ []) 7
     ∷ toRefused (0xDB ∷ 0xFF ∷ 0x00 ∷ []) 7
+    ∷ toRefused (0xDB ∷ []) 7
+    ∷ toRefused (0xDB ∷ 0xF2 ∷ replicate 255 0x00) 7
+    ∷ toRefused (0xDB ∷ 0xF2 ∷ replicate 254 0x00) 17
     ∷ toRefused (0xDB ∷ 0xF2 ∷ 0xFF ∷ []) 17
     ∷ toRefused (0xDB ∷ 0xF2 ∷ 0x0B ∷ 0x00 ∷ []) 17
     ∷ toRefused (0xDB ∷ 0xF2 ∷ 0x03 ∷ 0x01 ∷ 0x03 ∷ 0x01 ∷ []) 17
@@ -505,7 +508,9 @@ setupRows =
     ∷ fromRefused (0xDB ∷ 0xF0 ∷ 0x02 ∷ []) 11
     ∷ fromRefused (0xDB ∷ 0xF8 ∷ 0x10 ∷ 0x01 ∷ []) 11
     ∷ fromRefused (0xDB ∷ 0xF8 ∷ 0x11 ∷ 0x02 ∷ []) 11
+    ∷ fromRefused (0xDB ∷ []) 7
     ∷ fromRefused (0xDB ∷ 0xF3 ∷ 0x03 ∷ []) 17
+    ∷ fromRefused (0xDB ∷ 0xF3 ∷ 0x03 ∷ 0x01 ∷ 0xFF ∷ []) 17
     ∷ fromRefused (0xDB ∷ 0xF3 ∷ 0xFE ∷ 0x00 ∷ []) 17
     ∷ fromRefused (0xDB ∷ 0xF3 ∷ 0xFF ∷ 0x00 ∷ 0xFF ∷ 0x00 ∷ []) 17
     ∷ []
@@ -517,7 +522,8 @@ wrote f k m room number len = row (write f k m room) (writing number len ∷ [])
 abbrev simpleTo : ℕ → ℕ → Request
 simpleTo address command = SimpleRequest (record { address = address; command = command })
 
--- Each refusal of writing for its cause, and those that come first before those that come later: 8, 9, 10, 17, then 14, then 13; DB is no plain address.
+-- Each refusal of writing for each of its causes, and those that come first before those that come later: 8, 9, 10, 17, then 14, then 13; DB is no plain
+-- address.
 abbrev pub writeRows : List Row
 writeRows =
     wrote Ascii orders (setup Reset) 9 0 9
@@ -538,6 +544,33 @@ writeRows =
     ∷ wrote Ascii requests
     (ExtendedRequest (record { address = Plain 0x00; «response_id» = 0x12; options = retriesAlone 0x10 }), replicate 300 0x00)
     0 10 0
+    ∷ wrote Ascii requests (ExtendedRequest (record { address = Plain 0x80; «response_id» = 0x12; options = noOptions }), []) 517 8 0
+    ∷ wrote Ascii requests
+    (ExtendedRequest (record { address = ExtendedAddress 0x00010000; «response_id» = 0x12; options = retriesAlone 0x10 }), [])
+    517 8 0
+    ∷ wrote Ascii orders (change (record { address = 0xDB; signals = 0x0000; mask = 0x0000 })) 0 8 0
+    ∷ wrote Ascii deliveries (SimpleDelivery (record { address = 0x65; command = 0x80 }), []) 0 8 0
+    ∷ wrote Ascii deliveries (SimpleDelivery (record { address = 0x64; command = 0x80 }), []) 0 9 0
+    ∷ wrote Ascii deliveries
+    (ExtendedDelivery (record { sender = 0xDB; «response_id» = 0x02; source = 0x00; destination = 0x00; lqi = 0x00 }), [])
+    0 8 0
+    ∷ wrote Ascii notices
+    (Remote
+    (record {
+      sender = 0xDB;
+      lqi = 0x00;
+      serial = 0x00;
+      destination = 0x00;
+      time = 0x00;
+      relays = 0x00;
+      signals = 0x00;
+      mask = 0x00;
+      interrupts = 0x00;
+      unused = 0x00;
+    }))
+    0 8 0
+    ∷ wrote Ascii notices (Standard distinctStatus) 51 0 51
+    ∷ wrote Ascii notices (Standard distinctStatus) 50 13 0
     ∷ wrote Ascii requests (simpleTo 0x64 0x7F, replicate 255 0x00) 0 14 0
     ∷ wrote Ascii requests (simpleTo 0x64 0x7F, replicate 254 0x00) 516 13 0
     ∷ wrote Ascii requests (simpleTo 0x64 0x7F, replicate 254 0x00) 517 0 517

@@ -9,7 +9,8 @@ use Rattle.settings.proofs.Examples as table
 
 pub table-is-read : TableIsRead
 unfolding widthOf
-table-is-read = record { beside = refl; noZero = refl }
+table-is-read =
+    record { once = (refl, (refl, (refl, (refl, (refl, (refl, (refl, (refl, (refl, (refl, (refl, (refl, (refl, tt))))))))))))); beside = refl; noZero = refl }
 
 pub list-is-its-settings : ListIsItsSettings
 list-is-its-settings =

@@ -9,8 +9,14 @@ use Rattle.settings.specs.List.{widths, widthOf, among, isList}
 use Rattle.settings.specs.Walk.{settingsOf}
 use Rattle.settings.specs.declared.walk.Setting.{Setting}
 
+-- No identifier stands twice.
+abbrev pub Distinct : List ℕ → Type 0
+Distinct [] = Unit {0}
+Distinct (id ∷ ids) = (among ids id ≡ false) × Distinct ids
+
 -- The table of widths has each identifier once and no width of 0: so the width of each is the one beside it, and 0 stands for unknown identifiers alone.
 pub record TableIsRead : Type 0 where
+  pub once : Distinct (map (λ (w : ℕ × ℕ). w .0) widths)
   pub beside : map (λ (w : ℕ × ℕ). widthOf (w .0)) widths ≡ map (λ (w : ℕ × ℕ). w .1) widths
   pub noZero : among (map (λ (w : ℕ × ℕ). w .1) widths) 0 ≡ false
 
@@ -23,11 +29,6 @@ joined (v ∷ vs) = v .0 ∷ (v .1 ++ joined vs)
 abbrev pub Known : List (ℕ × List ℕ) → Type 0
 Known [] = Unit {0}
 Known (v ∷ vs) = (widthOf (v .0) ≡ 0 → ⊥) × (length (v .1) ≡ widthOf (v .0)) × Known vs
-
--- No identifier stands twice.
-abbrev pub Distinct : List ℕ → Type 0
-Distinct [] = Unit {0}
-Distinct (id ∷ ids) = (among ids id ≡ false) × Distinct ids
 
 -- The identifiers.
 abbrev pub identifiers : List (ℕ × List ℕ) → List ℕ

@@ -1,0 +1,168 @@
+-- The claims of specs/Claims.antt, proved case by case.
+-- Assumes nothing.
+use Prim.Native.Nat.{ℕ}
+use mathlib.Core.Path.{_≡_, refl}
+use mathlib.Core.Bool.{true, false}
+use lib.Dec.{eqb}
+use Rattle.frame.specs.declared.framing.Framing.{Framing}
+use Rattle.frame.specs.declared.framing.Framing.the-variants.{Binary, Ascii}
+use Rattle.message.specs.FromModule.{outcomeByte}
+use Rattle.message.specs.Options.{byteGiven, wordGiven}
+use Rattle.message.specs.Setup.{commandNumber, commandOf}
+use Rattle.message.specs.declared.options.MaybeByte.{MaybeByte}
+use Rattle.message.specs.declared.options.MaybeByte.the-variants.{NotGiven as NoByte, Given as Byte}
+use Rattle.message.specs.declared.options.MaybeWord.{MaybeWord}
+use Rattle.message.specs.declared.options.MaybeWord.the-variants.{NotGiven as NoWord, Given as Word}
+use Rattle.message.specs.declared.options.Options.{Options}
+use Rattle.message.specs.declared.setup.SetupCommand.{SetupCommand}
+use Rattle.message.specs.declared.setup.SetupCommand.the-variants.{EnableAck, GetInformation, GetSettings, EraseSettings, SaveSettings, Reset}
+use Rattle.message.specs.declared.setup.SetupReport.the-variants.{Acknowledged, Information as IsInformation, SettingsFailed, SilentMode}
+use Rattle.message.specs.declared.setup.NamedCommand.the-variants.{Known as KnownCommand}
+use Rattle.message.specs.declared.to_module.Address.{Address}
+use Rattle.message.specs.declared.to_module.Address.the-variants.{Plain, Extended}
+use Rattle.message.specs.declared.to_module.Transmission.{Transmission}
+use Rattle.message.specs.declared.to_module.Request.{Request}
+use Rattle.message.specs.declared.to_module.Request.the-variants.{Simple as SimpleRequest, Extended as ExtendedRequest, Settings as SettingsRequest}
+use Rattle.message.specs.declared.from_module.Delivery.{Delivery}
+use Rattle.message.specs.declared.from_module.Delivery.the-variants.{Simple as SimpleDelivery, Extended as ExtendedDelivery, Settings as SettingsDelivery}
+use Rattle.message.specs.declared.from_module.Outcome.{Outcome}
+use Rattle.message.specs.declared.from_module.Outcome.the-variants.{Failure, Success}
+use Rattle.message.specs.declared.from_module.Notice.{Notice}
+use Rattle.message.specs.declared.from_module.Notice.the-variants.{Response as IsResponse, Standard, Remote, Setup}
+use Rattle.boundary.specs.Framing.{framingOf, framingNumber, unknownNumber}
+use Rattle.boundary.specs.Claims.{CrossesBack}
+use Rattle.boundary.specs.Options.{byteOf, wordOf, byteIn, wordIn, optionNumbers, optionsIn}
+use Rattle.boundary.specs.ToModule.{transmissionNumbers, requestNumbers, setupNumbers, transmissionIn, requestIn}
+use Rattle.boundary.specs.ToModule.{addressKind, changeRefusalIn, setupRefusalIn}
+use Rattle.boundary.specs.FromModule.{deliveryNumbers, responseNumbers, reportNumbers, noticeNumbers}
+use Rattle.boundary.specs.FromModule.{deliveryIn, responseIn, silentModeIn, reportIn, noticeIn}
+use Rattle.boundary.specs.declared.framing.NamedFraming.the-variants.{Known as KnownFraming}
+use Rattle.boundary.specs.declared.to_module.NamedRequest.the-variants.{Known as KnownRequest}
+use Rattle.boundary.specs.declared.from_module.NamedDelivery.the-variants.{Known as KnownDelivery, Unknown as NoDelivery}
+use Rattle.boundary.specs.declared.from_module.NamedNotice.the-variants.{Known as KnownNotice, Unknown as NoNotice}
+
+-- Framings and commands.
+framing : (f : Framing) → framingOf (framingNumber f) ≡ KnownFraming f
+unfolding framingOf
+framing Binary = refl
+framing Ascii = refl
+
+setup : (c : SetupCommand) → commandOf (commandNumber c) ≡ KnownCommand c
+unfolding commandOf
+setup EnableAck = refl
+setup GetInformation = refl
+setup GetSettings = refl
+setup EraseSettings = refl
+setup SaveSettings = refl
+setup Reset = refl
+
+setup-taken : (c : SetupCommand) → setupRefusalIn (setupNumbers c) ≡ 0
+setup-taken c = rw (setup c)
+
+-- Options: each argument with whether it is given.
+byte : (b : MaybeByte) → byteIn (byteGiven b) (byteOf b) ≡ b
+byte NoByte = refl
+byte (Byte b) = refl
+
+word : (w : MaybeWord) → wordIn (wordGiven w) (wordOf w) ≡ w
+word NoWord = refl
+word (Word v) = refl
+
+options : (o : Options) → optionsIn (optionNumbers o) ≡ o
+unfolding optionNumbers optionsIn
+options o = rw (byte (o .retries), word (o .«lower_delay»), word (o .«upper_delay»), word (o .interval))
+
+-- Messages to the module. Of an extended one the kind is by its address.
+transmission : (a : Address) (id : ℕ) (o : Options) (start : ℕ) →
+    let m : Transmission = record { address = a; «response_id» = id; options = o } in
+    requestIn (transmissionNumbers m start) ≡ KnownRequest (ExtendedRequest m)
+unfolding requestIn transmissionIn transmissionNumbers
+transmission (Plain a) id o start = rw (options o)
+transmission (Extended w) id o start = rw (options o)
+
+kind-no-change : (a : Address) → eqb (addressKind a) 4 ≡ false
+kind-no-change (Plain a) = refl
+kind-no-change (Extended w) = refl
+
+kind-no-setup : (a : Address) → eqb (addressKind a) 6 ≡ false
+kind-no-setup (Plain a) = refl
+kind-no-setup (Extended w) = refl
+
+request : (m : Request) (start : ℕ) → requestIn (requestNumbers m start) ≡ KnownRequest m
+unfolding requestIn requestNumbers
+request (SimpleRequest m) start = refl
+request (ExtendedRequest m) start = transmission (m .address) (m .«response_id») (m .options) start
+request SettingsRequest start = refl
+
+request-no-change : (m : Request) (start : ℕ) → changeRefusalIn (requestNumbers m start) ≡ unknownNumber
+unfolding requestNumbers transmissionNumbers
+request-no-change (SimpleRequest m) start = refl
+request-no-change (ExtendedRequest m) start = rw (kind-no-change (m .address))
+request-no-change SettingsRequest start = refl
+
+request-no-setup : (m : Request) (start : ℕ) → setupRefusalIn (requestNumbers m start) ≡ unknownNumber
+unfolding requestNumbers transmissionNumbers
+request-no-setup (SimpleRequest m) start = refl
+request-no-setup (ExtendedRequest m) start = rw (kind-no-setup (m .address))
+request-no-setup SettingsRequest start = refl
+
+-- Messages from the module.
+delivery : (m : Delivery) (start : ℕ) → deliveryIn (deliveryNumbers m start) ≡ KnownDelivery m
+unfolding deliveryIn deliveryNumbers
+delivery (SimpleDelivery m) start = refl
+delivery (ExtendedDelivery m) start = refl
+delivery SettingsDelivery start = refl
+
+delivery-no-notice : (m : Delivery) (start : ℕ) → noticeIn (deliveryNumbers m start) ≡ NoNotice
+unfolding noticeIn deliveryNumbers
+delivery-no-notice (SimpleDelivery m) start = refl
+delivery-no-notice (ExtendedDelivery m) start = refl
+delivery-no-notice SettingsDelivery start = refl
+
+response : (id : ℕ) (o : Outcome) → responseIn id (outcomeByte o) ≡ KnownNotice (IsResponse (record { id = id; outcome = o }))
+unfolding responseIn
+response id Failure = refl
+response id Success = refl
+
+notice : (m : Notice) → noticeIn (noticeNumbers m) ≡ KnownNotice m
+unfolding noticeIn noticeNumbers responseNumbers silentModeIn reportIn reportNumbers
+notice (IsResponse m) = response (m .id) (m .outcome)
+notice (Standard m) = refl
+notice (Remote m) = refl
+notice (Setup Acknowledged) = refl
+notice (Setup (IsInformation m)) = refl
+notice (Setup SettingsFailed) = refl
+notice (Setup (SilentMode true)) = refl
+notice (Setup (SilentMode false)) = refl
+
+notice-no-delivery : (m : Notice) → deliveryIn (noticeNumbers m) ≡ NoDelivery
+unfolding deliveryIn noticeNumbers responseNumbers reportNumbers
+notice-no-delivery (IsResponse m) = refl
+notice-no-delivery (Standard m) = refl
+notice-no-delivery (Remote m) = refl
+notice-no-delivery (Setup Acknowledged) = refl
+notice-no-delivery (Setup (IsInformation m)) = refl
+notice-no-delivery (Setup SettingsFailed) = refl
+notice-no-delivery (Setup (SilentMode released)) = refl
+
+pub crosses-back : CrossesBack
+unfolding requestIn
+crosses-back =
+    record {
+      framing = framing;
+      request = request;
+      change = λ m. refl;
+      setup = setup;
+      delivery = delivery;
+      notice = notice;
+      changeTaken = λ m. refl;
+      setupTaken = setup-taken;
+      changeNoRequest = λ m. refl;
+      setupNoRequest = λ c. refl;
+      requestNoChange = request-no-change;
+      setupNoChange = λ c. refl;
+      requestNoSetup = request-no-setup;
+      changeNoSetup = λ m. refl;
+      noticeNoDelivery = notice-no-delivery;
+      deliveryNoNotice = delivery-no-notice;
+    }

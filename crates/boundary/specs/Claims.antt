@@ -1,0 +1,43 @@
+-- What is claimed of the flat form. A message that was read across the boundary can be handed back as it is: its numbers stand for it, and for no message of
+-- another call. proofs/Theorems.antt proves each claim.
+use Prim.Native.Nat.{ℕ}
+use mathlib.Core.Path.{_≡_}
+use Rattle.frame.specs.declared.framing.Framing.{Framing}
+use Rattle.message.specs.Setup.{commandOf}
+use Rattle.message.specs.ToModule.{changeRefusal}
+use Rattle.message.specs.declared.setup.SetupCommand.{SetupCommand}
+use Rattle.message.specs.declared.setup.NamedCommand.the-variants.{Known as KnownCommand}
+use Rattle.message.specs.declared.to_module.Request.{Request}
+use Rattle.message.specs.declared.to_module.OutputChange.{OutputChange}
+use Rattle.message.specs.declared.from_module.Delivery.{Delivery}
+use Rattle.message.specs.declared.from_module.Notice.{Notice}
+use Rattle.boundary.specs.Framing.{framingOf, framingNumber, unknownNumber}
+use Rattle.boundary.specs.ToModule.{requestNumbers, changeNumbers, setupNumbers, requestIn, changeIn, changeRefusalIn, setupRefusalIn}
+use Rattle.boundary.specs.FromModule.{deliveryNumbers, noticeNumbers, deliveryIn, noticeIn}
+use Rattle.boundary.specs.declared.framing.NamedFraming.the-variants.{Known as KnownFraming}
+use Rattle.boundary.specs.declared.to_module.NamedRequest.the-variants.{Known as KnownRequest, Unknown as NoRequest}
+use Rattle.boundary.specs.declared.from_module.NamedDelivery.the-variants.{Known as KnownDelivery, Unknown as NoDelivery}
+use Rattle.boundary.specs.declared.from_module.NamedNotice.the-variants.{Known as KnownNotice, Unknown as NoNotice}
+
+pub record CrossesBack : Type 0 where
+  -- The number of a framing stands for it.
+  pub framing : (f : Framing) → framingOf (framingNumber f) ≡ KnownFraming f
+  -- The numbers of a message stand for it, wherever its data began.
+  pub request : (m : Request) (start : ℕ) → requestIn (requestNumbers m start) ≡ KnownRequest m
+  pub change : (m : OutputChange) → changeIn (changeNumbers m) ≡ m
+  pub setup : (c : SetupCommand) → commandOf ((setupNumbers c) .command) ≡ KnownCommand c
+  pub delivery : (m : Delivery) (start : ℕ) → deliveryIn (deliveryNumbers m start) ≡ KnownDelivery m
+  pub notice : (m : Notice) → noticeIn (noticeNumbers m) ≡ KnownNotice m
+  -- The calls for a change of outputs and for a command, which test the kind first, find it right: what is refused is for the message's own reason.
+  pub changeTaken : (m : OutputChange) → changeRefusalIn (changeNumbers m) ≡ changeRefusal m
+  pub setupTaken : (c : SetupCommand) → setupRefusalIn (setupNumbers c) ≡ 0
+  -- To the module: the numbers of a message are refused by the calls that write other messages.
+  pub changeNoRequest : (m : OutputChange) → requestIn (changeNumbers m) ≡ NoRequest
+  pub setupNoRequest : (c : SetupCommand) → requestIn (setupNumbers c) ≡ NoRequest
+  pub requestNoChange : (m : Request) (start : ℕ) → changeRefusalIn (requestNumbers m start) ≡ unknownNumber
+  pub setupNoChange : (c : SetupCommand) → changeRefusalIn (setupNumbers c) ≡ unknownNumber
+  pub requestNoSetup : (m : Request) (start : ℕ) → setupRefusalIn (requestNumbers m start) ≡ unknownNumber
+  pub changeNoSetup : (m : OutputChange) → setupRefusalIn (changeNumbers m) ≡ unknownNumber
+  -- From the module: the same.
+  pub noticeNoDelivery : (m : Notice) → deliveryIn (noticeNumbers m) ≡ NoDelivery
+  pub deliveryNoNotice : (m : Delivery) (start : ℕ) → noticeIn (deliveryNumbers m start) ≡ NoNotice
