@@ -36,6 +36,8 @@ impl Rng {
 
 // Payloads from the module.
 
+type Payload = fn(&mut Rng) -> Vec<u8>;
+
 /// A plain address: 0 to 100, or 120.
 fn address(rng: &mut Rng) -> u8 {
     match rng.below(102) {
@@ -147,23 +149,24 @@ fn ascii_frame(payload: &[u8], checksum: u8) -> Vec<u8> {
     [b':'].into_iter().chain(digits).chain(*b"\r\n").collect()
 }
 
-fn binary_frame(payload: &[u8], checksum: u8) -> Vec<u8> {
+fn binary_frame(payload: &[u8], checksum: u8, footer: &[u8]) -> Vec<u8> {
     let length = (0x8000 + payload.len() as u16).to_be_bytes();
-    [&[0xA5, 0x5A], &length[..], payload, &[checksum, 0x04]].concat()
+    [&[0xA5, 0x5A], &length[..], payload, &[checksum], footer].concat()
 }
 
-/// The frame with this payload, whose checksum is off by `error`.
-fn frame_off_by(framing: Framing, payload: &[u8], error: u8) -> Vec<u8> {
+/// The frame of a payload, its checksum off by `error`. In binary framing the footer is there or missing, by chance.
+fn frame_off_by(rng: &mut Rng, framing: Framing, payload: Payload, error: u8) -> Vec<u8> {
+    let payload = payload(rng);
     let sum = payload.iter().fold(0u8, |sum, b| sum.wrapping_add(*b));
     let xor = payload.iter().fold(0, |xor, b| xor ^ b);
     match framing {
-        Ascii => ascii_frame(payload, sum.wrapping_neg().wrapping_add(error)),
-        Binary => binary_frame(payload, xor ^ error),
+        Ascii => ascii_frame(&payload, sum.wrapping_neg().wrapping_add(error)),
+        Binary => binary_frame(&payload, xor ^ error, if rng.one_in(2) { &[0x04] } else { &[] }),
     }
 }
 
-fn frame(framing: Framing, payload: &[u8]) -> Vec<u8> {
-    frame_off_by(framing, payload, 0)
+fn frame(rng: &mut Rng, framing: Framing, payload: Payload) -> Vec<u8> {
+    frame_off_by(rng, framing, payload, 0)
 }
 
 /// Changes, removes or inserts a byte of a frame.
@@ -185,7 +188,7 @@ type Source = fn(&mut Rng, Framing) -> Vec<u8>;
 /// Messages of every kind. One frame in 50 is corrupted, and before one in 50 there is noise.
 fn mixed(rng: &mut Rng, framing: Framing) -> Vec<u8> {
     let noise = if rng.one_in(50) { 1 + rng.below(40) } else { 0 };
-    let mut next = frame(framing, &message(rng));
+    let mut next = frame(rng, framing, message);
     if rng.one_in(50) {
         corrupt(rng, &mut next);
     }
@@ -193,11 +196,11 @@ fn mixed(rng: &mut Rng, framing: Framing) -> Vec<u8> {
 }
 
 fn statuses(rng: &mut Rng, framing: Framing) -> Vec<u8> {
-    frame(framing, &status(rng))
+    frame(rng, framing, status)
 }
 
 fn long(rng: &mut Rng, framing: Framing) -> Vec<u8> {
-    frame(framing, &longest(rng))
+    frame(rng, framing, longest)
 }
 
 /// Three frames with a wrong checksum, then a good one.
@@ -205,19 +208,19 @@ fn badsums(rng: &mut Rng, framing: Framing) -> Vec<u8> {
     let mut line = Vec::new();
     for _ in 0..3 {
         let error = 1 + rng.below(255) as u8;
-        line.extend(frame_off_by(framing, &message(rng), error));
+        line.extend(frame_off_by(rng, framing, message, error));
     }
-    line.extend(frame(framing, &message(rng)));
+    line.extend(frame(rng, framing, message));
     line
 }
 
 fn setups(rng: &mut Rng, framing: Framing) -> Vec<u8> {
-    frame(framing, &setup(rng))
+    frame(rng, framing, setup)
 }
 
 /// A frame that is cut short three times out of four, so that the next one follows in its midst.
 fn truncated(rng: &mut Rng, framing: Framing) -> Vec<u8> {
-    let mut next = frame(framing, &message(rng));
+    let mut next = frame(rng, framing, message);
     if !rng.one_in(4) {
         next.truncate(1 + rng.below(next.len() - 1));
     }
@@ -232,24 +235,31 @@ fn colons(rng: &mut Rng, framing: Framing) -> Vec<u8> {
         0..=2 => vec![b':'; run],
         3..=5 => (0..run).map(|_| b"0123456789ABCDEF"[rng.below(16)]).collect(),
         6 => b"\r\n".to_vec(),
-        _ => frame(framing, &response(rng)),
+        _ => frame(rng, framing, response),
     }
 }
 
 /// Runs of starts that overlap: each claims the longest payload, and its bytes are the next starts.
 fn overlap(rng: &mut Rng, framing: Framing) -> Vec<u8> {
     let run = [0xA5, 0x5A, 0x81, 0x00].repeat(1 + rng.below(2000));
-    [run, frame(framing, &message(rng))].concat()
+    [run, frame(rng, framing, message)].concat()
 }
 
 /// Runs of the first start byte, some with the second behind them, and some frames.
 fn storm(rng: &mut Rng, framing: Framing) -> Vec<u8> {
     let run = vec![0xA5; 1 + rng.below(100)];
     match rng.below(8) {
-        0 => [run, frame(framing, &message(rng))].concat(),
+        0 => [run, frame(rng, framing, message)].concat(),
         1..=3 => [run, vec![0x5A]].concat(),
         _ => run,
     }
+}
+
+/// Short frames with any number of footers, some inside the length that a start before them claims, which fails behind them.
+fn footers(rng: &mut Rng, framing: Framing) -> Vec<u8> {
+    let claims = if rng.one_in(4) { vec![0xA5, 0x5A, 0x80, 1 + rng.below(60) as u8] } else { Vec::new() };
+    let more = if rng.one_in(4) { rng.below(4) } else { 0 };
+    [claims, frame(rng, framing, response), vec![0x04; more]].concat()
 }
 
 fn random(rng: &mut Rng, _: Framing) -> Vec<u8> {
@@ -273,6 +283,7 @@ fn sources(framing: Framing) -> Vec<(&'static str, Source)> {
             ("overlap", overlap),
             ("storm", storm),
             ("truncated", truncated),
+            ("footers", footers),
             ("random", random),
         ],
     }

@@ -19,9 +19,10 @@ pub struct Writing {
 #[repr(C)]
 #[derive(Clone, Copy, Debug, PartialEq)]
 pub struct Reader {
-    pub framing: u8,
+    pub format: u8,
     pub held: [u8; 517],
     pub count: usize,
+    pub follows: u8,
 }
 
 #[repr(C)]
@@ -136,9 +137,9 @@ pub struct Setting {
 mod raw {
     use super::*;
     extern "C" {
-        pub fn boundary_read_frame(framing: u8, s: *const u8, n: usize, buf: *mut u8, room: usize) -> Reading;
+        pub fn boundary_read_frame(format: u8, s: *const u8, n: usize, buf: *mut u8, room: usize) -> Reading;
         pub fn boundary_write_frame(framing: u8, p: *const u8, n: usize, buf: *mut u8, room: usize) -> Writing;
-        pub fn boundary_new_reader(framing: u8) -> Reader;
+        pub fn boundary_new_reader(format: u8) -> Reader;
         pub fn boundary_feed(reader: Reader, chunk: *const u8, n: usize, buf: *mut u8, room: usize) -> Fed;
         pub fn boundary_quiet(reader: Reader, buf: *mut u8, room: usize) -> Fed;
         pub fn boundary_read_to_module(p: *const u8, n: usize) -> ToModule;
@@ -154,16 +155,16 @@ mod raw {
 
 // Safe: every function is proved for all arguments, and each slice is passed with its own length.
 
-pub fn read_frame(framing: u8, s: &[u8], buf: &mut [u8]) -> Reading {
-    unsafe { raw::boundary_read_frame(framing, s.as_ptr(), s.len(), buf.as_mut_ptr(), buf.len()) }
+pub fn read_frame(format: u8, s: &[u8], buf: &mut [u8]) -> Reading {
+    unsafe { raw::boundary_read_frame(format, s.as_ptr(), s.len(), buf.as_mut_ptr(), buf.len()) }
 }
 
 pub fn write_frame(framing: u8, payload: &[u8], buf: &mut [u8]) -> Writing {
     unsafe { raw::boundary_write_frame(framing, payload.as_ptr(), payload.len(), buf.as_mut_ptr(), buf.len()) }
 }
 
-pub fn new_reader(framing: u8) -> Reader {
-    unsafe { raw::boundary_new_reader(framing) }
+pub fn new_reader(format: u8) -> Reader {
+    unsafe { raw::boundary_new_reader(format) }
 }
 
 pub fn feed(reader: Reader, chunk: &[u8], buf: &mut [u8]) -> Fed {

@@ -1,8 +1,8 @@
 //! The cases: each runs the library and the model on the same input and compares every number, every byte of a buffer and the state.
 use crate::boundary::{self as library, Answer, Fed, FromModule, Reader, Reading, ToModule, Writing};
-use crate::frames::{self, Call, Framing};
+use crate::frames::{self, Call, Format, Framing, State};
 use crate::messages;
-use crate::random::{self, framing_number, Random};
+use crate::random::{self, Random};
 use crate::Tally;
 
 /// A difference, told in words and bytes.
@@ -30,10 +30,40 @@ fn in_front(bytes: &[u8], buf: &[u8]) -> Vec<u8> {
     [bytes, &buf[bytes.len()..]].concat()
 }
 
-/// A framing and its number, or now and then a number that stands for none.
+fn format_number(format: Format) -> u8 {
+    match format {
+        Format::Optional => 0,
+        Format::Ascii => 1,
+        Format::Required => 2,
+    }
+}
+
+fn framing_number(framing: Framing) -> u8 {
+    match framing {
+        Framing::Binary => 0,
+        Framing::Ascii => 1,
+    }
+}
+
+/// The first number that stands for no format or no framing, or any other.
+fn unknown_number(r: &mut Random, first: u8) -> u8 {
+    let any = r.within(first as usize, 255) as u8;
+    r.pick(&[first, any])
+}
+
+/// A format and its number, or now and then a number that stands for none.
+fn any_format(r: &mut Random) -> (Option<Format>, u8) {
+    if r.once_in(50) {
+        return (None, unknown_number(r, 3));
+    }
+    let f = random::format(r);
+    (Some(f), format_number(f))
+}
+
+/// A framing and its number, or now and then a number that stands for none: 2, which stands for a format, does not.
 fn any_framing(r: &mut Random) -> (Option<Framing>, u8) {
     if r.once_in(50) {
-        return (None, r.within(2, 255) as u8);
+        return (None, unknown_number(r, 2));
     }
     let f = random::framing(r);
     (Some(f), framing_number(f))
@@ -51,8 +81,8 @@ fn room_for(r: &mut Random, need: usize) -> usize {
 
 /// A single read of a segment's front.
 pub fn single_read(r: &mut Random, tally: &mut Tally) -> Outcome {
-    let (f, number) = any_framing(r);
-    let s = random::segment(r, f.unwrap_or(Framing::Ascii));
+    let (f, number) = any_format(r);
+    let s = random::segment(r, f.unwrap_or(Format::Ascii).framing());
     let need = f.and_then(|f| frames::read_frame(f, &s, 256).ok()).map_or(8, |x| x.1.len());
     let room = room_for(r, need);
     let before = patterned(r, room);
@@ -64,8 +94,8 @@ pub fn single_read(r: &mut Random, tally: &mut Tally) -> Outcome {
     let mut buf = before;
     let got = library::read_frame(number, &s, &mut buf);
     tally.refusal(got.refusal);
-    tally.add("single reads that give a frame", got.refusal == 0);
-    let input = || format!("read_frame framing {number} room {room} bytes {}", hex(&s));
+    tally.single_read(f, got);
+    let input = || format!("read_frame format {number} room {room} bytes {}", hex(&s));
     same("answer", &input, got, answer)?;
     same("buffer", &input, buf, after)
 }
@@ -180,10 +210,12 @@ pub fn message_write(r: &mut Random, tally: &mut Tally) -> Outcome {
         return Ok(());
     }
     let p = payload.unwrap();
-    let mut back = [0; 256];
-    let read = library::read_frame(number, &buf, &mut back);
-    same("read back", &|| call.clone(), read, Reading { refusal: 0, used: got.len, len: p.len() })?;
-    same("payload read back", &|| call.clone(), &back[..p.len()], &p[..])?;
+    for format in Format::ALL.into_iter().filter(|x| Some(x.framing()) == f) {
+        let mut back = [0; 256];
+        let read = library::read_frame(format_number(format), &buf, &mut back);
+        same("read back", &|| call.clone(), read, Reading { refusal: 0, used: got.len, len: p.len() })?;
+        same("payload read back", &|| call.clone(), &back[..p.len()], &p[..])?;
+    }
     let known = if which < 3 { library::read_to_module(&p).refusal } else { library::read_from_module(&p).refusal };
     same("message read back", &|| call.clone(), known, 0)
 }
@@ -210,35 +242,40 @@ pub fn walk(r: &mut Random, tally: &mut Tally) -> Outcome {
     same("setting", &|| format!("setting_at index {far} list {}", hex(&list)), library::setting_at(&list, far), messages::setting_at(&list, far))
 }
 
-/// A reader of the library beside the bytes that the model holds.
+/// A reader of the library beside the model's state.
 struct Pair {
-    framing: Framing,
+    format: Format,
     reader: Reader,
-    held: Vec<u8>,
+    state: State,
     frames: Vec<Vec<u8>>,
     noise: usize,
 }
 
+/// What a call was given, for a report.
+fn told(name: &str, r: &Reader, chunk: &[u8], room: usize) -> String {
+    let (count, held) = (r.count, hex(&r.held));
+    format!("{name} format {} follows {} count {count} held {held} chunk ({}) {} room {room}", r.format, r.follows, chunk.len(), hex(chunk))
+}
+
+/// The state with its mark as 0 or 1: every number but 0 says yes.
+fn plain_mark(reader: Reader) -> Reader {
+    Reader { follows: (reader.follows != 0) as u8, ..reader }
+}
+
 impl Pair {
-    fn new(framing: Framing) -> Pair {
-        let reader = library::new_reader(framing_number(framing));
-        Pair { framing, reader, held: Vec::new(), frames: Vec::new(), noise: 0 }
+    fn new(format: Format) -> Pair {
+        let reader = library::new_reader(format_number(format));
+        Pair { format, reader, state: State::default(), frames: Vec::new(), noise: 0 }
     }
 
     fn over_limit(&self) -> bool {
-        self.reader.count > self.framing.limit()
-    }
-
-    /// What a call was given, for a report.
-    fn input(&self, name: &str, chunk: &[u8], room: usize) -> String {
-        let r = &self.reader;
-        format!("{name} framing {} count {} held {} chunk ({}) {} room {room}", r.framing, r.count, hex(&r.held), chunk.len(), hex(chunk))
+        self.reader.count > self.format.limit()
     }
 
     /// A refused call: its number, zeros, state and buffer as they were.
     fn refused(&self, refusal: u8, input: &dyn Fn() -> String, got: Fed, buf: &[u8], before: &[u8]) -> Outcome {
         same("answer", input, got.answer, Answer { refusal, ..Default::default() })?;
-        same("state", input, got.reader, self.reader)?;
+        same("state", input, plain_mark(got.reader), plain_mark(self.reader))?;
         same("buffer", input, buf, before)
     }
 
@@ -249,16 +286,18 @@ impl Pair {
             None => (0, before.to_vec()),
         };
         let is_frame = call.payload.is_some() as u8;
+        let held = &call.state.held;
         same("answer", input, got.answer, Answer { refusal: 0, is_frame, taken: call.taken, noise: call.noise, len })?;
         same("buffer", input, buf, &after[..])?;
-        same("framing", input, got.reader.framing, self.reader.framing)?;
-        same("count", input, got.reader.count, call.held.len())?;
-        same("held bytes", input, &got.reader.held[..call.held.len()], &call.held[..])?;
+        same("format", input, got.reader.format, self.reader.format)?;
+        same("count", input, got.reader.count, held.len())?;
+        same("held bytes", input, &got.reader.held[..held.len()], &held[..])?;
+        same("mark", input, got.reader.follows, call.state.follows as u8)?;
         if fresh {
-            same("fresh state", input, got.reader, Pair::new(self.framing).reader)?;
+            same("fresh state", input, got.reader, Pair::new(self.format).reader)?;
         }
         self.reader = got.reader;
-        self.held = call.held;
+        self.state = call.state;
         self.noise += call.noise;
         self.frames.extend(call.payload);
         Ok(())
@@ -271,8 +310,8 @@ impl Pair {
         let got = library::feed(self.reader, chunk, &mut buf);
         tally.refusal(got.answer.refusal);
         tally.add("line calls", true);
-        let was = Pair { framing: self.framing, reader: self.reader, held: Vec::new(), frames: Vec::new(), noise: 0 };
-        let input = || was.input("feed", chunk, room);
+        let was = self.reader;
+        let input = || told("feed", &was, chunk, room);
         let refusal = match () {
             _ if self.over_limit() => 16,
             _ if room < 256 => 13,
@@ -283,9 +322,10 @@ impl Pair {
             self.refused(refusal, &input, got, &buf, &before)?;
             return Ok((0, false));
         }
-        let call = frames::feed(self.framing, &self.held, chunk);
+        let call = frames::feed(self.format, &self.state, chunk);
         let (taken, is_frame) = (call.taken, call.payload.is_some());
         tally.add("line calls that give a frame", is_frame);
+        tally.footer_in_line(self.format, &self.state, chunk);
         self.answered(call, false, &input, got, &buf, &before)?;
         Ok((taken, is_frame))
     }
@@ -297,8 +337,8 @@ impl Pair {
         let got = library::quiet(self.reader, &mut buf);
         tally.refusal(got.answer.refusal);
         tally.add("quiet calls", true);
-        let was = Pair { framing: self.framing, reader: self.reader, held: Vec::new(), frames: Vec::new(), noise: 0 };
-        let input = || was.input("quiet", &[], room);
+        let was = self.reader;
+        let input = || told("quiet", &was, &[], room);
         let refusal = match () {
             _ if self.over_limit() => 16,
             _ if room < 256 => 13,
@@ -308,9 +348,10 @@ impl Pair {
             self.refused(refusal, &input, got, &buf, &before)?;
             return Ok(false);
         }
-        let call = frames::quiet(self.framing, &self.held);
+        let call = frames::quiet(self.format, &self.state);
         let is_frame = call.payload.is_some();
         tally.add("quiet calls that give a frame", is_frame);
+        tally.footer_in_quiet(self.format, &self.state, &call);
         self.answered(call, !is_frame, &input, got, &buf, &before)?;
         Ok(is_frame)
     }
@@ -340,6 +381,8 @@ impl Pair {
 
     /// A whole chunk: its rest again until more bytes are needed.
     fn chunk(&mut self, r: &mut Random, tally: &mut Tally, mut rest: &[u8]) -> Outcome {
+        let is_split = self.state.held.is_empty() && self.state.meets_footer(self.format, rest);
+        tally.add("footers that a chunk's end parts from their frames", is_split);
         loop {
             self.maybe_refused(r, tally)?;
             let room = 256 + r.below(8);
@@ -362,12 +405,12 @@ impl Pair {
         }
     }
 
-    /// Frames and noise since the start are those of the leftmost rule over the whole segment.
-    fn by_rule(&self, segment: &[u8], tally: &mut Tally) -> Outcome {
-        let (frames, noise) = frames::rule(self.framing, segment);
+    /// Frames and noise since `start` are those of the leftmost rule over the whole segment, whose bytes that were not held then are `rest`.
+    fn by_rule(&self, start: &State, rest: &[u8], tally: &mut Tally) -> Outcome {
+        let (frames, noise) = start.rule(self.format, rest);
         tally.frames += frames.len();
         tally.noise += noise;
-        let input = || format!("segment {:?} {}", self.framing, hex(segment));
+        let input = || format!("segment {:?} from {start:?} {}", self.format, hex(rest));
         same("payloads of the segment", &input, &self.frames, &frames)?;
         same("noise of the segment", &input, self.noise, noise)
     }
@@ -396,8 +439,8 @@ fn cuts(r: &mut Random, n: usize) -> Vec<usize> {
     sizes
 }
 
-/// Feeds a segment in cuts, then the quiet.
-fn drive(pair: &mut Pair, r: &mut Random, tally: &mut Tally, segment: &[u8]) -> Outcome {
+/// Feeds a segment in cuts, then the quiet. Gives whether a footer might have followed when the quiet came.
+fn drive(pair: &mut Pair, r: &mut Random, tally: &mut Tally, segment: &[u8]) -> Result<bool, String> {
     let mut rest = segment;
     for size in cuts(r, segment.len()) {
         let (chunk, more) = rest.split_at(size);
@@ -407,38 +450,41 @@ fn drive(pair: &mut Pair, r: &mut Random, tally: &mut Tally, segment: &[u8]) -> 
     if r.once_in(4) {
         pair.chunk(r, tally, &[])?;
     }
-    pair.end(r, tally)
+    let is_marked = pair.state.follows;
+    pair.end(r, tally)?;
+    Ok(is_marked)
 }
 
 /// One or two segments through one reader, in random cuts.
 pub fn segment(r: &mut Random, tally: &mut Tally) -> Outcome {
-    let mut pair = Pair::new(random::framing(r));
+    let mut pair = Pair::new(random::format(r));
+    let mut was_marked = false;
     for _ in 0..r.within(1, 2) {
-        let s = random::segment(r, pair.framing);
-        drive(&mut pair, r, tally, &s)?;
-        pair.by_rule(&s, tally)?;
+        let s = random::next_segment(r, pair.format.framing());
+        tally.add("footers after a quiet, which are noise", was_marked && s.first() == Some(&0x04));
+        was_marked = drive(&mut pair, r, tally, &s)?;
+        pair.by_rule(&State::default(), &s, tally)?;
         pair.frames.clear();
         pair.noise = 0;
     }
     Ok(())
 }
 
-/// A state made by hand: any bytes up to the limit and above it, then chunks and the quiet.
+/// A state made by hand: any bytes up to the limit and above it, with and without the mark, then chunks and the quiet.
 pub fn made_state(r: &mut Random, tally: &mut Tally) -> Outcome {
-    let mut pair = Pair::new(random::framing(r));
-    let limit = pair.framing.limit();
-    let mut bytes = Vec::new();
-    while bytes.len() < 517 {
-        bytes.extend(random::segment(r, pair.framing));
-        let n = r.below(100);
-        bytes.extend(r.bytes(n));
-    }
-    pair.reader.held.copy_from_slice(&bytes[..517]);
+    let mut pair = Pair::new(random::format(r));
+    let limit = pair.format.limit();
+    pair.reader.held.copy_from_slice(&random::held(r, pair.format.framing()));
     pair.reader.count = match r.below(8) {
         0 => r.pick(&[limit + 1, 517, 518, 65536, usize::MAX]),
         1 => r.pick(&[limit - 1, limit]),
-        2 => 0,
+        2 | 3 => r.below(3),
         _ => r.below(limit + 1),
+    };
+    pair.reader.follows = match r.below(4) {
+        0 => 0,
+        1 => r.byte(),
+        _ => 1,
     };
     if pair.over_limit() {
         let (n, room) = (r.below(30), r.pick(&[0, 255, 256, 300]));
@@ -446,43 +492,46 @@ pub fn made_state(r: &mut Random, tally: &mut Tally) -> Outcome {
         pair.feed(r, tally, &chunk, room)?;
         return pair.quiet(r, tally, room).map(drop);
     }
-    pair.held = pair.reader.held[..pair.reader.count].to_vec();
-    let held = pair.held.clone();
-    let more = if r.once_in(3) { Vec::new() } else { random::segment(r, pair.framing) };
-    drive(&mut pair, r, tally, &more)?;
-    pair.by_rule(&[held, more].concat(), tally)
+    let held = pair.reader.held[..pair.reader.count].to_vec();
+    let start = State { held, follows: pair.reader.follows != 0 };
+    pair.state = start.clone();
+    let rest = if r.once_in(3) { Vec::new() } else { random::next_segment(r, pair.format.framing()) };
+    drive(&mut pair, r, tally, &rest)?;
+    pair.by_rule(&start, &rest, tally)
 }
 
-/// A state whose framing number stands for none.
-pub fn unknown_framing(r: &mut Random, tally: &mut Tally) -> Outcome {
-    let number = r.within(2, 255) as u8;
-    let mut pair = Pair::new(Framing::Ascii);
-    pair.reader = library::new_reader(number);
-    same("new reader", &|| format!("framing {number}"), pair.reader, Reader { framing: number, held: [0; 517], count: 0 })?;
+/// A state whose format number stands for none.
+pub fn unknown_format(r: &mut Random, tally: &mut Tally) -> Outcome {
+    let number = unknown_number(r, 3);
+    let mut reader = library::new_reader(number);
+    same("new reader", &|| format!("format {number}"), reader, Reader { format: number, held: [0; 517], count: 0, follows: 0 })?;
     let bytes = r.bytes(517);
-    pair.reader.held.copy_from_slice(&bytes);
-    pair.reader.count = r.below(600);
+    reader.held.copy_from_slice(&bytes);
+    reader.count = r.below(600);
+    reader.follows = r.byte();
     let (n, room) = (r.below(40), r.pick(&[0, 255, 256, 300]));
     let chunk = r.bytes(n);
     let before = patterned(r, room);
     let mut buf = before.clone();
-    let fed = library::feed(pair.reader, &chunk, &mut buf);
+    let refused = Fed { reader, answer: Answer { refusal: messages::UNKNOWN, ..Default::default() } };
+    let fed = library::feed(reader, &chunk, &mut buf);
     tally.refusal(fed.answer.refusal);
-    pair.refused(messages::UNKNOWN, &|| pair.input("feed", &chunk, room), fed, &buf, &before)?;
-    let quieted = library::quiet(pair.reader, &mut buf);
+    same("state and answer", &|| told("feed", &reader, &chunk, room), fed, refused)?;
+    let quieted = library::quiet(reader, &mut buf);
     tally.refusal(quieted.answer.refusal);
-    pair.refused(messages::UNKNOWN, &|| pair.input("quiet", &[], room), quieted, &buf, &before)
+    same("state and answer", &|| told("quiet", &reader, &[], room), quieted, refused)?;
+    same("buffer", &|| told("feed and quiet", &reader, &chunk, room), buf, before)
 }
 
 /// Chunks at the limit of 65,536 bytes and over it, with storms of stray starts in them.
 pub fn long_chunk(r: &mut Random, tally: &mut Tally) -> Outcome {
-    let mut pair = Pair::new(random::framing(r));
+    let mut pair = Pair::new(random::format(r));
     let size = r.pick(&[65535, 65536, 65537, 65600]);
-    let s = random::storm(r, pair.framing, size);
+    let s = random::storm(r, pair.format.framing(), size);
     if size <= 65536 {
         pair.chunk(r, tally, &s)?;
         pair.end(r, tally)?;
-        return pair.by_rule(&s, tally);
+        return pair.by_rule(&State::default(), &s, tally);
     }
     for room in [0, 255, 256] {
         pair.feed(r, tally, &s, room)?;
@@ -490,5 +539,5 @@ pub fn long_chunk(r: &mut Random, tally: &mut Tally) -> Outcome {
     pair.chunk(r, tally, &s[..65536])?;
     pair.chunk(r, tally, &s[65536..])?;
     pair.end(r, tally)?;
-    pair.by_rule(&s, tally)
+    pair.by_rule(&State::default(), &s, tally)
 }

@@ -1,15 +1,34 @@
-//! Document 01's frames, leftmost rule and line reader, byte by byte. Nothing is shared with the library: this is a second reading of the same text.
+//! Document 01's frames, leftmost rule and line reader, with CR 2 of document 02, byte by byte. Nothing is shared with the library: this is a second
+//! reading of the same text.
 
+/// How frames are written.
 #[derive(Clone, Copy, Debug, PartialEq)]
 pub enum Framing {
     Binary,
     Ascii,
 }
 
-impl Framing {
+/// How frames are read: binary ones whose 04 may be missing, or may not, or ASCII ones.
+#[derive(Clone, Copy, Debug, PartialEq)]
+pub enum Format {
+    Optional,
+    Required,
+    Ascii,
+}
+
+impl Format {
+    pub const ALL: [Format; 3] = [Format::Optional, Format::Required, Format::Ascii];
+
+    pub fn framing(self) -> Framing {
+        match self {
+            Format::Optional | Format::Required => Framing::Binary,
+            Format::Ascii => Framing::Ascii,
+        }
+    }
+
     /// The longest frame, which is also the most that a reader's state may hold.
     pub fn limit(self) -> usize {
-        match self {
+        match self.framing() {
             Framing::Binary => 262,
             Framing::Ascii => 517,
         }
@@ -22,18 +41,20 @@ pub enum Verdict {
     /// They run out before a failure and before the end.
     Cut,
     Fails(u8),
-    Frame { used: usize, payload: Vec<u8> },
+    /// A frame, decided by the last of `size` bytes.
+    Frame { size: usize, payload: Vec<u8> },
 }
 
-pub fn judge(framing: Framing, s: &[u8]) -> Verdict {
-    match framing {
-        Framing::Binary => judge_binary(s),
-        Framing::Ascii => judge_ascii(s),
+pub fn judge(format: Format, s: &[u8]) -> Verdict {
+    match format {
+        Format::Optional => judge_binary(s, false),
+        Format::Required => judge_binary(s, true),
+        Format::Ascii => judge_ascii(s),
     }
 }
 
-fn judge_binary(s: &[u8]) -> Verdict {
-    let mut size = 0;
+fn judge_binary(s: &[u8], needs_footer: bool) -> Verdict {
+    let mut length = 0;
     let mut xor = 0;
     for (i, &b) in s.iter().enumerate() {
         match i {
@@ -45,16 +66,19 @@ fn judge_binary(s: &[u8]) -> Verdict {
                 if !(0x8001..=0x8100).contains(&word) {
                     return Verdict::Fails(3);
                 }
-                size = word - 0x8000;
+                length = word - 0x8000;
             }
-            _ if i < 4 + size => xor ^= b,
-            _ if i == 4 + size => {
+            _ if i < 4 + length => xor ^= b,
+            _ if i == 4 + length => {
                 if b != xor {
                     return Verdict::Fails(4);
                 }
+                if !needs_footer {
+                    return Verdict::Frame { size: i + 1, payload: s[4..4 + length].to_vec() };
+                }
             }
             _ if b != 0x04 => return Verdict::Fails(5),
-            _ => return Verdict::Frame { used: i + 1, payload: s[4..4 + size].to_vec() },
+            _ => return Verdict::Frame { size: i + 1, payload: s[4..4 + length].to_vec() },
         }
     }
     Verdict::Cut
@@ -72,7 +96,7 @@ fn judge_ascii(s: &[u8]) -> Verdict {
             if b != 0x0A {
                 return Verdict::Fails(5);
             }
-            return Verdict::Frame { used: i + 1, payload };
+            return Verdict::Frame { size: i + 1, payload };
         } else if b.is_ascii_digit() || (b'A'..=b'F').contains(&b) {
             if digits.len() == 514 {
                 return Verdict::Fails(3);
@@ -124,13 +148,18 @@ pub fn frame(framing: Framing, payload: &[u8]) -> Vec<u8> {
     }
 }
 
+/// Whether the byte next to a frame belongs to it although the frame is complete without it.
+fn is_footer(format: Format, next: Option<&u8>) -> bool {
+    format == Format::Optional && next == Some(&0x04)
+}
+
 /// A single read into a buffer of `room` bytes: bytes used and payload, or the refusal.
-pub fn read_frame(framing: Framing, s: &[u8], room: usize) -> Result<(usize, Vec<u8>), u8> {
-    match judge(framing, s) {
+pub fn read_frame(format: Format, s: &[u8], room: usize) -> Result<(usize, Vec<u8>), u8> {
+    match judge(format, s) {
         Verdict::Cut => Err(2),
         Verdict::Fails(number) => Err(number),
         Verdict::Frame { payload, .. } if room < payload.len() => Err(13),
-        Verdict::Frame { used, payload } => Ok((used, payload)),
+        Verdict::Frame { size, payload } => Ok((size + is_footer(format, s.get(size)) as usize, payload)),
     }
 }
 
@@ -147,15 +176,16 @@ pub fn write_frame(framing: Framing, payload: &[u8], room: usize) -> Result<Vec<
 }
 
 /// The leftmost rule over a whole segment: the payloads, and the noise.
-pub fn rule(framing: Framing, segment: &[u8]) -> (Vec<Vec<u8>>, usize) {
+fn rule(format: Format, segment: &[u8]) -> (Vec<Vec<u8>>, usize) {
     let mut frames = Vec::new();
     let mut noise = 0;
     let mut place = 0;
     while place < segment.len() {
-        match judge(framing, &segment[place..]) {
-            Verdict::Frame { used, payload } => {
+        match judge(format, &segment[place..]) {
+            Verdict::Frame { size, payload } => {
                 frames.push(payload);
-                place += used;
+                place += size;
+                place += is_footer(format, segment.get(place)) as usize;
             }
             _ => {
                 noise += 1;
@@ -166,52 +196,86 @@ pub fn rule(framing: Framing, segment: &[u8]) -> (Vec<Vec<u8>>, usize) {
     (frames, noise)
 }
 
+/// What a reader remembers between calls: undecided bytes, and whether the footer of the frame that it gave last may follow.
+#[derive(Clone, Debug, Default, PartialEq)]
+pub struct State {
+    pub held: Vec<u8>,
+    pub follows: bool,
+}
+
+impl State {
+    /// Whether the next byte of the line, the first held one or else the first of `chunk`, is the footer that may follow.
+    pub fn meets_footer(&self, format: Format, chunk: &[u8]) -> bool {
+        self.follows && is_footer(format, self.held.iter().chain(chunk).next())
+    }
+
+    /// The rule from this state on, where `rest` is what is to come of the segment.
+    pub fn rule(&self, format: Format, rest: &[u8]) -> (Vec<Vec<u8>>, usize) {
+        let line = [&self.held, rest].concat();
+        rule(format, &line[self.meets_footer(format, rest) as usize..])
+    }
+}
+
 /// What a line or quiet call does, where it is not refused.
 #[derive(Clone, Debug, PartialEq)]
 pub struct Call {
     pub taken: usize,
     pub noise: usize,
     pub payload: Option<Vec<u8>>,
-    pub held: Vec<u8>,
+    pub state: State,
 }
 
 /// The line call by the taking rule: a further byte is taken only while the held bytes are empty or have passed every check without completing a frame.
-pub fn feed(framing: Framing, held: &[u8], chunk: &[u8]) -> Call {
-    let mut call = Call { taken: 0, noise: 0, payload: None, held: held.to_vec() };
+/// Before that the footer that may follow is passed over; it is taken if it was not held.
+pub fn feed(format: Format, state: &State, chunk: &[u8]) -> Call {
+    let mut held = state.held.clone();
+    let mut taken = 0;
+    let mut noise = 0;
+    if state.meets_footer(format, chunk) {
+        if held.is_empty() {
+            taken += 1;
+        } else {
+            held.remove(0);
+        }
+    }
     loop {
-        while !call.held.is_empty() {
-            match judge(framing, &call.held) {
+        while !held.is_empty() {
+            match judge(format, &held) {
                 Verdict::Cut => break,
                 Verdict::Fails(_) => {
-                    call.held.remove(0);
-                    call.noise += 1;
+                    held.remove(0);
+                    noise += 1;
                 }
-                Verdict::Frame { used, payload } => {
-                    call.held.drain(..used);
-                    call.payload = Some(payload);
-                    return call;
+                Verdict::Frame { size, payload } => {
+                    held.drain(..size);
+                    return Call { taken, noise, payload: Some(payload), state: State { held, follows: format == Format::Optional } };
                 }
             }
         }
-        if call.taken == chunk.len() {
-            return call;
+        if taken == chunk.len() {
+            break;
         }
-        call.held.push(chunk[call.taken]);
-        call.taken += 1;
+        held.push(chunk[taken]);
+        taken += 1;
     }
+    let nothing_came = state.held.is_empty() && chunk.is_empty();
+    Call { taken, noise, payload: None, state: State { held, follows: state.follows && nothing_came } }
 }
 
-/// The quiet call: the held bytes end the segment, so an unfinished frame fails like any other.
-pub fn quiet(framing: Framing, held: &[u8]) -> Call {
-    let mut call = Call { taken: 0, noise: 0, payload: None, held: held.to_vec() };
-    while !call.held.is_empty() {
-        if let Verdict::Frame { used, payload } = judge(framing, &call.held) {
-            call.held.drain(..used);
-            call.payload = Some(payload);
-            return call;
-        }
-        call.held.remove(0);
-        call.noise += 1;
+/// The quiet call: the held bytes end the segment, so an unfinished frame fails like any other, and no footer comes any more but a held one.
+pub fn quiet(format: Format, state: &State) -> Call {
+    let mut held = state.held.clone();
+    let mut noise = 0;
+    if state.meets_footer(format, &[]) {
+        held.remove(0);
     }
-    call
+    while !held.is_empty() {
+        if let Verdict::Frame { size, payload } = judge(format, &held) {
+            held.drain(..size);
+            return Call { taken: 0, noise, payload: Some(payload), state: State { held, follows: format == Format::Optional } };
+        }
+        held.remove(0);
+        noise += 1;
+    }
+    Call { taken: 0, noise, payload: None, state: State::default() }
 }

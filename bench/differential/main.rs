@@ -6,6 +6,8 @@ mod frames;
 mod messages;
 mod random;
 
+use boundary::Reading;
+use frames::{Call, Format, State};
 use random::Random;
 use std::collections::BTreeMap;
 
@@ -27,6 +29,38 @@ impl Tally {
     pub fn add(&mut self, what: &'static str, seen: bool) {
         *self.calls.entry(what).or_default() += seen as usize;
     }
+
+    /// A single read, told apart by its format.
+    pub fn single_read(&mut self, format: Option<Format>, reading: Reading) {
+        let is_frame = reading.refusal == 0;
+        let has_footer = reading.used == reading.len + 6;
+        self.add("single reads of a frame with an optional footer", format == Some(Format::Optional) && is_frame && has_footer);
+        self.add("single reads of a frame without one", format == Some(Format::Optional) && is_frame && !has_footer);
+        self.add("single reads of a frame with a required footer", format == Some(Format::Required) && is_frame);
+        self.add("single reads of an ASCII frame", format == Some(Format::Ascii) && is_frame);
+        self.add("single reads with a required footer refused with 5", format == Some(Format::Required) && reading.refusal == 5);
+        self.add("single reads in ASCII refused with 5", format == Some(Format::Ascii) && reading.refusal == 5);
+    }
+
+    /// What a line call makes of the mark and of a footer.
+    pub fn footer_in_line(&mut self, format: Format, state: &State, chunk: &[u8]) {
+        let is_held = !state.held.is_empty();
+        let meets = state.meets_footer(format, chunk);
+        let has_mark = state.follows && format == Format::Optional;
+        let nothing_came = !is_held && chunk.is_empty();
+        self.add("footers taken from a chunk", meets && !is_held);
+        self.add("held footers dropped by a line call", meets && is_held);
+        self.add("footers with a second one behind them", meets && state.held.iter().chain(chunk).nth(1) == Some(&0x04));
+        self.add("marks kept by an empty chunk", has_mark && nothing_came);
+        self.add("marks that another byte ends", has_mark && !meets && !nothing_came);
+        self.add("marks without a meaning", state.follows && !has_mark);
+    }
+
+    /// The same of a quiet call.
+    pub fn footer_in_quiet(&mut self, format: Format, state: &State, call: &Call) {
+        self.add("held footers dropped by a quiet call", state.meets_footer(format, &[]));
+        self.add("frames of a quiet with a held footer behind them", call.payload.is_some() && call.state.meets_footer(format, &[]));
+    }
 }
 
 type Case = fn(&mut Random, &mut Tally) -> compare::Outcome;
@@ -37,9 +71,9 @@ const FAMILIES: [(&str, Case, u64); 9] = [
     ("bare payloads written", compare::single_write, 150_000),
     ("payloads read in both directions", compare::payload, 500_000),
     ("messages written", compare::message_write, 400_000),
-    ("segments through a reader", compare::segment, 200_000),
-    ("states made by hand", compare::made_state, 40_000),
-    ("states of no framing", compare::unknown_framing, 5_000),
+    ("segments through a reader", compare::segment, 300_000),
+    ("states made by hand", compare::made_state, 100_000),
+    ("states of no format", compare::unknown_format, 5_000),
     ("chunks about 65,536 bytes", compare::long_chunk, 100),
     ("settings lists walked", compare::walk, 200_000),
 ];
@@ -89,6 +123,10 @@ fn main() {
     report(&tally, total);
     if let Some(number) = (1..=17).find(|&n| tally.refusals[n] == 0) {
         println!("refusal {number} was never seen");
+        std::process::exit(1);
+    }
+    if let Some((what, _)) = tally.calls.iter().find(|(_, &count)| count == 0) {
+        println!("never seen: {what}");
         std::process::exit(1);
     }
 }

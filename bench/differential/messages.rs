@@ -1,7 +1,7 @@
 //! The payloads of documents 01 and 02: what they mean in each direction, and how a message becomes a payload. Written from the text alone.
 use crate::boundary::{FromModule, Information, Options, Setting, Status, ToModule};
 
-/// The answer for a framing or a kind that stands for none. It is the boundary's own number, not one of the documents.
+/// The answer for a format, a framing or a kind that stands for none. It is the boundary's own number, not one of the documents.
 pub const UNKNOWN: u8 = 255;
 
 fn plain(address: u8) -> bool {

@@ -1,6 +1,6 @@
 //! Random numbers, segments, payloads and messages. A case depends on the seed, its family and its index alone, so that it can be run again by itself.
 use crate::boundary::{FromModule, Information, Options, Status, ToModule};
-use crate::frames::{frame, Framing};
+use crate::frames::{frame, Format, Framing};
 use crate::messages::{width, WIDTHS};
 
 pub struct Random(u64);
@@ -60,11 +60,8 @@ pub fn framing(r: &mut Random) -> Framing {
     r.pick(&[Framing::Binary, Framing::Ascii])
 }
 
-pub fn framing_number(f: Framing) -> u8 {
-    match f {
-        Framing::Binary => 0,
-        Framing::Ascii => 1,
-    }
+pub fn format(r: &mut Random) -> Format {
+    r.pick(&Format::ALL)
 }
 
 /// The length of a payload: mostly short, at its edges often.
@@ -126,9 +123,24 @@ fn long_line(r: &mut Random) -> Vec<u8> {
     [b":".to_vec(), vec![b'0'; n], end.to_vec()].concat()
 }
 
+/// A frame; in binary framing with its footer, or without, or with some bytes too many that look like one.
+fn sent(r: &mut Random, f: Framing) -> Vec<u8> {
+    let mut s = frame(f, &payload(r));
+    match (f, r.below(8)) {
+        (Framing::Binary, 0..=2) => drop(s.pop()),
+        (Framing::Binary, 3) => s.extend(footers(r)),
+        _ => {}
+    }
+    s
+}
+
+fn footers(r: &mut Random) -> Vec<u8> {
+    vec![0x04; r.within(1, 3)]
+}
+
 /// A frame with one thing wrong.
 fn damaged(r: &mut Random, f: Framing) -> Vec<u8> {
-    let mut s = frame(f, &payload(r));
+    let mut s = sent(r, f);
     let at = r.below(s.len());
     let n = s.len();
     match r.below(9) {
@@ -148,7 +160,7 @@ fn damaged(r: &mut Random, f: Framing) -> Vec<u8> {
 /// A part of a segment.
 fn part(r: &mut Random, f: Framing) -> Vec<u8> {
     match r.below(10) {
-        0..=3 => frame(f, &payload(r)),
+        0..=3 => sent(r, f),
         4 | 5 => damaged(r, f),
         6 => {
             let n = r.below(40);
@@ -156,6 +168,7 @@ fn part(r: &mut Random, f: Framing) -> Vec<u8> {
         }
         7 | 8 => stray_start(r, f),
         _ if f == Framing::Ascii => long_line(r),
+        _ if r.once_in(2) => footers(r),
         _ => frame(Framing::Ascii, &payload(r)),
     }
 }
@@ -170,13 +183,34 @@ pub fn segment(r: &mut Random, f: Framing) -> Vec<u8> {
     s
 }
 
+/// A segment, in binary framing often with bytes in front that look like the footer of a frame before it.
+pub fn next_segment(r: &mut Random, f: Framing) -> Vec<u8> {
+    let front = match f {
+        Framing::Binary if r.once_in(3) => footers(r),
+        _ => Vec::new(),
+    };
+    [front, segment(r, f)].concat()
+}
+
+/// What fills the array of a state made by hand: such segments, with any bytes between.
+pub fn held(r: &mut Random, f: Framing) -> Vec<u8> {
+    let mut s = Vec::new();
+    while s.len() < 517 {
+        s.extend(next_segment(r, f));
+        let n = r.below(100);
+        s.extend(r.bytes(n));
+    }
+    s.truncate(517);
+    s
+}
+
 /// A segment of starts that claim long frames, one after the other, with some frames between.
 pub fn storm(r: &mut Random, f: Framing, size: usize) -> Vec<u8> {
     let mut s = Vec::new();
     while s.len() < size {
         s.extend(stray_start(r, f));
         if r.once_in(4) {
-            s.extend(frame(f, &payload(r)));
+            s.extend(sent(r, f));
         }
         if r.once_in(8) {
             let n = r.below(300);

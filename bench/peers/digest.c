@@ -1,4 +1,5 @@
-// digest FRAMING SIZE: feeds standard input to a line reader in chunks of SIZE bytes and prints what came out of it.
+// digest FORMAT SIZE: feeds standard input to a line reader in chunks of SIZE bytes and prints what came out of it. FORMAT is binary, where the footer may be
+// missing, required, where it may not, or ascii.
 
 #include <inttypes.h>
 #include <stdio.h>
@@ -51,18 +52,27 @@ static void quiet_all(struct reader *r, struct totals *t)
     } while (a.len > 0);
 }
 
+// The number of the format that a word names, or else of none.
+static int format_named(const char *word)
+{
+    static const char *const names[] = {[BINARY] = "binary", [REQUIRED] = "required", [ASCII] = "ascii"};
+    int format = BINARY;
+    while (format <= ASCII && strcmp(word, names[format]) != 0)
+        format++;
+    return format;
+}
+
 int main(int argc, char **argv)
 {
     static uint8_t input[MAX_CHUNK];
-    bool ascii = argc == 3 && strcmp(argv[1], "ascii") == 0;
-    bool binary = argc == 3 && strcmp(argv[1], "binary") == 0;
+    int format = argc == 3 ? format_named(argv[1]) : ASCII + 1;
     size_t size = argc == 3 ? strtoul(argv[2], NULL, 10) : 0;
-    if (ascii == binary || size < 1 || size > MAX_CHUNK) {
-        fprintf(stderr, "usage: digest ascii|binary SIZE\n");
+    if (format > ASCII || size < 1 || size > MAX_CHUNK) {
+        fprintf(stderr, "usage: digest binary|required|ascii SIZE\n");
         return 2;
     }
     init_tables();
-    struct reader r = {.framing = ascii ? ASCII : BINARY};
+    struct reader r = {.format = (enum format)format};
     struct totals t = {0, 0, 0};
     ssize_t got;
     while ((got = read(STDIN_FILENO, input, sizeof input)) > 0)

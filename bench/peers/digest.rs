@@ -1,10 +1,11 @@
-//! digest FRAMING SIZE: feeds standard input to a line reader in chunks of SIZE bytes and prints what came out of it.
+//! digest FORMAT SIZE: feeds standard input to a line reader in chunks of SIZE bytes and prints what came out of it. FORMAT is binary, where the footer may
+//! be missing, required, where it may not, or ascii.
 
 mod ascii;
 mod find;
 mod reader;
 
-use reader::{FeedAnswer, Framing, QuietAnswer, Reader};
+use reader::{FeedAnswer, Footer, Format, Framing, QuietAnswer, Reader};
 use std::io::{self, Read};
 
 #[derive(Default)]
@@ -67,16 +68,16 @@ impl Totals {
 
 fn main() {
     let args: Vec<String> = std::env::args().collect();
-    let usage = "usage: digest ascii|binary SIZE";
-    let [_, framing, size] = &args[..] else { panic!("{usage}") };
-    let framing = match &framing[..] {
-        "ascii" => Framing::Ascii,
-        "binary" => Framing::Binary,
+    let usage = "usage: digest binary|required|ascii SIZE";
+    let [_, format, size] = &args[..] else { panic!("{usage}") };
+    let mut reader = match &format[..] {
+        "binary" => Reader::new(Framing::Binary),
+        "required" => Reader::open(Format::Binary(Footer::Required)),
+        "ascii" => Reader::new(Framing::Ascii),
         _ => panic!("{usage}"),
     };
     let size: usize = size.parse().expect(usage);
     let mut totals = Totals::default();
-    let mut reader = Reader::new(framing);
     let mut buf = [0; Reader::MAX_PAYLOAD];
     let mut input = vec![0; Reader::MAX_CHUNK];
     let mut stdin = io::stdin().lock();

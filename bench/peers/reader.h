@@ -1,18 +1,22 @@
 // A line reader for both framings, with its state in place.
 //
-// It answers as document 01 rules, bytes taken included, so it judges bytes in order. Nobody makes its states by hand: bytes that are held after "needs
-// more" have passed every check, and are not judged again until the next one falls due.
+// It answers as documents 01 and 02 rule, bytes taken included, so it judges bytes in order. Nobody makes its states by hand: bytes that are held after
+// "needs more" have passed every check, and are not judged again until the next one falls due.
 
 #include <stdbool.h>
 
 #include "ascii.h"
 
-enum framing { BINARY, ASCII };
+// How frames are read: in binary framing the footer may be missing, or is required.
+enum format { BINARY, REQUIRED, ASCII };
 
 enum { MAX_PAYLOAD = 256, MAX_BINARY = 262, MAX_CHUNK = 65536 };
 
+enum { FOOTER = 0x04 };
+
 struct reader {
-    enum framing framing;
+    enum format format;
+    bool follows; // the footer of the frame that was handed out last may follow
     size_t count; // of held bytes
     size_t due;   // while fewer bytes are held, no check falls due but that ASCII ones are digits
     uint8_t held[MAX_ASCII];
@@ -38,8 +42,8 @@ static inline size_t length_at(const uint8_t *s)
     return len <= MAX_PAYLOAD ? len : 0;
 }
 
-// Judges what begins with the A5 s[0].
-static inline struct judged judge_binary(const uint8_t *s, size_t n)
+// Judges what begins with the A5 s[0]. Unless the footer is required, a frame is complete at its checksum.
+static inline struct judged judge_binary(const uint8_t *s, size_t n, bool required)
 {
     const struct judged undecided = {UNDECIDED, 0, 0};
     if (n < 2)
@@ -55,11 +59,11 @@ static inline struct judged judge_binary(const uint8_t *s, size_t n)
         return undecided;
     if (xor_of(s + 4, len) != s[len + 4])
         return failed(len + 5);
-    if (n < len + 6)
+    if (required && n < len + 6)
         return undecided;
-    if (s[len + 5] != 0x04)
+    if (required && s[len + 5] != FOOTER)
         return failed(len + 6);
-    return (struct judged){FRAME, len + 6, len};
+    return (struct judged){FRAME, len + 5 + required, len};
 }
 
 // Where a scan stopped, and how far bytes were judged. Behind the last place `judged` is a failure.
@@ -75,9 +79,10 @@ static inline size_t larger(size_t a, size_t b)
 
 // Judges the first `stop` places of s[0..n] in order, up to the first that does not fail; where `ended`, the segment's end makes undecided ones fail.
 // Bytes up to `reach` were judged before. `payload` gets that of an ASCII frame.
-static struct found scan(enum framing framing, const uint8_t *s, size_t n, size_t stop, size_t reach, bool ended, uint8_t *payload)
+static inline __attribute__((always_inline)) struct found
+scan_as(enum format format, const uint8_t *s, size_t n, size_t stop, size_t reach, bool ended, uint8_t *payload)
 {
-    const uint8_t start = framing == BINARY ? 0xA5 : ':';
+    const uint8_t start = format == ASCII ? ':' : 0xA5;
     size_t place = 0;
     while (place < stop) {
         if (s[place] != start) {
@@ -86,13 +91,26 @@ static struct found scan(enum framing framing, const uint8_t *s, size_t n, size_
                 break;
             place = (size_t)(next - s);
         }
-        struct judged j = framing == BINARY ? judge_binary(s + place, n - place) : judge_ascii(s + place, n - place, payload);
+        struct judged j = format == ASCII ? judge_ascii(s + place, n - place, payload) : judge_binary(s + place, n - place, format == REQUIRED);
         if (j.verdict == FRAME || (j.verdict == UNDECIDED && !ended))
             return (struct found){place, larger(reach, place + j.judged), j};
         reach = larger(reach, place + j.judged);
         place++;
     }
     return (struct found){stop, larger(reach, stop), failed(0)};
+}
+
+// The same, with a loop for each format.
+static struct found scan(enum format format, const uint8_t *s, size_t n, size_t stop, size_t reach, bool ended, uint8_t *payload)
+{
+    switch (format) {
+    case BINARY:
+        return scan_as(BINARY, s, n, stop, reach, ended, payload);
+    case REQUIRED:
+        return scan_as(REQUIRED, s, n, stop, reach, ended, payload);
+    default:
+        return scan_as(ASCII, s, n, stop, reach, ended, payload);
+    }
 }
 
 static inline void hold(struct reader *r, const uint8_t *s, size_t n)
@@ -106,9 +124,9 @@ static inline void hold(struct reader *r, const uint8_t *s, size_t n)
 static inline void await(struct reader *r, const uint8_t *s, size_t n)
 {
     hold(r, s, n);
-    if (r->framing == BINARY && n >= 4)
+    if (r->format != ASCII && n >= 4)
         r->due = length_at(r->held) + 5;
-    if (r->framing == ASCII && n >= 1 && r->held[n - 1] != '\r')
+    if (r->format == ASCII && n >= 1 && r->held[n - 1] != '\r')
         r->due = MAX_DIGITS + 2;
 }
 
@@ -116,15 +134,16 @@ static inline void await(struct reader *r, const uint8_t *s, size_t n)
 static inline void hand_out(struct reader *r, const uint8_t *s, const struct found *f, size_t end, const uint8_t *payload, uint8_t *buf)
 {
     size_t next = f->place + f->judged.judged;
-    memcpy(buf, r->framing == BINARY ? s + f->place + 4 : payload, f->judged.len);
+    memcpy(buf, r->format == ASCII ? payload : s + f->place + 4, f->judged.len);
     hold(r, s + next, end - next);
+    r->follows = r->format == BINARY;
 }
 
 // Finds the next frame in a chunk, where nothing is held.
 static struct answer feed_chunk(struct reader *r, const uint8_t *chunk, size_t size, size_t reach, size_t noise, uint8_t *buf)
 {
     uint8_t payload[MAX_PAYLOAD + 1];
-    struct found f = scan(r->framing, chunk, size, size, reach, false, payload);
+    struct found f = scan(r->format, chunk, size, size, reach, false, payload);
     if (f.judged.verdict == FRAME) {
         hand_out(r, chunk, &f, f.reach, payload, buf);
         return (struct answer){f.reach, noise + f.place, f.judged.len};
@@ -137,7 +156,7 @@ static struct answer feed_chunk(struct reader *r, const uint8_t *chunk, size_t s
 // the longest frame, which decides its first place, and is moved up as places fail.
 static struct answer feed_held(struct reader *r, const uint8_t *chunk, size_t size, uint8_t *buf)
 {
-    const size_t limit = r->framing == BINARY ? MAX_BINARY : MAX_ASCII;
+    const size_t limit = r->format == ASCII ? MAX_ASCII : MAX_BINARY;
     uint8_t payload[MAX_PAYLOAD + 1];
     size_t old = r->count; // bytes held before this call
     size_t reach = 0;      // judged bytes of the chunk
@@ -148,7 +167,7 @@ static struct answer feed_held(struct reader *r, const uint8_t *chunk, size_t si
         size_t more = size - copied < room ? size - copied : room;
         memcpy(r->held + r->count, chunk + copied, more);
         r->count += more;
-        struct found f = scan(r->framing, r->held, r->count, old, old + reach, false, payload);
+        struct found f = scan(r->format, r->held, r->count, old, old + reach, false, payload);
         noise += f.place;
         reach = f.reach - old;
         if (f.judged.verdict == FRAME) {
@@ -171,15 +190,29 @@ static inline bool goes_on(const struct reader *r, const uint8_t *chunk, size_t 
 {
     if (r->count + size >= r->due)
         return false;
-    if (r->framing == ASCII)
+    if (r->format == ASCII)
         for (size_t i = 0; i < size; i++)
             if (digit_value[chunk[i]] < 0)
                 return false;
     return true;
 }
 
-// Takes bytes of a chunk up to the end of the next frame, whose payload goes to the front of the 256 bytes at buf.
-static struct answer feed(struct reader *r, const uint8_t *chunk, size_t size, uint8_t *buf)
+// Passes over a footer that follows the last frame: the first held byte or, where none is held, the first of the chunk. Gives how many bytes of the chunk it
+// is. Without a byte of either it may still follow.
+static inline size_t pass_footer(struct reader *r, const uint8_t *chunk, size_t size)
+{
+    if (!r->follows || r->count + size == 0)
+        return 0;
+    r->follows = false;
+    if (r->count == 0)
+        return chunk[0] == FOOTER;
+    if (r->held[0] == FOOTER)
+        hold(r, r->held + 1, r->count - 1);
+    return 0;
+}
+
+// Finds the next frame where no footer follows.
+static inline struct answer feed_next(struct reader *r, const uint8_t *chunk, size_t size, uint8_t *buf)
 {
     if (r->count == 0)
         return feed_chunk(r, chunk, size, 0, 0, buf);
@@ -190,11 +223,22 @@ static struct answer feed(struct reader *r, const uint8_t *chunk, size_t size, u
     return (struct answer){size, 0, 0};
 }
 
+// Takes bytes of a chunk up to the end of the next frame, whose payload goes to the front of the 256 bytes at buf.
+static struct answer feed(struct reader *r, const uint8_t *chunk, size_t size, uint8_t *buf)
+{
+    size_t footer = pass_footer(r, chunk, size);
+    struct answer a = feed_next(r, chunk + footer, size - footer, buf);
+    a.taken += footer;
+    return a;
+}
+
 // The held bytes end their segment: gives the next frame in them.
 static struct answer quiet(struct reader *r, uint8_t *buf)
 {
     uint8_t payload[MAX_PAYLOAD + 1];
-    struct found f = scan(r->framing, r->held, r->count, r->count, 0, true, payload);
+    pass_footer(r, NULL, 0);
+    r->follows = false;
+    struct found f = scan(r->format, r->held, r->count, r->count, 0, true, payload);
     if (f.judged.verdict == FRAME)
         hand_out(r, r->held, &f, r->count, payload, buf);
     else

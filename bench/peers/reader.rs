@@ -6,9 +6,24 @@
 use crate::ascii::{self, Judged};
 use crate::find::find;
 
+/// How a frame is written.
 #[derive(Clone, Copy)]
 pub enum Framing {
     Binary,
+    Ascii,
+}
+
+/// Whether the footer of a binary frame may be missing.
+#[derive(Clone, Copy)]
+pub enum Footer {
+    Optional,
+    Required,
+}
+
+/// How frames are read.
+#[derive(Clone, Copy)]
+pub enum Format {
+    Binary(Footer),
     Ascii,
 }
 
@@ -21,11 +36,12 @@ pub enum Refusal {
     State,
 }
 
-/// The first `count` of `held` are the held bytes.
+/// The first `count` of `held` are the held bytes. Where `follows`, the optional footer of the frame that was handed out last may follow.
 pub struct Reader {
-    pub framing: Framing,
+    pub format: Format,
     pub held: [u8; Reader::MAX_ASCII],
     pub count: usize,
+    pub follows: bool,
 }
 
 pub enum FeedAnswer {
@@ -50,8 +66,10 @@ pub struct Quieted {
     pub answer: QuietAnswer,
 }
 
-/// Judges what begins with the A5 at the front of `s`.
-fn judge_binary(s: &[u8]) -> Judged {
+const FOOTER: u8 = 0x04;
+
+/// Judges what begins with the A5 at the front of `s`. Where the footer is optional, a frame is complete at its checksum.
+fn judge_binary(footer: Footer, s: &[u8]) -> Judged {
     let (len, body) = match s {
         [_] | [_, 0x5A] | [_, 0x5A, _] => return Judged::Undecided,
         [_, 0x5A, high, low, body @ ..] => match u16::from_be_bytes([*high, *low]) {
@@ -62,43 +80,59 @@ fn judge_binary(s: &[u8]) -> Judged {
     };
     let Some((payload, rest)) = body.split_at_checked(len) else { return Judged::Undecided };
     let xor = payload.iter().fold(0, |xor, b| xor ^ b);
-    match rest {
-        [] => Judged::Undecided,
-        [checksum, ..] if *checksum != xor => Judged::Failed(len + 5),
-        [_] => Judged::Undecided,
-        [_, 0x04, ..] => Judged::Frame { used: len + 6, len },
+    match (rest, footer) {
+        ([], _) => Judged::Undecided,
+        ([checksum, ..], _) if *checksum != xor => Judged::Failed(len + 5),
+        (_, Footer::Optional) => Judged::Frame { used: len + 5, len },
+        ([_], _) => Judged::Undecided,
+        ([_, FOOTER, ..], _) => Judged::Frame { used: len + 6, len },
         _ => Judged::Failed(len + 6),
     }
 }
 
 impl Framing {
+    /// The format by default.
+    pub fn format(self) -> Format {
+        match self {
+            Framing::Binary => Format::Binary(Footer::Optional),
+            Framing::Ascii => Format::Ascii,
+        }
+    }
+}
+
+impl Format {
     fn start(self) -> u8 {
         match self {
-            Framing::Binary => 0xA5,
-            Framing::Ascii => b':',
+            Format::Binary(_) => 0xA5,
+            Format::Ascii => b':',
         }
     }
 
     fn limit(self) -> usize {
         match self {
-            Framing::Binary => Reader::MAX_BINARY,
-            Framing::Ascii => Reader::MAX_ASCII,
+            Format::Binary(_) => Reader::MAX_BINARY,
+            Format::Ascii => Reader::MAX_ASCII,
         }
+    }
+
+    /// Whether a frame may be followed by a byte that belongs to it.
+    fn has_optional_footer(self) -> bool {
+        matches!(self, Format::Binary(Footer::Optional))
     }
 
     /// Judges what begins with the start byte at the front of `s`.
     fn judge(self, s: &[u8]) -> Judged {
         match self {
-            Framing::Binary => judge_binary(s),
-            Framing::Ascii => ascii::judge(s, |digits| ascii::decode(digits, &mut [0; 257])),
+            Format::Binary(footer) => judge_binary(footer, s),
+            Format::Ascii => ascii::judge(s, |digits| ascii::decode(digits, &mut [0; 257])),
         }
     }
 
     /// Takes the payload out of the frame at the front of `s`.
     fn unpack(self, s: &[u8], payload: &mut [u8]) {
         match self {
-            Framing::Binary => payload.copy_from_slice(&s[4..4 + payload.len()]),
-            Framing::Ascii => {
+            Format::Binary(_) => payload.copy_from_slice(&s[4..4 + payload.len()]),
+            Format::Ascii => {
                 ascii::decode(&s[1..1 + 2 * payload.len()], payload);
             }
         }
@@ -118,16 +152,15 @@ struct Found {
     end: End,
 }
 
-/// Judges the first `stop` places of `s` in order, up to the first that does not fail; where `ended`, the segment's end makes undecided ones fail.
+/// Judges the places of `s` from `place` to `stop` in order, up to the first that does not fail; where `ended`, the segment's end makes undecided ones fail.
 /// Bytes up to `reach` were judged before.
-fn scan(framing: Framing, s: &[u8], stop: usize, mut reach: usize, ended: bool) -> Found {
-    let mut place = 0;
+fn scan(format: Format, s: &[u8], mut place: usize, stop: usize, mut reach: usize, ended: bool) -> Found {
     while place < stop {
-        if s[place] != framing.start() {
-            let Some(skipped) = find(framing.start(), &s[place..stop]) else { break };
+        if s[place] != format.start() {
+            let Some(skipped) = find(format.start(), &s[place..stop]) else { break };
             place += skipped;
         }
-        match framing.judge(&s[place..]) {
+        match format.judge(&s[place..]) {
             Judged::Frame { used, len } => {
                 return Found { place, reach: reach.max(place + used), end: End::Frame { used, len } };
             }
@@ -149,11 +182,15 @@ impl Reader {
     pub const MAX_CHUNK: usize = 65_536;
 
     pub fn new(framing: Framing) -> Self {
-        Reader { framing, held: [0; Self::MAX_ASCII], count: 0 }
+        Reader::open(framing.format())
+    }
+
+    pub fn open(format: Format) -> Self {
+        Reader { format, held: [0; Self::MAX_ASCII], count: 0, follows: false }
     }
 
     fn refusal(&self, chunk: &[u8], buf: &[u8]) -> Option<Refusal> {
-        if self.count > self.framing.limit() {
+        if self.count > self.format.limit() {
             Some(Refusal::State)
         } else if buf.len() < Self::MAX_PAYLOAD {
             Some(Refusal::Buffer)
@@ -177,66 +214,79 @@ impl Reader {
         self.count = end - start;
     }
 
-    /// Finds the next frame in a chunk, where nothing is held, the chunk was judged up to `reach` and `noise` bytes before it were settled. Inlined, this
-    /// and `feed` do not copy the state.
+    /// Finds the next frame in a chunk from `from` on, where nothing is held, the chunk was judged up to `reach` and `noise` bytes before it were settled.
     #[inline(always)]
-    fn feed_chunk(mut self, chunk: &[u8], reach: usize, noise: usize, buf: &mut [u8]) -> Fed {
-        let Found { place, reach, end } = scan(self.framing, chunk, chunk.len(), reach, false);
-        let noise = noise + place;
+    fn feed_chunk(&mut self, chunk: &[u8], from: usize, reach: usize, noise: usize, buf: &mut [u8]) -> FeedAnswer {
+        let Found { place, reach, end } = scan(self.format, chunk, from, chunk.len(), reach, false);
+        let noise = noise + place - from;
         if let End::Frame { used, len } = end {
-            self.framing.unpack(&chunk[place..], &mut buf[..len]);
+            self.format.unpack(&chunk[place..], &mut buf[..len]);
             self.hold(&chunk[place + used..reach]);
-            return Fed { reader: self, answer: FeedAnswer::Frame { taken: reach, noise, len } };
+            self.follows = self.format.has_optional_footer();
+            return FeedAnswer::Frame { taken: reach, noise, len };
         }
         self.hold(&chunk[place..]);
-        Fed { reader: self, answer: FeedAnswer::NeedsMore { taken: chunk.len(), noise } }
+        FeedAnswer::NeedsMore { taken: chunk.len(), noise }
     }
 
     /// Finds the next frame where bytes are held: at the places among them first, then in the chunk. What is held is filled up from the chunk to the length
     /// of the longest frame, which decides its first place, and is moved up as places fail.
-    fn feed_held(mut self, chunk: &[u8], buf: &mut [u8]) -> Fed {
+    fn feed_held(&mut self, chunk: &[u8], buf: &mut [u8]) -> FeedAnswer {
         let mut old = self.count; // bytes held before this call
         let mut judged = 0; // bytes of the chunk
         let mut settled = 0;
         loop {
             let rest = &chunk[self.count - old..];
-            let more = rest.len().min(self.framing.limit() - self.count);
+            let more = rest.len().min(self.format.limit() - self.count);
             self.held[self.count..self.count + more].copy_from_slice(&rest[..more]);
             self.count += more;
-            let Found { place, reach, end } = scan(self.framing, &self.held[..self.count], old, old + judged, false);
+            let Found { place, reach, end } = scan(self.format, &self.held[..self.count], 0, old, old + judged, false);
             settled += place;
             judged = reach - old;
             match end {
                 End::Frame { used, len } => {
-                    self.framing.unpack(&self.held[place..], &mut buf[..len]);
+                    self.format.unpack(&self.held[place..], &mut buf[..len]);
                     self.keep(place + used, reach);
-                    return Fed { reader: self, answer: FeedAnswer::Frame { taken: judged, noise: settled, len } };
+                    self.follows = self.format.has_optional_footer();
+                    return FeedAnswer::Frame { taken: judged, noise: settled, len };
                 }
                 End::Passed => {
                     self.count = 0;
-                    return self.feed_chunk(chunk, judged, settled, buf);
+                    return self.feed_chunk(chunk, 0, judged, settled, buf);
                 }
                 End::Undecided => {
                     self.keep(place, self.count);
                     old -= place;
                     if self.count - old == chunk.len() {
-                        return Fed { reader: self, answer: FeedAnswer::NeedsMore { taken: chunk.len(), noise: settled } };
+                        return FeedAnswer::NeedsMore { taken: chunk.len(), noise: settled };
                     }
                 }
             }
         }
     }
 
-    /// Takes bytes of a chunk until the next frame is settled, whose payload goes to the front of `buf`.
-    #[inline(always)]
-    pub fn feed(self, chunk: &[u8], buf: &mut [u8]) -> Fed {
-        if let Some(refusal) = self.refusal(chunk, buf) {
-            Fed { reader: self, answer: FeedAnswer::Refused(refusal) }
-        } else if self.count == 0 {
-            self.feed_chunk(chunk, 0, 0, buf)
-        } else {
-            self.feed_held(chunk, buf)
+    /// Passes over the footer of the last frame, if it follows: the first held byte or, where none is held, the first of the chunk. Gives how many bytes of
+    /// the chunk it is. Without a byte of either the mark stays.
+    fn pass_footer(&mut self, chunk: &[u8]) -> usize {
+        let follows = self.follows && self.format.has_optional_footer();
+        self.follows &= self.count == 0 && chunk.is_empty();
+        match (&self.held[..self.count], chunk) {
+            ([], [FOOTER, ..]) if follows => return 1,
+            ([FOOTER, ..], _) if follows => self.keep(1, self.count),
+            _ => (),
         }
+        0
+    }
+
+    /// Takes bytes of a chunk until the next frame is settled, whose payload goes to the front of `buf`. Inlined, it does not copy the state.
+    #[inline(always)]
+    pub fn feed(mut self, chunk: &[u8], buf: &mut [u8]) -> Fed {
+        if let Some(refusal) = self.refusal(chunk, buf) {
+            return Fed { reader: self, answer: FeedAnswer::Refused(refusal) };
+        }
+        let from = self.pass_footer(chunk);
+        let answer = if self.count == 0 { self.feed_chunk(chunk, from, 0, 0, buf) } else { self.feed_held(chunk, buf) };
+        Fed { reader: self, answer }
     }
 
     /// The held bytes end their segment: gives the next frame in them.
@@ -244,12 +294,14 @@ impl Reader {
         if let Some(refusal) = self.refusal(&[], buf) {
             return Quieted { reader: self, answer: QuietAnswer::Refused(refusal) };
         }
-        let Found { place, end, .. } = scan(self.framing, &self.held[..self.count], self.count, 0, true);
+        self.pass_footer(&[]);
+        let Found { place, end, .. } = scan(self.format, &self.held[..self.count], 0, self.count, 0, true);
         let End::Frame { used, len } = end else {
-            return Quieted { reader: Reader::new(self.framing), answer: QuietAnswer::Empty { noise: place } };
+            return Quieted { reader: Reader::open(self.format), answer: QuietAnswer::Empty { noise: place } };
         };
-        self.framing.unpack(&self.held[place..], &mut buf[..len]);
+        self.format.unpack(&self.held[place..], &mut buf[..len]);
         self.keep(place + used, self.count);
+        self.follows = self.format.has_optional_footer();
         Quieted { reader: self, answer: QuietAnswer::Frame { noise: place, len } }
     }
 }

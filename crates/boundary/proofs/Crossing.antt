@@ -7,6 +7,7 @@ use lib.Dec.{eqb}
 use Rattle.frame.specs.Reader.{refusalValues, Feeds, Quiets}
 use Rattle.frame.specs.Single.{Reads, readingOf, noReading, noWriting, writingOf, Writes as FrameWrites}
 use Rattle.frame.specs.declared.framing.Framing.{Framing}
+use Rattle.frame.specs.declared.framing.Format.{Format}
 use Rattle.frame.specs.declared.reader.Reader.{Reader}
 use Rattle.frame.specs.declared.reader.Fed.{Fed}
 use Rattle.frame.specs.declared.reader.Quieted.{Quieted}
@@ -19,18 +20,20 @@ use Rattle.boundary.specs.Single.{flatReading, flatWriting, ReadsFlat, W
 use Rattle.boundary.specs.Line.{flatValues, flatFed, flatQuieted, readerIn, FeedsFlat, QuietsFlat}
 use Rattle.boundary.specs.declared.framing.NamedFraming.{NamedFraming}
 use Rattle.boundary.specs.declared.framing.NamedFraming.the-variants.{Known, Unknown}
+use Rattle.boundary.specs.declared.framing.NamedFormat.{NamedFormat}
+use Rattle.boundary.specs.declared.framing.NamedFormat.the-variants.{Known as KnownFormat, Unknown as NoFormat}
 use Rattle.boundary.specs.declared.line.LineReader.{LineReader}
 use Rattle.boundary.specs.declared.line.LineFed.{LineFed}
 use Rattle.boundary.specs.declared.single.FlatReading.{FlatReading}
 use Rattle.boundary.specs.declared.single.FlatWriting.{FlatWriting}
 
--- Single frames: a framing that is known, and one that is not.
-pub read-crosses : {m : NamedFraming} {f : Framing} {s buf after : List ℕ} {a : ReadAnswer} {flat : FlatReading} →
-    m ≡ Known f → Reads f s buf a after → flat ≡ flatReading (readingOf a) → ReadsFlat m s buf flat after
+-- Single frames: a format or a framing that is known, and one that is not.
+pub read-crosses : {m : NamedFormat} {f : Format} {s buf after : List ℕ} {a : ReadAnswer} {flat : FlatReading} →
+    m ≡ KnownFormat f → Reads f s buf a after → flat ≡ flatReading (readingOf a) → ReadsFlat m s buf flat after
 read-crosses known p e = rw known (record { answers = e ∙ ap flatReading (p .answers); leaves = p .leaves })
 
-pub read-unnamed : {m : NamedFraming} {s buf : List ℕ} {flat : FlatReading} →
-    m ≡ Unknown → flat ≡ flatReading (noReading unknownNumber) → ReadsFlat m s buf flat buf
+pub read-unnamed : {m : NamedFormat} {s buf : List ℕ} {flat : FlatReading} →
+    m ≡ NoFormat → flat ≡ flatReading (noReading unknownNumber) → ReadsFlat m s buf flat buf
 read-unnamed unknown e = rw unknown (record { answers = e; leaves = refl })
 
 pub frame-crosses : {m : NamedFraming} {f : Framing} {p buf after : List ℕ} {a : FrameAnswer} {flat : FlatWriting} →
@@ -72,22 +75,22 @@ pub none-named : {A : Type 0} (refusal : A → List ℕ → ℕ) (dat : List ℕ
 none-named refusal dat stands is none e = no-message (ap (λ x. refusal x dat) (sym stands ∙ is) ∙ none) e
 
 -- The line reader.
-pub feed-crosses : {m : NamedFraming} {f : Framing} {q : Reader} {after : List ℕ} {flat : LineFed}
+pub feed-crosses : {m : NamedFormat} {f : Format} {q : Reader} {after : List ℕ} {flat : LineFed}
     (r : LineReader) (chunk buf : List ℕ) (a : Fed) →
-    m ≡ Known f → q ≡ readerIn f r → Feeds q chunk buf a after → flat ≡ flatFed a → FeedsFlat m r chunk buf flat after
+    m ≡ KnownFormat f → q ≡ readerIn f r → Feeds q chunk buf a after → flat ≡ flatFed a → FeedsFlat m r chunk buf flat after
 feed-crosses {after = after} r chunk buf a known is p e =
     rw known (record { answer = a; promised = subst (λ (x : Reader). Feeds x chunk buf a after) is p; crosses = e })
 
-pub feed-unnamed : {m : NamedFraming} (r : LineReader) (chunk buf : List ℕ) {flat : LineFed} →
-    m ≡ Unknown → flat ≡ record { reader = r; answer = flatValues (refusalValues unknownNumber) } → FeedsFlat m r chunk buf flat buf
+pub feed-unnamed : {m : NamedFormat} (r : LineReader) (chunk buf : List ℕ) {flat : LineFed} →
+    m ≡ NoFormat → flat ≡ record { reader = r; answer = flatValues (refusalValues unknownNumber) } → FeedsFlat m r chunk buf flat buf
 feed-unnamed r chunk buf unknown e = rw unknown (record { refuses = e; leaves = refl })
 
-pub quiet-crosses : {m : NamedFraming} {f : Framing} {q : Reader} {after : List ℕ} {flat : LineFed}
+pub quiet-crosses : {m : NamedFormat} {f : Format} {q : Reader} {after : List ℕ} {flat : LineFed}
     (r : LineReader) (buf : List ℕ) (a : Quieted) →
-    m ≡ Known f → q ≡ readerIn f r → Quiets q buf a after → flat ≡ flatQuieted a → QuietsFlat m r buf flat after
+    m ≡ KnownFormat f → q ≡ readerIn f r → Quiets q buf a after → flat ≡ flatQuieted a → QuietsFlat m r buf flat after
 quiet-crosses {after = after} r buf a known is p e =
     rw known (record { answer = a; promised = subst (λ (x : Reader). Quiets x buf a after) is p; crosses = e })
 
-pub quiet-unnamed : {m : NamedFraming} (r : LineReader) (buf : List ℕ) {flat : LineFed} →
-    m ≡ Unknown → flat ≡ record { reader = r; answer = flatValues (refusalValues unknownNumber) } → QuietsFlat m r buf flat buf
+pub quiet-unnamed : {m : NamedFormat} (r : LineReader) (buf : List ℕ) {flat : LineFed} →
+    m ≡ NoFormat → flat ≡ record { reader = r; answer = flatValues (refusalValues unknownNumber) } → QuietsFlat m r buf flat buf
 quiet-unnamed r buf unknown e = rw unknown (record { refuses = e; leaves = refl })

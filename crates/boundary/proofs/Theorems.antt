@@ -2,10 +2,15 @@
 -- Assumes nothing.
 use Prim.Native.Nat.{ℕ}
 use mathlib.Core.Path.{_≡_, refl}
-use mathlib.Core.Bool.{true, false}
+use mathlib.Core.Bool.{Bool, true, false}
 use lib.Dec.{eqb}
+use Rattle.frame.specs.Framing.{formatOf as defaultFormat}
 use Rattle.frame.specs.declared.framing.Framing.{Framing}
-use Rattle.frame.specs.declared.framing.Framing.the-variants.{Binary, Ascii}
+use Rattle.frame.specs.declared.framing.Framing.the-variants.{Binary as BinaryFraming, Ascii as AsciiFraming}
+use Rattle.frame.specs.declared.framing.Footer.the-variants.{Optional, Required}
+use Rattle.frame.specs.declared.framing.Format.{Format}
+use Rattle.frame.specs.declared.framing.Format.the-variants.{Binary, Ascii}
+use Rattle.frame.specs.declared.reader.Reader.{Reader}
 use Rattle.message.specs.FromModule.{outcomeByte}
 use Rattle.message.specs.Options.{byteGiven, wordGiven}
 use Rattle.message.specs.Setup.{commandNumber, commandOf}
@@ -29,7 +34,8 @@ use Rattle.message.specs.declared.from_module.Outcome.{Outcome}
 use Rattle.message.specs.declared.from_module.Outcome.the-variants.{Failure, Success}
 use Rattle.message.specs.declared.from_module.Notice.{Notice}
 use Rattle.message.specs.declared.from_module.Notice.the-variants.{Response as IsResponse, Standard, Remote, Setup}
-use Rattle.boundary.specs.Framing.{framingOf, framingNumber, unknownNumber}
+use Rattle.boundary.specs.Framing.{framingOf, formatOf, formatNumber, unknownNumber}
+use Rattle.boundary.specs.Line.{markNumber, markIn, flatReader, readerIn}
 use Rattle.boundary.specs.Claims.{CrossesBack}
 use Rattle.boundary.specs.Options.{byteOf, wordOf, byteIn, wordIn, optionNumbers, optionsIn}
 use Rattle.boundary.specs.ToModule.{transmissionNumbers, requestNumbers, setupNumbers, transmissionIn, requestIn}
@@ -37,16 +43,31 @@ use Rattle.boundary.specs.ToModule.{addressKind, changeRefusalIn, setupR
 use Rattle.boundary.specs.FromModule.{deliveryNumbers, responseNumbers, reportNumbers, noticeNumbers}
 use Rattle.boundary.specs.FromModule.{deliveryIn, responseIn, silentModeIn, reportIn, noticeIn}
 use Rattle.boundary.specs.declared.framing.NamedFraming.the-variants.{Known as KnownFraming}
+use Rattle.boundary.specs.declared.framing.NamedFormat.the-variants.{Known as KnownFormat}
 use Rattle.boundary.specs.declared.to_module.NamedRequest.the-variants.{Known as KnownRequest}
 use Rattle.boundary.specs.declared.from_module.NamedDelivery.the-variants.{Known as KnownDelivery, Unknown as NoDelivery}
 use Rattle.boundary.specs.declared.from_module.NamedNotice.the-variants.{Known as KnownNotice, Unknown as NoNotice}
 
--- Framings and commands.
-framing : (f : Framing) → framingOf (framingNumber f) ≡ KnownFraming f
-unfolding framingOf
-framing Binary = refl
-framing Ascii = refl
+-- Formats, framings and states.
+format : (m : Format) → formatOf (formatNumber m) ≡ KnownFormat m
+unfolding formatOf
+format (Binary Optional) = refl
+format (Binary Required) = refl
+format Ascii = refl
 
+framing : (f : Framing) → framingOf (formatNumber (defaultFormat f)) ≡ KnownFraming f
+unfolding framingOf
+framing BinaryFraming = refl
+framing AsciiFraming = refl
+
+mark : (follows : Bool) → markIn (markNumber follows) ≡ follows
+mark true = refl
+mark false = refl
+
+reader : (r : Reader) → readerIn (r .format) (flatReader r) ≡ r
+reader r = rw (mark (r .follows))
+
+-- Commands.
 setup : (c : SetupCommand) → commandOf (commandNumber c) ≡ KnownCommand c
 unfolding commandOf
 setup EnableAck = refl
@@ -149,7 +170,10 @@ pub crosses-back : CrossesBack
 unfolding requestIn
 crosses-back =
     record {
+      format = format;
       framing = framing;
+      reader = reader;
+      new = λ m. refl;
       request = request;
       change = λ m. refl;
       setup = setup;

@@ -1,21 +1,34 @@
--- A framing as a number: 0 is binary, 1 is ASCII, and any other is none.
+-- Framings and formats as numbers. A framing, in which frames are written: 0 is binary, 1 is ASCII, and any other is none. A format, in which they are read: 0
+-- and 1 are the defaults of these framings, in binary with the footer optional, 2 is binary with the footer required, and any other is none.
 use Prim.Native.Nat.{ℕ}
 use mathlib.Core.Bool.{cond}
 use lib.Dec.{eqb}
-use Rattle.frame.specs.declared.framing.Framing.{Framing}
-use Rattle.frame.specs.declared.framing.Framing.the-variants.{Binary, Ascii}
+use Rattle.frame.specs.declared.framing.Framing.the-variants.{Binary as BinaryFraming, Ascii as AsciiFraming}
+use Rattle.frame.specs.declared.framing.Footer.the-variants.{Optional, Required}
+use Rattle.frame.specs.declared.framing.Format.{Format}
+use Rattle.frame.specs.declared.framing.Format.the-variants.{Binary, Ascii}
 use Rattle.boundary.specs.declared.framing.NamedFraming.{NamedFraming}
-use Rattle.boundary.specs.declared.framing.NamedFraming.the-variants.{Known, Unknown}
+use Rattle.boundary.specs.declared.framing.NamedFraming.the-variants.{Known as KnownFraming, Unknown as NoFraming}
+use Rattle.boundary.specs.declared.framing.NamedFormat.{NamedFormat}
+use Rattle.boundary.specs.declared.framing.NamedFormat.the-variants.{Known as KnownFormat, Unknown as NoFormat}
 
 -- The framing that a number stands for.
 unfoldable pub framingOf : ℕ → NamedFraming
-framingOf n = cond (eqb n 0) (Known Binary) (cond (eqb n 1) (Known Ascii) Unknown)
+framingOf n = cond (eqb n 0) (KnownFraming BinaryFraming) (cond (eqb n 1) (KnownFraming AsciiFraming) NoFraming)
 
--- The number that stands for a framing.
-abbrev pub framingNumber : Framing → ℕ
-framingNumber Binary = 0
-framingNumber Ascii = 1
+-- The format that a number stands for.
+unfoldable pub formatOf : ℕ → NamedFormat
+formatOf n =
+    cond (eqb n 0) (KnownFormat (Binary Optional))
+    (cond (eqb n 1) (KnownFormat Ascii)
+    (cond (eqb n 2) (KnownFormat (Binary Required)) NoFormat))
 
--- The answer where a framing or a kind of message crosses as a number that stands for none. The documents' own numbers end below it.
+-- The number that stands for a format.
+abbrev pub formatNumber : Format → ℕ
+formatNumber (Binary Optional) = 0
+formatNumber (Binary Required) = 2
+formatNumber Ascii = 1
+
+-- The answer where a framing, a format or a kind of message crosses as a number that stands for none. The documents' own numbers end below it.
 abbrev pub unknownNumber : ℕ
 unknownNumber = 255

@@ -2,15 +2,17 @@
 use Prim.Native.Nat.{ℕ}
 use mathlib.Core.Path.{_≡_}
 use mathlib.Core.List.{List}
+use mathlib.Core.Bool.{Bool, true, false, not}
+use lib.Dec.{eqb}
 use lib.ListN.{replicate}
 use Rattle.frame.specs.Reader.{Values, refusalValues, feedValuesOf, quietValuesOf, Feeds, Quiets}
-use Rattle.frame.specs.declared.framing.Framing.{Framing}
+use Rattle.frame.specs.declared.framing.Format.{Format}
 use Rattle.frame.specs.declared.reader.Reader.{Reader}
 use Rattle.frame.specs.declared.reader.Fed.{Fed}
 use Rattle.frame.specs.declared.reader.Quieted.{Quieted}
-use Rattle.boundary.specs.Framing.{framingNumber, unknownNumber}
-use Rattle.boundary.specs.declared.framing.NamedFraming.{NamedFraming}
-use Rattle.boundary.specs.declared.framing.NamedFraming.the-variants.{Known, Unknown}
+use Rattle.boundary.specs.Framing.{formatNumber, unknownNumber}
+use Rattle.boundary.specs.declared.framing.NamedFormat.{NamedFormat}
+use Rattle.boundary.specs.declared.framing.NamedFormat.the-variants.{Known, Unknown}
 use Rattle.boundary.specs.declared.line.LineReader.{LineReader}
 use Rattle.boundary.specs.declared.line.LineAnswer.{LineAnswer}
 use Rattle.boundary.specs.declared.line.LineFed.{LineFed}
@@ -19,17 +21,25 @@ use Rattle.boundary.specs.declared.line.LineFed.{LineFed}
 abbrev pub flatValues : Values → LineAnswer
 flatValues v = record { refusal = v .number; «is_frame» = v .isFrame; taken = v .taken; noise = v .noise; len = v .len }
 
+-- The mark as it crosses: 1 for yes, 0 for no. Any number but 0 that crosses is yes.
+abbrev pub markNumber : Bool → ℕ
+markNumber false = 0
+markNumber true = 1
+
+abbrev pub markIn : ℕ → Bool
+markIn n = not (eqb n 0)
+
 -- A state as it crosses.
 abbrev pub flatReader : Reader → LineReader
-flatReader r = record { framing = framingNumber (r .framing); held = r .held; count = r .count }
+flatReader r = record { format = formatNumber (r .format); held = r .held; count = r .count; follows = markNumber (r .follows) }
 
--- The state that crossed, whose framing number stands for f.
-abbrev pub readerIn : Framing → LineReader → Reader
-readerIn f r = record { framing = f; held = r .held; count = r .count }
+-- The state that crossed, whose format number stands for m.
+abbrev pub readerIn : Format → LineReader → Reader
+readerIn m r = record { format = m; held = r .held; count = r .count; follows = markIn (r .follows) }
 
 -- A new reader's state.
 abbrev pub newFlat : ℕ → LineReader
-newFlat n = record { framing = n; held = replicate 517 0; count = 0 }
+newFlat n = record { format = n; held = replicate 517 0; count = 0; follows = 0 }
 
 -- There is an answer that keeps the frame crate's promise, and it is what crosses.
 pub record Crosses (A : Type 0) (Promised : A → Type 0) (flat : A → LineFed) (fed : LineFed) : Type 0 where
@@ -37,7 +47,7 @@ pub record Crosses (A : Type 0) (Promised : A → Type 0) (flat : A → LineFed)
   pub promised : Promised answer
   pub crosses : fed ≡ flat answer
 
--- A refusal for an unknown framing leaves state and buffer.
+-- A refusal for an unknown format leaves state and buffer.
 pub record Unnamed (r : LineReader) (buf : List ℕ) (fed : LineFed) (after : List ℕ) : Type 0 where
   pub refuses : fed ≡ record { reader = r; answer = flatValues (refusalValues unknownNumber) }
   pub leaves : after ≡ buf
@@ -49,11 +59,11 @@ abbrev pub flatQuieted : Quieted → LineFed
 flatQuieted q = record { reader = flatReader (q .reader); answer = flatValues (quietValuesOf (q .answer)) }
 
 -- The promise of a line call with the state r, a chunk and a buffer, which then holds `after`.
-abbrev pub FeedsFlat : NamedFraming → LineReader → List ℕ → List ℕ → LineFed → List ℕ → Type 0
-FeedsFlat (Known f) r chunk buf fed after = Crosses Fed (λ a. Feeds (readerIn f r) chunk buf a after) flatFed fed
+abbrev pub FeedsFlat : NamedFormat → LineReader → List ℕ → List ℕ → LineFed → List ℕ → Type 0
+FeedsFlat (Known m) r chunk buf fed after = Crosses Fed (λ a. Feeds (readerIn m r) chunk buf a after) flatFed fed
 FeedsFlat Unknown r chunk buf fed after = Unnamed r buf fed after
 
 -- The promise of a quiet call with the state r and a buffer.
-abbrev pub QuietsFlat : NamedFraming → LineReader → List ℕ → LineFed → List ℕ → Type 0
-QuietsFlat (Known f) r buf fed after = Crosses Quieted (λ a. Quiets (readerIn f r) buf a after) flatQuieted fed
+abbrev pub QuietsFlat : NamedFormat → LineReader → List ℕ → LineFed → List ℕ → Type 0
+QuietsFlat (Known m) r buf fed after = Crosses Quieted (λ a. Quiets (readerIn m r) buf a after) flatQuieted fed
 QuietsFlat Unknown r buf fed after = Unnamed r buf fed after

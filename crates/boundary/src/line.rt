@@ -1,22 +1,24 @@
 // The line reader, with its state and its answers as numbers.
-use crate::framing::NamedFraming;
-use crate::framing::framing_number;
-use crate::framing::framing_of;
+use crate::framing::NamedFormat;
+use crate::framing::format_number;
+use crate::framing::format_of;
 use frame::FeedAnswer;
-use frame::Framing;
+use frame::Format;
 use frame::QuietAnswer;
 use frame::Reader;
 ghost use mathlib.Core.Path.{_≡_};
 ghost use Rattle.frame.specs.Reader.{refusalValues, feedValuesOf, quietValuesOf};
-ghost use Rattle.boundary.specs.Framing.{framingOf};
-ghost use Rattle.boundary.specs.Line.{flatReader, flatValues, readerIn, newFlat, FeedsFlat, QuietsFlat};
+ghost use Rattle.boundary.specs.Framing.{formatOf};
+ghost use Rattle.boundary.specs.Line.{markNumber, flatReader, flatValues, readerIn, newFlat, FeedsFlat, QuietsFlat};
 
-// A reader's state: its framing as a number and the bytes that it holds, the first `count` of `held`.
+// A reader's state: its format as a number, the bytes that it holds, the first `count` of `held`, and whether an optional byte may follow the last frame: 0
+// for no, 1 for yes; any other number is taken for yes and comes back as 1.
 #[repr(C)]
 pub struct LineReader {
-    pub framing: u8,
+    pub format: u8,
     pub held: [u8; 517],
     pub count: usize,
+    pub follows: u8,
 }
 
 // The answer's numbers: the refusal's, 0 for none, bytes taken, noise, the payload's length, and whether there is a frame.
@@ -92,49 +94,61 @@ fn quiet_numbers(answer: QuietAnswer) -> LineAnswer
     }
 }
 
+fn mark_number(follows: bool) -> u8
+    ensures { λ r. ⌜ r ≡ markNumber follows ⌝ }
+{
+    if follows {
+        return 1;
+    }
+    0
+}
+
 fn flat(reader: Reader) -> LineReader
     ensures { λ r. ⌜ r ≡ flatReader reader ⌝ }
 {
-    let framing = reader.framing;
+    let format = reader.format;
     let held = reader.held;
     LineReader {
-        framing: framing_number(framing),
+        format: format_number(format),
         held: held,
         count: reader.count,
+        follows: mark_number(reader.follows),
     }
 }
 
-fn reader_in(framing: Framing, reader: LineReader) -> Reader
-    ensures { λ r. ⌜ r ≡ readerIn framing reader ⌝ }
+fn reader_in(format: Format, reader: LineReader) -> Reader
+    ensures { λ r. ⌜ r ≡ readerIn format reader ⌝ }
 {
     let held = reader.held;
     Reader {
-        framing: framing,
+        format: format,
         held: held,
         count: reader.count,
+        follows: reader.follows != 0,
     }
 }
 
-// A new reader's state. Where the framing is neither 0 nor 1 every call with the state is refused.
+// A new reader's state. Where the format is none of 0, 1 and 2 every call with the state is refused.
 #[no_mangle]
-pub extern "C" fn boundary_new_reader(framing: u8) -> LineReader
-    ensures { λ r. ⌜ r ≡ newFlat framing ⌝ }
+pub extern "C" fn boundary_new_reader(format: u8) -> LineReader
+    ensures { λ r. ⌜ r ≡ newFlat format ⌝ }
 {
     LineReader {
-        framing: framing,
+        format: format,
         held: [0u8; Reader::MAX_ASCII],
         count: 0,
+        follows: 0,
     }
 }
 
-// Takes bytes of a chunk until the next frame is settled, as `Reader::feed` does. A state whose framing is neither 0 nor 1 is refused with 255; state and
+// Takes bytes of a chunk until the next frame is settled, as `Reader::feed` does. A state whose format is none of 0, 1 and 2 is refused with 255; state and
 // buf stay.
 #[no_mangle]
 pub extern "C" fn boundary_feed(reader: LineReader, chunk: &[u8], buf: &mut [u8]) -> LineFed
-    ensures { λ r. ⌜ FeedsFlat (framingOf (reader .framing)) reader (now (chunk .entry)) (now (buf .entry)) r (now (buf .exit)) ⌝ }
+    ensures { λ r. ⌜ FeedsFlat (formatOf (reader .format)) reader (now (chunk .entry)) (now (buf .entry)) r (now (buf .exit)) ⌝ }
 {
-    match framing_of(reader.framing) {
-        NamedFraming::Known(f) => {
+    match format_of(reader.format) {
+        NamedFormat::Known(f) => {
             let fed = reader_in(f, reader).feed(chunk, buf);
             let next = fed.reader;
             let answer = fed.answer;
@@ -143,21 +157,21 @@ pub extern "C" fn boundary_feed(reader: LineReader, chunk: &[u8], buf: &mut [u8]
                 answer: fed_numbers(answer),
             }
         }
-        NamedFraming::Unknown => LineFed {
+        NamedFormat::Unknown => LineFed {
             reader: reader,
             answer: refused(255),
         },
     }
 }
 
-// The line was quiet: gives the next frame of the held bytes, as `Reader::quiet` does. A state whose framing is neither 0 nor 1 is refused with 255; state
+// The line was quiet: gives the next frame of the held bytes, as `Reader::quiet` does. A state whose format is none of 0, 1 and 2 is refused with 255; state
 // and buf stay.
 #[no_mangle]
 pub extern "C" fn boundary_quiet(reader: LineReader, buf: &mut [u8]) -> LineFed
-    ensures { λ r. ⌜ QuietsFlat (framingOf (reader .framing)) reader (now (buf .entry)) r (now (buf .exit)) ⌝ }
+    ensures { λ r. ⌜ QuietsFlat (formatOf (reader .format)) reader (now (buf .entry)) r (now (buf .exit)) ⌝ }
 {
-    match framing_of(reader.framing) {
-        NamedFraming::Known(f) => {
+    match format_of(reader.format) {
+        NamedFormat::Known(f) => {
             let quieted = reader_in(f, reader).quiet(buf);
             let next = quieted.reader;
             let answer = quieted.answer;
@@ -166,7 +180,7 @@ pub extern "C" fn boundary_quiet(reader: LineReader, buf: &mut [u8]) -> LineFed
                 answer: quiet_numbers(answer),
             }
         }
-        NamedFraming::Unknown => LineFed {
+        NamedFormat::Unknown => LineFed {
             reader: reader,
             answer: refused(255),
         },

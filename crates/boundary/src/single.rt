@@ -1,11 +1,13 @@
 // Reading and writing a single frame, with the answer as numbers.
+use crate::framing::NamedFormat;
 use crate::framing::NamedFraming;
+use crate::framing::format_of;
 use crate::framing::framing_of;
 use frame::ReadAnswer;
 use frame::WriteAnswer;
 ghost use mathlib.Core.Path.{_≡_};
 ghost use Rattle.frame.specs.Single.{readingOf, noWriting, writingOf};
-ghost use Rattle.boundary.specs.Framing.{framingOf};
+ghost use Rattle.boundary.specs.Framing.{framingOf, formatOf};
 ghost use Rattle.boundary.specs.Single.{flatReading, flatWriting, ReadsFlat, WritesFlat};
 
 // A read's answer: the refusal's number, 0 for none, the bytes used and the payload's length.
@@ -62,15 +64,15 @@ fn writing_of(answer: WriteAnswer) -> FlatWriting
     }
 }
 
-// Reads the frame at the front of s into the front of buf, as `frame::read_frame` does. A framing that is neither 0 nor 1 is refused with 255, and buf
+// Reads the frame at the front of s into the front of buf, as `frame::read_frame_as` does. A format that is none of 0, 1 and 2 is refused with 255, and buf
 // stays.
 #[no_mangle]
-pub extern "C" fn boundary_read_frame(framing: u8, s: &[u8], buf: &mut [u8]) -> FlatReading
-    ensures { λ r. ⌜ ReadsFlat (framingOf framing) (now (s .entry)) (now (buf .entry)) r (now (buf .exit)) ⌝ }
+pub extern "C" fn boundary_read_frame(format: u8, s: &[u8], buf: &mut [u8]) -> FlatReading
+    ensures { λ r. ⌜ ReadsFlat (formatOf format) (now (s .entry)) (now (buf .entry)) r (now (buf .exit)) ⌝ }
 {
-    match framing_of(framing) {
-        NamedFraming::Known(f) => reading_of(frame::read_frame(f, s, buf)),
-        NamedFraming::Unknown => FlatReading {
+    match format_of(format) {
+        NamedFormat::Known(f) => reading_of(frame::read_frame_as(f, s, buf)),
+        NamedFormat::Unknown => FlatReading {
             refusal: 255,
             used: 0,
             len: 0,

@@ -1,12 +1,14 @@
-// Drives the line reader over standard input: `digest FRAMING SIZE`, with FRAMING `binary` or `ascii`, feeds it in chunks of SIZE bytes and prints how many
-// frames and how many bytes of noise came out, and a digest of the payloads. The end of the input is the quiet. bench/ compares it with other programs.
+// Drives the line reader over standard input: `digest FORMAT SIZE` feeds it in chunks of SIZE bytes and prints how many frames and how many bytes of noise
+// came out, and a digest of the payloads. FORMAT is `binary`, in which the footer is optional, `required`, binary with the footer required, or `ascii`. The
+// end of the input is the quiet. bench/ compares it with other programs.
 use console::front;
 use console::hex_u64;
 use console::number;
 use console::smaller;
 use frame::Fed;
 use frame::FeedAnswer;
-use frame::Framing;
+use frame::Footer;
+use frame::Format;
 use frame::QuietAnswer;
 use frame::Reader;
 use frame::View;
@@ -144,13 +146,15 @@ fn all_taken(reader: Reader) -> Fed {
     }
 }
 
-// Feeds a chunk by views until more is needed. A turn hands out a frame, so the turns are fewer than bytes: their count here is never used up.
-fn drive_view(framing: Framing, start: Tally, chunk: &[u8], buf: &mut [u8]) -> Driven {
+// Feeds a chunk by views until more is needed, where nothing is held; `follows` is the reader's mark that an optional byte may follow. A turn hands out a
+// frame, so the turns are fewer than bytes: their count here is never used up.
+fn drive_view(format: Format, follows: bool, start: Tally, chunk: &[u8], buf: &mut [u8]) -> Driven {
     let mut tally = start;
     let mut view = View {
-        framing: framing,
+        format: format,
         from: 0,
         end: 0,
+        follows: follows,
     };
     let mut turns: u64 = 0x20000;
     while 0 < turns {
@@ -178,7 +182,7 @@ fn drive(start: Driven, s: &[u8], size: usize) -> Driven {
     };
     let end = span.end;
     let reader = start.reader;
-    let framing = reader.framing;
+    let format = reader.format;
     let mut fed = reader.feed(&s[..end], &mut buf);
     let mut turns: u64 = 0x400000;
     while 0 < turns {
@@ -192,7 +196,8 @@ fn drive(start: Driven, s: &[u8], size: usize) -> Driven {
         let at = span.at;
         let end = span.end;
         if is_viewed(fed.reader.count, size) {
-            let driven = drive_view(framing, tally, &s[at..end], &mut buf);
+            let follows = fed.reader.follows;
+            let driven = drive_view(format, follows, tally, &s[at..end], &mut buf);
             tally = driven.tally;
             fed = all_taken(driven.reader);
         } else {
@@ -229,21 +234,24 @@ fn drive_quiet(start: Driven) -> Tally {
     tally
 }
 
-// The framing that an argument names by its first letter.
-fn framing_named(word: &[u8]) -> Framing {
-    if 0 < word.len() {
-        if word[0] == b'b' {
-            return Framing::Binary;
-        }
+// The format that an argument names by its first letter.
+fn format_named(word: &[u8]) -> Format {
+    if word.len() == 0 {
+        return Format::Ascii;
     }
-    Framing::Ascii
+    let first = word[0];
+    match first {
+        b'b' => Format::Binary(Footer::Optional),
+        b'r' => Format::Binary(Footer::Required),
+        _ => Format::Ascii,
+    }
 }
 
 // Reads the input to its end. No input comes near to the count of reads.
-fn drive_input(framing: Framing, size: usize) -> Tally {
+fn drive_input(format: Format, size: usize) -> Tally {
     let mut chunk = io::large_buffer();
     let mut driven = Driven {
-        reader: Reader::new(framing),
+        reader: Reader::open(format),
         tally: Tally {
             frames: 0,
             noise: 0,
@@ -263,18 +271,18 @@ fn drive_input(framing: Framing, size: usize) -> Tally {
     drive_quiet(driven)
 }
 
-// Takes the framing and the size from the arguments, and prints what came out.
+// Takes the format and the size from the arguments, and prints what came out.
 fn main() {
     let mut word = io::buffer();
     let length = os::arg(1, &mut word);
-    let framing = framing_named(&word[..length]);
+    let format = format_named(&word[..length]);
     let length = os::arg(2, &mut word);
     let size = number(&word[..length]);
     if size == 0 {
-        io::write_all(STDOUT_FILENO, b"usage: digest binary|ascii SIZE\n");
+        io::write_all(STDOUT_FILENO, b"usage: digest binary|required|ascii SIZE\n");
         return;
     }
-    let tally = drive_input(framing, size);
+    let tally = drive_input(format, size);
     let digest = hex_u64(tally.digest);
     io::write_all(STDOUT_FILENO, b"frames ");
     io::print_decimal(STDOUT_FILENO, tally.frames);

@@ -18,8 +18,8 @@ use Rattle.frame.specs.Hex.{hex, pairs, sumOf}
 use Rattle.frame.specs.Ascii.{colon, carriageReturn, lineFeed, checksumOf, asciiFront, asciiEnding}
 use Rattle.frame.specs.Ascii.{hexDigits, digitCount, afterDigits, ascii, lineEnd, crLf}
 use Rattle.frame.specs.Elements.{Bytes}
-use Rattle.frame.specs.declared.framing.Framing.the-variants.{Ascii}
-use Rattle.frame.specs.Claims.{IsLayout, Payload}
+use Rattle.frame.specs.declared.framing.Framing.the-variants.{Ascii as AsciiFraming}
+use Rattle.frame.specs.Claims.{Payload}
 use Rattle.frame.specs.DigitRuns.{Digits, decoded}
 use Rattle.frame.proofs.Numbers.{both-true, and-true}
 use Rattle.frame.proofs.Lists.{bytes-left, bytes-right, bytes-append, drop-last-snoc, drop-last-of}
@@ -288,7 +288,7 @@ pub crlf-keeps : KeepsDigits crLf
 crlf-keeps ds c s p used e = took-after ds lineEnd line-end-keeps s p used (took-crlf ds c s p used e .1)
 
 -- What the layout gives is read as that frame.
-pub ascii-layout-reads : (p more : List ℕ) → Payload p → run (ascii crLf) (layout Ascii p ++ more) ≡ frame (length (layout Ascii p)) p
+pub ascii-layout-reads : (p more : List ℕ) → Payload p → run (ascii crLf) (layout AsciiFraming p ++ more) ≡ frame (length (layout AsciiFraming p)) p
 unfolding isDigit lineEnd
 ascii-layout-reads p more h =
     let n : ℕ = length (asciiFront p) in
@@ -298,10 +298,11 @@ ascii-layout-reads p more h =
     ∙ ap (behind (n + 1)) (run-byte lineFeed 5 (whole p) more)
     ∙ ap (λ (k : ℕ). frame k p) (omega (arith, length-append (asciiFront p) asciiEnding))
 
--- What is read as a frame is the layout of its payload.
-pub ascii-frame-is-layout : (s p : List ℕ) (used : ℕ) → run (ascii crLf) s ≡ frame used p → IsLayout Ascii s used p
+-- What is judged a frame is the layout of its payload.
+pub ascii-spelled : (s p : List ℕ) (used : ℕ) → run (ascii crLf) s ≡ frame used p
+    → (take used s ≡ layout AsciiFraming p) × (used ≡ length (layout AsciiFraming p)) × Payload p
 unfolding lineEnd
-ascii-frame-is-layout s p used e =
+ascii-spelled s p used e =
     let h = took-ascii crLf crlf-keeps s p used e in
     let (return, goes) = took-crlf (digitsOf p) (h .char) (h .ends .rest) p (h .ends .left) (h .ends .goes) in
     let last : Behind (byte lineFeed 5 (whole p)) (asciiFront p ++ (h .char ∷ [])) s used p =
@@ -314,7 +315,7 @@ ascii-frame-is-layout s p used e =
     }
     in
     let l = used-last lineFeed 5 p (asciiFront p ++ (h .char ∷ [])) s used last in
-    let same : (asciiFront p ++ (h .char ∷ [])) ++ (lineFeed ∷ []) ≡ layout Ascii p =
+    let same : (asciiFront p ++ (h .char ∷ [])) ++ (lineFeed ∷ []) ≡ layout AsciiFraming p =
     append-assoc (asciiFront p) (h .char ∷ []) (lineFeed ∷ []) ∙ ap (λ (c : ℕ). asciiFront p ++ (c ∷ lineFeed ∷ [])) return
     in
-    record { bytes = l .0 ∙ same; count = l .1 ∙ ap length same; payload = h .payload }
+    (l .0 ∙ same, l .1 ∙ ap length same, h .payload)

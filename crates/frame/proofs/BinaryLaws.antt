@@ -1,7 +1,7 @@
 -- Laws of binary framing: its layout and its checks belong together, and how long a frame can be.
 -- Assumes nothing.
 use Prim.Native.Nat.{ℕ, suc, _+_, _-_, _*_, _/_, _%_, _≤_, _<_}
-use native.Mathlib.Nat.{div-add-mod', add-sub-cancel-left}
+use native.Mathlib.Nat.{div-add-mod', add-sub-cancel-left, add-zero}
 use native.Mathlib.Omega.{arith}
 use mathlib.Core.Path.{_≡_, sym, ap, ap₂, _∙_, subst}
 use mathlib.Core.List.{List, [], _∷_, _++_, append-assoc}
@@ -9,14 +9,18 @@ use mathlib.Core.Bool.{true}
 use borrow.Author.Tests.{le-leb, leb-true}
 use lib.Arith.{digits-div, digits-mod}
 use lib.Dec.{leb}
-use lib.ListN.{length, getD, drop, length-append, drop-of-length-le}
+use lib.ListN.{length, getD, take, drop, length-append, drop-of-length-le}
 use lib.Bits.{bitXor}
 use Rattle.frame.specs.Checks.{Checks, whole, byte, test, word, bytes, frame, behind, run}
 use Rattle.frame.specs.Framing.{layout}
-use Rattle.frame.specs.Binary.{xorFrom, xorOf, bigEndian, binaryFront, binaryEnding, footer, lengthWord, body, binary}
+use Rattle.frame.specs.Binary.{xorFrom, xorOf, bigEndian, binaryFront, binaryEnding, footerByte, footer, ending, lengthWord, body, binary}
 use Rattle.frame.specs.Elements.{Bytes}
-use Rattle.frame.specs.declared.framing.Framing.the-variants.{Binary}
-use Rattle.frame.specs.Claims.{IsLayout, Payload}
+use Rattle.frame.specs.Judged.{judgedLength}
+use Rattle.frame.specs.declared.framing.Framing.the-variants.{Binary as BinaryFraming}
+use Rattle.frame.specs.declared.framing.Footer.{Footer}
+use Rattle.frame.specs.declared.framing.Footer.the-variants.{Optional, Required}
+use Rattle.frame.specs.declared.framing.Format.the-variants.{Binary}
+use Rattle.frame.specs.Claims.{Payload}
 use Rattle.frame.proofs.Numbers.{both-true, and-true}
 use Rattle.frame.proofs.Lists.{bytes-left, drop-next}
 use Rattle.frame.proofs.Trees.{
@@ -38,6 +42,7 @@ use Rattle.frame.proofs.Trees.{
   took-bytes,
   took-both,
   Keeps,
+  took-whole,
   keeps-byte,
   used-last,
 }
@@ -179,39 +184,58 @@ module _ (end : List ℕ → Checks) where
           },
         )
 
--- The footer takes one byte.
-pub footer-within : (p : List ℕ) → Within 1 (footer p)
+-- An ending takes one byte at most.
+pub ending-within : (footer : Footer) (p : List ℕ) → Within 1 (ending footer p)
 unfolding footer
-footer-within p = within-byte 0 0x04 5 (whole p) (within-whole 0 p)
+ending-within Optional p = within-whole 1 p
+ending-within Required p = within-byte 0 footerByte 5 (whole p) (within-whole 0 p)
 
 -- It hands on the payload.
-pub footer-keeps : Keeps footer
+pub ending-keeps : (footer : Footer) → Keeps (ending footer)
 unfolding footer
-footer-keeps = keeps-byte 0x04 5
+ending-keeps Optional q s p used e = took-whole q s p used e .1
+ending-keeps Required q s p used e = keeps-byte footerByte 5 q s p used e
 
--- What the layout gives is read as that frame.
-pub binary-layout-reads : (p more : List ℕ) → Payload p → run (binary footer) (layout Binary p ++ more) ≡ frame (length (layout Binary p)) p
+-- The front of a frame is a frame where the footer is optional.
+pub optional-front : (p more : List ℕ) → Payload p → run (binary whole) (binaryFront p ++ more) ≡ frame (length (binaryFront p)) p
+optional-front p more h = binary-front-reads whole p more h ∙ ap (λ (k : ℕ). frame k p) (add-zero (length (binaryFront p)))
+
+-- Where it is required, the layout is.
+pub required-layout : (p more : List ℕ) → Payload p → run (binary footer) (layout BinaryFraming p ++ more) ≡ frame (length (layout BinaryFraming p)) p
 unfolding footer
-binary-layout-reads p more h =
+required-layout p more h =
     ap (run (binary footer)) (append-assoc (binaryFront p) binaryEnding more)
-    ∙ binary-front-reads footer p (0x04 ∷ more) h
-    ∙ ap (behind (length (binaryFront p))) (run-byte 0x04 5 (whole p) more)
+    ∙ binary-front-reads footer p (footerByte ∷ more) h
+    ∙ ap (behind (length (binaryFront p))) (run-byte footerByte 5 (whole p) more)
     ∙ ap (λ (k : ℕ). frame k p) (sym (length-append (binaryFront p) binaryEnding))
 
--- Of bytes, what is read as a frame is the layout of its payload.
-pub binary-frame-is-layout : (s p : List ℕ) (used : ℕ) → Bytes s → run (binary footer) s ≡ frame used p → IsLayout Binary s used p
-unfolding footer
-binary-frame-is-layout s p used b e =
-    let (h, payload) = binary-spelled footer footer-keeps s p used b e in
-    let l = used-last 0x04 5 p (binaryFront p) s used h in
-    record { bytes = l .0; count = l .1; payload = payload }
+-- Of bytes, what is judged a frame where the footer is optional is the front of its payload.
+pub optional-spelled : (s p : List ℕ) (used : ℕ) → Bytes s → run (binary whole) s ≡ frame used p
+    → (rest : List ℕ) × (s ≡ binaryFront p ++ rest) × (used ≡ length (binaryFront p)) × Payload p
+optional-spelled s p used b e =
+    let (h, payload) = binary-spelled whole (ending-keeps Optional) s p used b e in
+    let w = took-whole p (h .rest) p (h .left) (h .goes) in
+    (h .rest, h .split, omega (arith, h .count, w .0), payload)
 
--- The footer is one byte behind the front.
-pub binary-used : (s p : List ℕ) (used : ℕ) → run (binary footer) s ≡ frame used p → used ≡ length p + 6
+-- Where it is required, it is the layout.
+pub required-spelled : (s p : List ℕ) (used : ℕ) → Bytes s → run (binary footer) s ≡ frame used p
+    → (take used s ≡ layout BinaryFraming p) × (used ≡ length (layout BinaryFraming p)) × Payload p
 unfolding footer
-binary-used s p used e =
-    let h = took-binary footer footer-keeps s p used e in
-    let l = used-last 0x04 5 p _ s used (h .ends) in
+required-spelled s p used b e =
+    let (h, payload) = binary-spelled footer (ending-keeps Required) s p used b e in
+    let l = used-last footerByte 5 p (binaryFront p) s used h in
+    (l .0, l .1, payload)
+
+-- How many bytes behind the payload are judged, beside the four in front of it: its checksum, and the footer where it is required.
+pub binary-used : (footer : Footer) (s p : List ℕ) (used : ℕ) → run (binary (ending footer)) s ≡ frame used p → used ≡ judgedLength (Binary footer) (length p)
+unfolding footer
+binary-used Optional s p used e =
+    let h = took-binary whole (ending-keeps Optional) s p used e in
+    let w = took-whole p (h .ends .rest) p (h .ends .left) (h .ends .goes) in
+    h .ends .count ∙ simp length-append (omega (arith, w .0))
+binary-used Required s p used e =
+    let h = took-binary footer (ending-keeps Required) s p used e in
+    let l = used-last footerByte 5 p _ s used (h .ends) in
     l .1 ∙ simp length-append (omega arith)
 
 -- One byte more of an XOR.

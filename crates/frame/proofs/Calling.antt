@@ -14,11 +14,11 @@ use Rattle.frame.specs.Calls.{Calls, fed, taken, quieted, emptied, feedR
 use Rattle.frame.specs.Claims.{CallsFollowRule}
 use Rattle.frame.specs.Draining.{FeedReports, QuietReports}
 use Rattle.frame.specs.Driving.{lastState, EndsFresh}
-use Rattle.frame.specs.declared.framing.Framing.{Framing}
+use Rattle.frame.specs.declared.framing.Format.{Format}
 use Rattle.frame.specs.declared.reader.Reader.{Reader}
 use Rattle.frame.specs.declared.reader.Fed.{Fed}
 use Rattle.frame.specs.declared.reader.Quieted.{Quieted}
-use Rattle.frame.proofs.Rules.{given-nil}
+use Rattle.frame.proofs.Rules.{given-behind-nil}
 use Rattle.frame.proofs.Settling.{line-rule, line-one, quiet-rule, quiet-one, quiet-left}
 use Rattle.frame.proofs.Promises.{answered, refusing, hands-out, takes, none-out, says}
 
@@ -51,9 +51,10 @@ fed-gives {r} {todo} {out} chunk more buf buf′ a p z e g =
 
 -- The state after a quiet call that handed out a payload.
 after-frame :
-    (s : State) (c : Called) (fs : List (List ℕ)) (r : Reader) → calledValues c fs .isFrame ≡ true → AfterQuiet s c fs r → Holds (after s c) r
-after-frame s c [] r e h = absurd (false≢true e)
-after-frame s c (p ∷ ps) r e h = h
+    (m : Format) (c : Called) (fs : List (List ℕ)) (r : Reader) → calledValues c fs .isFrame ≡ true → AfterQuiet m c fs r →
+    Holds (holding m (c .held) (c .follows)) r
+after-frame m c [] r e h = absurd (false≢true e)
+after-frame m c (p ∷ ps) r e h = h
 
 module _ {r : Reader} (buf buf′ : List ℕ) (a : Quieted) (p : Quiets r buf a buf′) where
   -- What came out of a quiet call is the first part of what is left.
@@ -67,7 +68,7 @@ module _ {r : Reader} (buf buf′ : List ℕ) (a : Quieted) (p : Quiets r buf a 
   frame-holds n =
       let c : Called = quiet (stateOf r) in
       let h = answered c p (n .answered) in
-      after-frame (stateOf r) c (c .out .frames) (a .reader) (ap (λ (v : Values). v .isFrame) (sym (h .0)) ∙ n .frame) (h .1)
+      after-frame (r .format) c (c .out .frames) (a .reader) (ap (λ (v : Values). v .isFrame) (sym (h .0)) ∙ n .frame) (h .1)
 
   -- A quiet call with a frame hands out the first part of what is left.
   quieted-gives :
@@ -84,15 +85,18 @@ module _ {r : Reader} (buf buf′ : List ℕ) (a : Quieted) (p : Quiets r buf a 
       {out : Output (List ℕ)} → WithoutFrame (quietValuesOf (a .answer)) → Leaves over (a .reader) [] out →
       Leaves ending r [] (join (outOf (quietValuesOf (a .answer)) buf′) out)
   emptied-gives n g =
-      let f : Framing = r .framing in
+      let f : Format = r .format in
+      let c : Called = quiet (stateOf r) in
       quiet-out (n .answered)
-      (g ∙ sym (given-nil f) ∙ ap (λ (h : List ℕ). ruleAfter (holding f h) []) (sym (quiet-left (stateOf r) (empty-none n))))
+      (g
+      ∙ sym (given-behind-nil f (c .follows))
+      ∙ ap (λ (h : List ℕ). ruleAfter (holding f h (c .follows)) []) (sym (quiet-left (stateOf r) (empty-none n))))
 
   -- Behind "empty" stands a new reader.
-  emptied-fresh : WithoutFrame (quietValuesOf (a .answer)) → a .reader ≡ newReader (r .framing)
+  emptied-fresh : WithoutFrame (quietValuesOf (a .answer)) → a .reader ≡ newReader (r .format)
   emptied-fresh n =
       subst
-      (λ (fs : List (List ℕ)). AfterQuiet (stateOf r) (quiet (stateOf r)) fs (a .reader))
+      (λ (fs : List (List ℕ)). AfterQuiet (r .format) (quiet (stateOf r)) fs (a .reader))
       (empty-none n)
       (answered (quiet (stateOf r)) p (n .answered) .1)
 
@@ -109,30 +113,30 @@ calls-give (quietRefused {phase} {r} {todo} {out} buf buf′ a p n k) =
 calls-give done = refl
 
 -- Any list of calls hands out what the rule gives over the whole segment.
-pub calls-follow-rule : (f : Framing) → CallsFollowRule f
+pub calls-follow-rule : (f : Format) → CallsFollowRule f
 calls-follow-rule f segment out k = calls-give k
 
 -- The state in which a list of calls from r ends: a new reader's; behind "empty" the same.
 abbrev endOf : Phase → Reader → Reader
-endOf offering r = newReader (r .framing)
-endOf ending r = newReader (r .framing)
+endOf offering r = newReader (r .format)
+endOf ending r = newReader (r .format)
 endOf over r = r
 
--- Readers with the same state have the same framing.
-same-framing : {s : State} {r : Reader} → Holds s r → r .framing ≡ s .framing
-same-framing h = ap (λ (x : State). x .framing) (h .state)
+-- Readers with the same state have the same format.
+same-format : {s : State} {r : Reader} → Holds s r → r .format ≡ s .format
+same-format h = ap (λ (x : State). x .format) (h .state)
 
 -- Whatever the calls, they end so.
 ends-so :
     {phase : Phase} {r : Reader} {todo : List ℕ} {out : Output (List ℕ)} (calls : Calls phase r todo out) → lastState calls ≡ endOf phase r
-ends-so (fed {r} chunk more buf buf′ a p n e k) = ends-so k ∙ ap newReader (same-framing (answered (line (stateOf r) chunk) p n .1))
+ends-so (fed {r} chunk more buf buf′ a p n e k) = ends-so k ∙ ap newReader (same-format (answered (line (stateOf r) chunk) p n .1))
 ends-so (taken k) = ends-so k
-ends-so (quieted buf buf′ a p n k) = ends-so k ∙ ap newReader (same-framing (frame-holds buf buf′ a p n))
+ends-so (quieted buf buf′ a p n k) = ends-so k ∙ ap newReader (same-format (frame-holds buf buf′ a p n))
 ends-so (emptied buf buf′ a p n k) = ends-so k ∙ emptied-fresh buf buf′ a p n
 ends-so (feedRefused {phase} {r} chunk buf buf′ a p n k) = ends-so k ∙ ap (endOf phase) (refusing (line (stateOf r) chunk) p n .1)
 ends-so (quietRefused {phase} {r} buf buf′ a p n k) = ends-so k ∙ ap (endOf phase) (refusing (quiet (stateOf r)) p n .1)
 ends-so done = refl
 
 -- A list of calls from a new reader ends in a new reader's state.
-pub ends-fresh : (f : Framing) → EndsFresh f
+pub ends-fresh : (f : Format) → EndsFresh f
 ends-fresh f segment out calls = ends-so calls

@@ -4,176 +4,234 @@ use Prim.Native.Nat.{ℕ, zero, suc, pred, _+_, _≤_, zero-le}
 use native.Mathlib.Nat.{le-of-suc-le-suc, not-suc-le-zero, le-trans}
 use native.Mathlib.Omega.{arith}
 use mathlib.Core.Path.{_≡_, refl, sym, ap, _∙_, subst}
-use mathlib.Core.List.{List, [], _∷_, _++_, map, append-nil, append-assoc}
+use mathlib.Core.List.{List, [], _∷_, _++_, append-nil, append-assoc}
 use mathlib.Core.Logic.{⊎-elim}
+use mathlib.Core.Bool.{Bool, true, false, cond}
 use lib.ListN.{length, drop, length-append}
 use lib.Seq.{drop-append-le}
 use Rattle.frame.specs.Checks.{Verdict, cut, refused, frame}
-use Rattle.frame.specs.Hex.{sumOf}
-use Rattle.frame.specs.Framing.{judge, read}
-use Rattle.frame.specs.Judged.{frameLength}
+use Rattle.frame.specs.Framing.{judge, read, mayFollow, isOptional, behindOptional}
+use Rattle.frame.specs.Judged.{judgedLength}
 use Rattle.frame.specs.Rule.{Output, nothing, noiseByte, handed, join, passAfter, outAt, payloads}
-use Rattle.frame.specs.Reader.{Settled, settled, line}
-use Rattle.frame.specs.Drain.{before, drainAs, drainFrom}
+use Rattle.frame.specs.Reader.{Settled, settled, Called, line}
+use Rattle.frame.specs.Drain.{before, drainAs, followsAfter, drainFrom}
 use Rattle.frame.specs.Draining.{LineDrains, NeedsMoreIsDrained, DrainFollowsRule, DrainIsSized}
-use Rattle.frame.specs.Draining.{RuleIsSized}
-use Rattle.frame.specs.declared.framing.Framing.{Framing}
-use Rattle.frame.specs.declared.framing.Framing.the-variants.{Binary, Ascii}
+use Rattle.frame.specs.Draining.{overhead, sizeOf, RuleIsSized}
+use Rattle.frame.specs.declared.framing.Footer.the-variants.{Optional, Required}
+use Rattle.frame.specs.declared.framing.Format.{Format}
+use Rattle.frame.specs.declared.framing.Format.the-variants.{Binary, Ascii}
 use Rattle.frame.proofs.Framings.{frame-sized, used-is, payload-size}
-use Rattle.frame.proofs.Rules.{join-nothing, join-assoc, ruleFrom, rule-walk, given, given-noise, given-frame}
-use Rattle.frame.proofs.Settling.{line-over, needs-more-is-true}
+use Rattle.frame.proofs.Optional.{read-frame, read-sized}
+use Rattle.frame.proofs.Rules.{join-nothing, join-assoc, ruleFrom, rule-walk, given, givenBehind, given-failed, given-judged}
+use Rattle.frame.proofs.Settling.{line-over, line-unmarked, needs-more-is-true}
 use Rattle.frame.proofs.Shapes.{NoFrame, IsRefused, judge-stands}
 
 -- Nothing before what was settled adds nothing.
 before-nothing : (st : Settled) → before nothing st ≡ st
-before-nothing st = ap (λ (o : Output (List ℕ)). settled o (st .rest)) (join-nothing (st .out))
+before-nothing st = ap (λ (o : Output (List ℕ)). settled o (st .rest) (st .follows)) (join-nothing (st .out))
 
 -- Outputs are put before it in any grouping.
 before-join : (x y : Output (List ℕ)) (st : Settled) → before (join x y) st ≡ before x (before y st)
-before-join x y st = ap (λ (o : Output (List ℕ)). settled o (st .rest)) (join-assoc x y (st .out))
+before-join x y st = ap (λ (o : Output (List ℕ)). settled o (st .rest) (st .follows)) (join-assoc x y (st .out))
 
-module _ (f : Framing) where
+module _ (f : Format) where
   -- To pass over bytes is to begin behind them.
-  drain-pass : (pass : ℕ) (s : List ℕ) → drainFrom f pass s ≡ drainFrom f 0 (drop pass s)
+  drain-pass : (follows : Bool) (pass : ℕ) (s : List ℕ) → drainFrom f follows pass s ≡ drainFrom f follows 0 (drop pass s)
   unfolding drainFrom
-  drain-pass zero s = refl
-  drain-pass (suc pass) [] = refl
-  drain-pass (suc pass) (b ∷ s) = drain-pass pass s
+  drain-pass follows zero s = refl
+  drain-pass follows (suc pass) [] = refl
+  drain-pass follows (suc pass) (b ∷ s) = drain-pass follows pass s
 
-  noise-at :
-      (b : ℕ) (s : List ℕ) (v : Verdict) → IsRefused v →
-      drainAs v (b ∷ s) (drainFrom f (passAfter v) s) ≡ before noiseByte (drainFrom f 0 s)
+  -- An optional byte that may follow is passed over.
+  drain-skip : (follows : Bool) (b : ℕ) (s : List ℕ) → drainFrom f follows 0 (b ∷ s) ≡ drainFrom f false 0 (behindOptional f follows (b ∷ s))
+  unfolding drainFrom
+  drain-skip false b s = refl
+  drain-skip true b s = by-byte (isOptional f b)
+    where
+      by-byte :
+          (q : Bool) →
+          cond q (drainFrom f false 0 s)
+          (drainAs (judge f (b ∷ s)) (b ∷ s) (drainFrom f (followsAfter f (judge f (b ∷ s))) (passAfter (judge f (b ∷ s))) s))
+          ≡ drainFrom f false 0 (drop (cond q 1 0) (b ∷ s))
+      by-byte true = refl
+      by-byte false = refl
+
+  -- What is drained at a place of this verdict.
+  abbrev drainedAs : Verdict → ℕ → List ℕ → Settled
+  drainedAs v b s = drainAs v (b ∷ s) (drainFrom f (followsAfter f v) (passAfter v) s)
+
+  drain-here : (b : ℕ) (s : List ℕ) (v : Verdict) → judge f (b ∷ s) ≡ v → drainFrom f false 0 (b ∷ s) ≡ drainedAs v b s
+  unfolding drainFrom
+  drain-here b s v e = ap (λ (x : Verdict). drainedAs x b s) e
+
+  noise-at : (b : ℕ) (s : List ℕ) (v : Verdict) → IsRefused v → drainedAs v b s ≡ before noiseByte (drainFrom f false 0 s)
   noise-at b s cut h = absurd h
   noise-at b s (refused judged n) h = refl
   noise-at b s (frame used p) h = absurd h
 
   -- Where the bytes are refused, one is noise.
-  drain-noise : (b : ℕ) (s : List ℕ) → IsRefused (judge f (b ∷ s)) → drainFrom f 0 (b ∷ s) ≡ before noiseByte (drainFrom f 0 s)
-  unfolding drainFrom
-  drain-noise b s h = noise-at b s (judge f (b ∷ s)) h
+  drain-noise : (b : ℕ) (s : List ℕ) → IsRefused (judge f (b ∷ s)) → drainFrom f false 0 (b ∷ s) ≡ before noiseByte (drainFrom f false 0 s)
+  drain-noise b s h = drain-here b s (judge f (b ∷ s)) refl ∙ noise-at b s (judge f (b ∷ s)) h
 
-  -- A frame is handed out, and the rule goes on behind it.
-  drain-frame : (used : ℕ) (p s : List ℕ) → read f s ≡ frame used p → drainFrom f 0 s ≡ before (handed p) (drainFrom f 0 (drop used s))
-  unfolding drainFrom
+  -- A frame is handed out, and the rule goes on behind it, where an optional byte may follow.
+  drain-frame :
+      (used : ℕ) (p s : List ℕ) → judge f s ≡ frame used p → drainFrom f false 0 s ≡ before (handed p) (drainFrom f (mayFollow f) 0 (drop used s))
   drain-frame used p [] e = absurd (not-suc-le-zero (le-trans (frame-sized f [] p used e .some) (frame-sized f [] p used e .there)))
   drain-frame zero p (b ∷ s) e = absurd (not-suc-le-zero (frame-sized f (b ∷ s) p zero e .some))
-  drain-frame (suc used) p (b ∷ s) e =
-      ap (λ (v : Verdict). drainAs v (b ∷ s) (drainFrom f (passAfter v) s)) e ∙ ap (before (handed p)) (drain-pass used s)
+  drain-frame (suc used) p (b ∷ s) e = drain-here b s (frame (suc used) p) e ∙ ap (before (handed p)) (drain-pass (mayFollow f) used s)
 
   -- Undecided bytes stay.
-  drain-cut : (s : List ℕ) → read f s ≡ cut → drainFrom f 0 s ≡ settled nothing s
+  drain-cut : (s : List ℕ) → judge f s ≡ cut → drainFrom f false 0 s ≡ settled nothing s false
   unfolding drainFrom
   drain-cut [] e = refl
-  drain-cut (b ∷ s) e = ap (λ (v : Verdict). drainAs v (b ∷ s) (drainFrom f (passAfter v) s)) e
+  drain-cut (b ∷ s) e = drain-here b s cut e
 
-  drain-nil : (s : List ℕ) → s ≡ [] → drainFrom f 0 s ≡ settled nothing s
+  -- Of nothing nothing is drained, and the mark stays.
+  drain-nil : (follows : Bool) (s : List ℕ) → s ≡ [] → drainFrom f follows 0 s ≡ settled nothing s follows
   unfolding drainFrom
-  drain-nil s e = rw e
+  drain-nil follows s e = rw e
 
-  -- What is drained at a place, and then the rule over the rest, is the rule from there on.
+  -- What was settled gave the first part of what the rule gives, and the bytes still held stand for the rest of it.
+  abbrev Leads : Output (List ℕ) → Settled → List ℕ → Type 0
+  Leads o st more = o ≡ join (st .out) (givenBehind f (st .follows) (st .rest ++ more))
+
+  -- At a place with this verdict.
   drain-at :
-      (b : ℕ) (s more : List ℕ) (v : Verdict) → read f (b ∷ s) ≡ v →
-      ((pass : ℕ) → pass ≤ length s → given f (drop pass s ++ more) ≡ join (drainFrom f pass s .out) (given f (drainFrom f pass s .rest ++ more))) →
-      let st : Settled = drainAs v (b ∷ s) (drainFrom f (passAfter v) s) in
-      given f ((b ∷ s) ++ more) ≡ join (st .out) (given f (st .rest ++ more))
+      (b : ℕ) (s more : List ℕ) (v : Verdict) → judge f (b ∷ s) ≡ v →
+      ((follows : Bool) (pass : ℕ) → pass ≤ length s → Leads (givenBehind f follows (drop pass s ++ more)) (drainFrom f follows pass s) more) →
+      Leads (given f ((b ∷ s) ++ more)) (drainedAs v b s) more
   drain-at b s more cut e later = sym (join-nothing (given f ((b ∷ s) ++ more)))
   drain-at b s more (refused judged n) e later =
-      given-noise f b (s ++ more) (subst NoFrame (sym (judge-stands f (b ∷ s) more (refused judged n) tt e)) tt)
-      ∙ ap (join noiseByte) (later 0 zero-le)
-      ∙ sym (join-assoc noiseByte (drainFrom f 0 s .out) (given f (drainFrom f 0 s .rest ++ more)))
+      let st : Settled = drainFrom f false 0 s in
+      given-failed f b (s ++ more) (subst NoFrame (sym (judge-stands f (b ∷ s) more (refused judged n) tt e)) tt)
+      ∙ ap (join noiseByte) (later false 0 zero-le)
+      ∙ sym (join-assoc noiseByte (st .out) (givenBehind f (st .follows) (st .rest ++ more)))
   drain-at b s more (frame zero p) e later = absurd (not-suc-le-zero (frame-sized f (b ∷ s) p zero e .some))
   drain-at b s more (frame (suc used) p) e later =
       let inside : used ≤ length s = omega (arith, frame-sized f (b ∷ s) p (suc used) e .there) in
-      given-frame f (suc used) p ((b ∷ s) ++ more) (judge-stands f (b ∷ s) more (frame (suc used) p) tt e)
-      ∙ ap (λ (t : List ℕ). join (handed p) (given f t)) (drop-append-le used s more inside)
-      ∙ ap (join (handed p)) (later used inside)
-      ∙ sym (join-assoc (handed p) (drainFrom f used s .out) (given f (drainFrom f used s .rest ++ more)))
+      let st : Settled = drainFrom f (mayFollow f) used s in
+      given-judged f (suc used) p ((b ∷ s) ++ more) (judge-stands f (b ∷ s) more (frame (suc used) p) tt e)
+      ∙ ap (λ (t : List ℕ). join (handed p) (givenBehind f (mayFollow f) t)) (drop-append-le used s more inside)
+      ∙ ap (join (handed p)) (later (mayFollow f) used inside)
+      ∙ sym (join-assoc (handed p) (st .out) (givenBehind f (st .follows) (st .rest ++ more)))
+
+  -- At a place where an optional byte may stand.
+  drain-first :
+      (follows : Bool) (b : ℕ) (s more : List ℕ) →
+      ((follows : Bool) (pass : ℕ) → pass ≤ length s → Leads (givenBehind f follows (drop pass s ++ more)) (drainFrom f follows pass s) more) →
+      Leads (givenBehind f follows ((b ∷ s) ++ more)) (drainFrom f follows 0 (b ∷ s)) more
+  unfolding drainFrom
+  drain-first false b s more later = drain-at b s more (judge f (b ∷ s)) refl later
+  drain-first true b s more later = by-byte (isOptional f b)
+    where
+      by-byte :
+          (q : Bool) →
+          Leads (given f (drop (cond q 1 0) ((b ∷ s) ++ more))) (cond q (drainFrom f false 0 s) (drainedAs (judge f (b ∷ s)) b s)) more
+      by-byte true = later false 0 zero-le
+      by-byte false = drain-at b s more (judge f (b ∷ s)) refl later
 
   drain-rule :
-      (pass : ℕ) (s more : List ℕ) → pass ≤ length s →
-      given f (drop pass s ++ more) ≡ join (drainFrom f pass s .out) (given f (drainFrom f pass s .rest ++ more))
+      (follows : Bool) (pass : ℕ) (s more : List ℕ) → pass ≤ length s →
+      Leads (givenBehind f follows (drop pass s ++ more)) (drainFrom f follows pass s) more
   unfolding drainFrom
-  drain-rule zero [] more l = sym (join-nothing (given f more))
-  drain-rule (suc pass) [] more l = absurd (not-suc-le-zero l)
-  drain-rule zero (b ∷ s) more l = drain-at b s more (judge f (b ∷ s)) refl (λ pass. drain-rule pass s more)
-  drain-rule (suc pass) (b ∷ s) more l = drain-rule pass s more (le-of-suc-le-suc l)
+  drain-rule follows zero [] more l = sym (join-nothing (givenBehind f follows more))
+  drain-rule follows (suc pass) [] more l = absurd (not-suc-le-zero l)
+  drain-rule follows zero (b ∷ s) more l = drain-first follows b s more (λ follows pass. drain-rule follows pass s more)
+  drain-rule follows (suc pass) (b ∷ s) more l = drain-rule follows pass s more (le-of-suc-le-suc l)
 
-  -- A frame has its payload and six bytes or more.
-  frame-holds : (s p : List ℕ) (used : ℕ) → read f s ≡ frame used p → length p + 6 ≤ used
+  -- A frame has its payload and so many bytes more.
+  frame-holds : (s p : List ℕ) (used : ℕ) → judge f s ≡ frame used p → length p + overhead f ≤ used
   frame-holds s p used e = holds f (used-is f s p used e) (payload-size f s p used e .0)
     where
-      holds : (g : Framing) → used ≡ frameLength g (length p) → 1 ≤ length p → length p + 6 ≤ used
-      holds Binary e some = omega arith
+      holds : (g : Format) → used ≡ judgedLength g (length p) → 1 ≤ length p → length p + overhead g ≤ used
+      holds (Binary Optional) e some = omega arith
+      holds (Binary Required) e some = omega arith
       holds Ascii e some = omega arith
 
 -- A line call gives the first part of what its bytes give.
 pub line-drains : LineDrains
 line-drains s chunk =
-    let f : Framing = s .framing in
+    let f : Format = s .format in
+    let c : Called = line s chunk in
     rw append-nil at
-    (line-over f IsRefused (drainFrom f 0) before before-nothing before-join (drain-noise f) (drain-frame f) (λ _ _. tt) (s .held) chunk [])
+    (line-over f IsRefused (λ follows t. drainFrom f follows 0 t) before before-nothing before-join (drain-noise f) (drain-frame f) (λ _ _. tt) (drain-skip f)
+    (s .follows) (s .held) chunk [])
 
 -- Where nothing comes out of a line call, all is drained.
 pub needs-more-is-drained : NeedsMoreIsDrained
 needs-more-is-drained s chunk e =
-    let f : Framing = s .framing in
-    let h : List ℕ = line s chunk .held in
-    ap (drainFrom f 0) (append-nil h) ∙ ⊎-elim (drain-nil f h) (drain-cut f h) (needs-more-is-true s chunk e .1)
+    let f : Format = s .format in
+    let c : Called = line s chunk in
+    ap (drainFrom f (c .follows) 0) (append-nil (c .held))
+    ∙ ⊎-elim
+    (drain-nil f (c .follows) (c .held))
+    (λ (h : judge f (c .held) ≡ cut).
+    ⊎-elim
+    (drain-nil f (c .follows) (c .held))
+    (λ (u : c .follows ≡ false). rw u (drain-cut f (c .held) h))
+    (line-unmarked f (s .follows) (s .held) chunk e))
+    (needs-more-is-true s chunk e .1)
 
 -- What is drained, and then the rule over what is left and what follows, is the rule over all.
 pub drain-follows-rule : DrainFollowsRule
 drain-follows-rule s chunk more =
-    let f : Framing = s .framing in
-    ap (given f) (sym (append-assoc (s .held) chunk more)) ∙ drain-rule f 0 (s .held ++ chunk) more zero-le
+    let f : Format = s .format in
+    ap (givenBehind f (s .follows)) (sym (append-assoc (s .held) chunk more)) ∙ drain-rule f (s .follows) 0 (s .held ++ chunk) more zero-le
 
--- The bytes that an output takes at least.
-abbrev size : Output (List ℕ) → ℕ
-size o = sumOf (map (λ p. length p + 6) (o .frames)) + o .noise
+module _ (f : Format) where
+  -- What was settled of n bytes, with `pass` of them passed over, takes no more than there are.
+  abbrev Covers : Settled → ℕ → ℕ → Type 0
+  Covers st pass n = sizeOf f (st .out) + length (st .rest) + pass ≤ n
 
-module _ (f : Framing) where
   -- One place of what is drained.
   drained-at :
-      (b : ℕ) (s : List ℕ) (v : Verdict) → read f (b ∷ s) ≡ v →
-      ((pass : ℕ) → pass ≤ length s → size (drainFrom f pass s .out) + length (drainFrom f pass s .rest) + pass ≤ length s) →
-      let st : Settled = drainAs v (b ∷ s) (drainFrom f (passAfter v) s) in size (st .out) + length (st .rest) ≤ suc (length s)
+      (b : ℕ) (s : List ℕ) (v : Verdict) → judge f (b ∷ s) ≡ v →
+      ((follows : Bool) (pass : ℕ) → pass ≤ length s → Covers (drainFrom f follows pass s) pass (length s)) →
+      Covers (drainedAs f v b s) 0 (suc (length s))
   unfolding join
   drained-at b s cut e later = omega arith
-  drained-at b s (refused judged n) e later = omega (arith, later 0 zero-le)
+  drained-at b s (refused judged n) e later = omega (arith, later false 0 zero-le)
   drained-at b s (frame used p) e later =
       let h = frame-sized f (b ∷ s) p used e in
       let l : pred used ≤ length s = omega (arith, h .some, h .there) in
-      omega (arith, later (pred used) l, h .some, frame-holds f (b ∷ s) p used e)
+      omega (arith, later (mayFollow f) (pred used) l, h .some, frame-holds f (b ∷ s) p used e)
 
-  drained-size : (pass : ℕ) (s : List ℕ) → pass ≤ length s → size (drainFrom f pass s .out) + length (drainFrom f pass s .rest) + pass ≤ length s
+  drained-first :
+      (follows : Bool) (b : ℕ) (s : List ℕ) →
+      ((follows : Bool) (pass : ℕ) → pass ≤ length s → Covers (drainFrom f follows pass s) pass (length s)) →
+      Covers (drainFrom f follows 0 (b ∷ s)) 0 (suc (length s))
   unfolding drainFrom
-  drained-size pass [] l = omega arith
-  drained-size zero (b ∷ s) l = omega (arith, drained-at b s (judge f (b ∷ s)) refl (λ pass. drained-size pass s))
-  drained-size (suc pass) (b ∷ s) l = omega (arith, drained-size pass s (le-of-suc-le-suc l))
+  drained-first false b s later = drained-at b s (judge f (b ∷ s)) refl later
+  drained-first true b s later = by-byte (isOptional f b)
+    where
+      by-byte : (q : Bool) → Covers (cond q (drainFrom f false 0 s) (drainedAs f (judge f (b ∷ s)) b s)) 0 (suc (length s))
+      by-byte true = omega (arith, later false 0 zero-le)
+      by-byte false = drained-at b s (judge f (b ∷ s)) refl later
 
-  -- What is drained takes no more bytes than there are.
-  drain-sized :
-      (s : List ℕ) →
-      let d : Settled = drainFrom f 0 s in
-      sumOf (map (λ p. length p + 6) (d .out .frames)) + d .out .noise + length (d .rest) ≤ length s
-  drain-sized s = omega (arith, drained-size 0 s zero-le)
+  drained-size : (follows : Bool) (pass : ℕ) (s : List ℕ) → pass ≤ length s → Covers (drainFrom f follows pass s) pass (length s)
+  unfolding drainFrom
+  drained-size follows pass [] l = omega arith
+  drained-size follows zero (b ∷ s) l = drained-first follows b s (λ follows pass. drained-size follows pass s)
+  drained-size follows (suc pass) (b ∷ s) l = omega (arith, drained-size follows pass s (le-of-suc-le-suc l))
 
   -- One place of the rule.
   ruled-at :
       (place b : ℕ) (s : List ℕ) (v : Verdict) → read f (b ∷ s) ≡ v →
-      ((pass : ℕ) → pass ≤ length s → size (payloads (ruleFrom f (suc place) pass s)) + pass ≤ length s) →
-      size (payloads (join (outAt place v) (ruleFrom f (suc place) (passAfter v) s))) ≤ suc (length s)
+      ((pass : ℕ) → pass ≤ length s → sizeOf f (payloads (ruleFrom f (suc place) pass s)) + pass ≤ length s) →
+      sizeOf f (payloads (join (outAt place v) (ruleFrom f (suc place) (passAfter v) s))) ≤ suc (length s)
   unfolding join
   ruled-at place b s cut e later = omega (arith, later 0 zero-le)
   ruled-at place b s (refused judged n) e later = omega (arith, later 0 zero-le)
   ruled-at place b s (frame used p) e later =
-      let h = frame-sized f (b ∷ s) p used e in
+      let h = read-sized f (b ∷ s) p used e in
+      let (judged, is, size) = read-frame f (b ∷ s) used p e in
       let l : pred used ≤ length s = omega (arith, h .some, h .there) in
-      omega (arith, later (pred used) l, h .some, frame-holds f (b ∷ s) p used e)
+      omega (arith, later (pred used) l, h .some, frame-holds f (b ∷ s) p judged is)
 
-  ruled-size : (place pass : ℕ) (s : List ℕ) → pass ≤ length s → size (payloads (ruleFrom f place pass s)) + pass ≤ length s
+  ruled-size : (place pass : ℕ) (s : List ℕ) → pass ≤ length s → sizeOf f (payloads (ruleFrom f place pass s)) + pass ≤ length s
   unfolding ruleFrom
   ruled-size place pass [] l = omega arith
-  ruled-size place zero (b ∷ s) l = omega (arith, ruled-at place b s (judge f (b ∷ s)) refl (λ pass. ruled-size (suc place) pass s))
+  ruled-size place zero (b ∷ s) l = omega (arith, ruled-at place b s (read f (b ∷ s)) refl (λ pass. ruled-size (suc place) pass s))
   ruled-size place (suc pass) (b ∷ s) l = omega (arith, ruled-size (suc place) pass s (le-of-suc-le-suc l))
 
   -- What the rule gives takes no more bytes than there are.
@@ -182,4 +240,4 @@ module _ (f : Framing) where
 
 -- What is drained takes no more bytes than were held and offered.
 pub drain-is-sized : DrainIsSized
-drain-is-sized s chunk = rw length-append at (drain-sized (s .framing) (s .held ++ chunk))
+drain-is-sized s chunk = omega (arith, drained-size (s .format) (s .follows) 0 (s .held ++ chunk) zero-le, length-append (s .held) chunk)

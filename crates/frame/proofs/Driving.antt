@@ -12,7 +12,7 @@ use lib.ListN.{length, take, drop, replicate, length-append, length-drop, length
 use lib.Seq.{take-append-seam, drop-append-seam, drop-append-le}
 use Rattle.frame.specs.Framing.{limit, inFront}
 use Rattle.frame.specs.Rule.{Output, nothing, join, Found, rule}
-use Rattle.frame.specs.Reader.{State, holding, Called, line, quiet, after, stateOf, Holds, newReader, Values}
+use Rattle.frame.specs.Reader.{State, holding, Called, line, quietHeld, quiet, after, stateOf, Holds, newReader, Values}
 use Rattle.frame.specs.Reader.{feedValuesOf, quietValuesOf, calledValues, bufferAt, quietRefusal}
 use Rattle.frame.specs.Reader.{feedRefusal, Gives, Feeds, AfterQuiet, Quiets}
 use Rattle.frame.specs.Drain.{ruleAfter}
@@ -20,13 +20,13 @@ use Rattle.frame.specs.Elements.{All}
 use Rattle.frame.specs.Calls.{WithFrame, outOf, Phase, offering, ending, over}
 use Rattle.frame.specs.Calls.{Calls, fed, taken, quieted, emptied, feedRefused, quietRefused, done}
 use Rattle.frame.specs.Driving.{countOf, chunksAfter, Offers, CanDrive, DrivesAreShort}
-use Rattle.frame.specs.declared.framing.Framing.{Framing}
+use Rattle.frame.specs.declared.framing.Format.{Format}
 use Rattle.frame.specs.declared.reader.Reader.{Reader}
 use Rattle.frame.specs.declared.reader.Fed.{Fed}
 use Rattle.frame.specs.declared.answer.FeedAnswer.the-variants.{Frame as FeedFrame, NeedsMore}
 use Rattle.frame.specs.declared.reader.Quieted.{Quieted}
 use Rattle.frame.specs.declared.answer.QuietAnswer.the-variants.{Frame as QuietFrame, Empty}
-use Rattle.frame.proofs.Rules.{given-nil, rule-few}
+use Rattle.frame.proofs.Rules.{given-behind-nil, rule-few}
 use Rattle.frame.proofs.Promises.{answers}
 use Rattle.frame.proofs.Settling.{line-rule, line-one, line-taken, line-size, quiet-rule, quiet-one, quiet-left, quiet-size}
 use Rattle.frame.proofs.Settling.{needs-more-is-true}
@@ -35,11 +35,14 @@ use Rattle.frame.proofs.Refusals.{StateFits, fits-held, holds-fits}
 
 -- A reader with this state.
 abbrev readerOf : State → Reader
-readerOf s = record { framing = s .framing; held = s .held ++ replicate (517 - length (s .held)) 0; count = length (s .held) }
+readerOf s = record { format = s .format; held = s .held ++ replicate (517 - length (s .held)) 0; count = length (s .held); follows = s .follows }
 
 -- It has it.
 reader-holds : (s : State) → Holds s (readerOf s)
-reader-holds s = record { state = ap (holding (s .framing)) (take-append-seam (s .held) (replicate (517 - length (s .held)) 0)); count = refl }
+reader-holds s = record {
+  state = ap (λ (h : List ℕ). holding (s .format) h (s .follows)) (take-append-seam (s .held) (replicate (517 - length (s .held)) 0));
+  count = refl;
+}
 
 -- A call that is not refused answers by what came out of it.
 keeps :
@@ -59,14 +62,14 @@ buffer-room = refl
 -- A quiet call with it and a state that fits is not refused.
 quiet-free : (r : Reader) → StateFits r → quietRefusal r (length buffer) ≡ 0
 quiet-free r l =
-    ap₂ (λ (s t : Bool). cond s (cond t 0 13) 16) (le-leb (r .count) (limit (r .framing)) l) buffer-room
+    ap₂ (λ (s t : Bool). cond s (cond t 0 13) 16) (le-leb (r .count) (limit (r .format)) l) buffer-room
 
 -- Nor is a line call, where the chunk is not too long.
 feed-free : (r : Reader) (chunk : List ℕ) → StateFits r → length chunk ≤ 65536 → feedRefusal r (length buffer) (length chunk) ≡ 0
 feed-free r chunk l k =
     ap₂
     (λ (s t : Bool). cond s (cond t (cond (leb (length chunk) 65536) 0 15) 13) 16)
-    (le-leb (r .count) (limit (r .framing)) l)
+    (le-leb (r .count) (limit (r .format)) l)
     buffer-room
     ∙ ap (λ (t : Bool). cond t 0 15) (le-leb (length chunk) 65536 k)
 
@@ -97,15 +100,16 @@ module _ (r : Reader) (l : StateFits r) where
 
   -- The last quiet call.
   ends-empty : (n : ℕ) → payloadsIn (stateOf r) [] ≡ n → quietCall .out .frames ≡ [] → Ends r n
-  unfolding quiet
+  unfolding quietHeld
   ends-empty n e h =
-      let f : Framing = r .framing in
+      let f : Format = r .format in
       let a : Quieted = record { reader = newReader f; answer = Empty (quietCall .out .noise) } in
       let p : Quiets r buffer a buffer =
       keeps quietCall [] buffer (newReader f) (quiet-free r l) h
-      (subst (λ (fs : List (List ℕ)). AfterQuiet (stateOf r) quietCall fs (newReader f)) (sym h) refl) in
+      (subst (λ (fs : List (List ℕ)). AfterQuiet (r .format) quietCall fs (newReader f)) (sym h) refl) in
       let left : payloadsIn (after (stateOf r) quietCall) [] ≡ 0 =
-      ap (λ (h : List ℕ). payloadsIn (holding f h) []) (quiet-left (stateOf r) h) ∙ ap (λ (o : Output (List ℕ)). length (o .frames)) (given-nil f) in
+      ap (λ (h : List ℕ). payloadsIn (holding f h (quietCall .follows)) []) (quiet-left (stateOf r) h)
+      ∙ ap (λ (o : Output (List ℕ)). length (o .frames)) (given-behind-nil f (quietCall .follows)) in
       let z : n ≡ 0 = sym e ∙ quiet-count ∙ ap₂ _+_ (ap length h) left in
       record {
         out = join (outOf (quietValuesOf (a .answer)) buffer) nothing;
@@ -118,14 +122,14 @@ module _ (r : Reader) (l : StateFits r) where
   ends-frame :
       (n : ℕ) (p : List ℕ) (ps : List (List ℕ)) → payloadsIn (stateOf r) [] ≡ suc n → quietCall .out .frames ≡ p ∷ ps →
       ((r′ : Reader) → StateFits r′ → payloadsIn (stateOf r′) [] ≡ n → Ends r′ n) → Ends r (suc n)
-  unfolding quiet
+  unfolding quietHeld
   ends-frame n p ps e h later =
       let s′ : State = after (stateOf r) quietCall in
       let r′ : Reader = readerOf s′ in
       let a : Quieted = record { reader = r′; answer = QuietFrame (quietCall .out .noise) (length p) } in
       let q : Quiets r buffer a (inFront p buffer) =
       keeps quietCall (p ∷ ps) buffer r′ (quiet-free r l) h
-      (subst (λ (fs : List (List ℕ)). AfterQuiet (stateOf r) quietCall fs r′) (sym h) (reader-holds s′)) in
+      (subst (λ (fs : List (List ℕ)). AfterQuiet (r .format) quietCall fs r′) (sym h) (reader-holds s′)) in
       let first : length (quietCall .out .frames) ≡ suc (length ps) = ap length h in
       let rest : payloadsIn s′ [] ≡ n = omega (arith, quiet-one (stateOf r), quiet-count) in
       let k : Ends r′ n =
@@ -263,13 +267,13 @@ goes (suc n) r todo (chunk ∷ chunks) l e short z =
     (line (stateOf r) chunk .out .frames) refl
 
 -- A segment has no more payloads than bytes.
-payloads-few : (f : Framing) (s : List ℕ) → payloadsIn (holding f []) s ≤ length s
+payloads-few : (f : Format) (s : List ℕ) → payloadsIn (holding f [] false) s ≤ length s
 payloads-few f s = rw (length-map (rule f s .frames) (λ (x : Found). x .payload)) (rule-few f s)
 
 -- However a segment is cut into chunks, a caller gets it through a new reader.
-pub can-drive : (f : Framing) → CanDrive f
+pub can-drive : (f : Format) → CanDrive f
 can-drive f chunks short =
-    let n : ℕ = payloadsIn (holding f []) (flatten chunks) + length chunks in
+    let n : ℕ = payloadsIn (holding f [] false) (flatten chunks) + length chunks in
     let k : Goes (newReader f) (flatten chunks) chunks n = goes n (newReader f) (flatten chunks) chunks zero-le refl short refl in
     record { out = k .out; calls = k .calls; offers = k .offers; few = omega (arith, k .count, payloads-few f (flatten chunks)) }
 
@@ -322,8 +326,8 @@ few-calls (quietRefused buf buf′ a p n later) chunks o = absurd o
 few-calls done chunks o = zero-le
 
 -- However a caller offers a segment in chunks, the calls are no more than chunks and bytes, and one.
-pub drives-are-short : (f : Framing) → DrivesAreShort f
+pub drives-are-short : (f : Format) → DrivesAreShort f
 drives-are-short f chunks out calls o =
-    let all : length (out .frames) ≡ payloadsIn (holding f []) (flatten chunks) =
+    let all : length (out .frames) ≡ payloadsIn (holding f [] false) (flatten chunks) =
     ap (λ (x : Output (List ℕ)). length (x .frames)) (calls-follow-rule f (flatten chunks) out calls) in
     omega (arith, few-calls calls chunks o, payloads-few f (flatten chunks))

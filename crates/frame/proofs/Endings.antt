@@ -1,4 +1,4 @@
--- The ending of a frame at each way out of `framing::judge_ending`, and what is left to it in each framing.
+-- The ending of a frame at each way out of `framing::judge_ending` and `framing::judge_complete`, and what is left to them in each framing.
 -- Assumes nothing.
 use Prim.Native.Nat.{ℕ, suc, _+_, _-_, _*_, _/_, _%_, _≤_, _<_}
 use native.Mathlib.Nat.{add-zero}
@@ -10,8 +10,8 @@ use mathlib.Core.Path.{_≡_, sym, ap, _∙_}
 use borrow.Author.Tests.{eqb-true, eqb-false}
 use lib.Dec.{eqb}
 use lib.ListN.{length, getD, take, drop}
-use Rattle.frame.specs.Checks.{whole, test, Verdict, cut, refused, frame, behind, run}
-use Rattle.frame.specs.Binary.{xorOf, body, footer}
+use Rattle.frame.specs.Checks.{Checks, whole, byte, test, Verdict, cut, refused, frame, behind, run}
+use Rattle.frame.specs.Binary.{xorOf, body}
 use Rattle.frame.specs.Ascii.{lineFeed, hexDigits, lineEnd, crLf}
 use Rattle.frame.specs.Judged.{endChecks}
 use Rattle.frame.specs.DigitRuns.{decoded}
@@ -19,53 +19,64 @@ use Rattle.frame.proofs.Trees.{behind-behind, pass-byte, fail-byte, cut
 use Rattle.frame.proofs.BinaryJudge.{body-checksum, body-passed}
 use Rattle.frame.proofs.AsciiJudge.{JudgesAt, Summed, line-checksum, line-ends}
 
+-- The rest of a frame that ends with one byte behind its checksum.
+abbrev pub lastByte : ℕ → List ℕ → Checks
+lastByte last p = byte last 5 (whole p)
+
 -- What the checks of the ending decide, where the checksum is complete with the byte at `end`.
-module _ (last : ℕ) (p s : List ℕ) (end : ℕ) where
+module _ (rest : List ℕ → Checks) (p s : List ℕ) (end : ℕ) where
   abbrev pub endingAt : Bool → Verdict
-  endingAt right = behind (end + 1) (run (endChecks right last p) (drop (end + 1) s))
+  endingAt right = behind (end + 1) (run (endChecks right rest p) (drop (end + 1) s))
 
   pub ending-wrong : endingAt false ≡ refused (end + 1) 4
   unfolding test
   ending-wrong = ap (λ (k : ℕ). refused k 4) (add-zero (end + 1))
 
-  pub ending-cut : length s ≤ end + 1 → endingAt true ≡ cut
+-- Where nothing is left.
+pub ending-complete : (p s : List ℕ) (end : ℕ) → endingAt whole p s end true ≡ frame (end + 1) p
+unfolding test
+ending-complete p s end = ap (λ (k : ℕ). frame k p) (add-zero (end + 1))
+
+-- Where one byte is left.
+module _ (last : ℕ) (p s : List ℕ) (end : ℕ) where
+  pub ending-cut : length s ≤ end + 1 → endingAt (lastByte last) p s end true ≡ cut
   unfolding test
   ending-cut l = ap (behind (end + 1)) (cut-byte last 5 (whole p) s (end + 1) l)
 
-  pub ending-other : end + 1 < length s → (getD s (end + 1) 0 ≡ last → ⊥) → endingAt true ≡ refused (end + 2) 5
+  pub ending-other : end + 1 < length s → (getD s (end + 1) 0 ≡ last → ⊥) → endingAt (lastByte last) p s end true ≡ refused (end + 2) 5
   unfolding test
   ending-other l f =
       let size : end + 1 + 1 ≡ end + 2 = omega arith in
       ap (behind (end + 1)) (fail-byte last 5 (whole p) s (end + 1) l f) ∙ ap (λ (k : ℕ). refused k 5) size
 
-  pub ending-frame : end + 1 < length s → getD s (end + 1) 0 ≡ last → endingAt true ≡ frame (end + 2) p
+  pub ending-frame : end + 1 < length s → getD s (end + 1) 0 ≡ last → endingAt (lastByte last) p s end true ≡ frame (end + 2) p
   unfolding test
   ending-frame l f =
       let size : end + 1 + 1 ≡ end + 2 = omega arith in
       ap (behind (end + 1)) (pass-byte last 5 (whole p) s (end + 1) l f) ∙ ap (λ (k : ℕ). frame k p) size
 
--- Binary framing: behind the payload of n bytes.
+-- Binary framing, whatever is left behind the checksum: behind the payload of n bytes.
 pub body-ending :
-    (s : List ℕ) (n : ℕ) → 4 + n < length s → (right : Bool) → eqb (xorOf (take n (drop 4 s))) (getD s (4 + n) 0) ≡ right →
-    behind 4 (run (body footer n) (drop 4 s)) ≡ endingAt 0x04 (take n (drop 4 s)) s (4 + n) right
-unfolding footer test
-body-ending s n h true q =
-    let v : Verdict = run (footer (take n (drop 4 s))) (drop (suc (4 + n)) s) in
-    body-passed footer s n h (sym (eqb-true _ _ q))
+    (rest : List ℕ → Checks) (s : List ℕ) (n : ℕ) → 4 + n < length s → (right : Bool) → eqb (xorOf (take n (drop 4 s))) (getD s (4 + n) 0) ≡ right →
+    behind 4 (run (body rest n) (drop 4 s)) ≡ endingAt rest (take n (drop 4 s)) s (4 + n) right
+unfolding test
+body-ending rest s n h true q =
+    let v : Verdict = run (rest (take n (drop 4 s))) (drop (suc (4 + n)) s) in
+    body-passed rest s n h (sym (eqb-true _ _ q))
     ∙ behind-behind 4 n (behind 1 v)
     ∙ behind-behind (4 + n) 1 v
-    ∙ ap (λ (k : ℕ). behind (4 + n + 1) (run (footer (take n (drop 4 s))) (drop k s))) (sym (add-one (4 + n)))
-body-ending s n h false q =
-    body-checksum footer s n h (λ e. eqb-false _ _ q (sym e)) ∙ sym (ending-wrong 0x04 (take n (drop 4 s)) s (4 + n))
+    ∙ ap (λ (k : ℕ). behind (4 + n + 1) (run (rest (take n (drop 4 s))) (drop k s))) (sym (add-one (4 + n)))
+body-ending rest s n h false q =
+    body-checksum rest s n h (λ e. eqb-false _ _ q (sym e)) ∙ sym (ending-wrong rest (take n (drop 4 s)) s (4 + n))
 
 -- ASCII framing: behind the CR, where n is the sum of the bytes that the digits stand for.
 pub line-ending :
     {s : List ℕ} {count n : ℕ} → Summed s count n → JudgesAt crLf lineEnd s count → (right : Bool) → eqb (n % 256) 0 ≡ right →
-    behind 1 (run (hexDigits 514 crLf) (drop 1 s)) ≡ endingAt lineFeed (decoded (take (2 * (count / 2 - 1)) (drop 1 s))) s (1 + count) right
+    behind 1 (run (hexDigits 514 crLf) (drop 1 s)) ≡ endingAt (lastByte lineFeed) (decoded (take (2 * (count / 2 - 1)) (drop 1 s))) s (1 + count) right
 unfolding lineEnd test
 line-ending {s} {count} h r true q =
     let size : 1 + suc count ≡ 1 + count + 1 = omega arith in
     line-ends h crLf lineEnd r (eqb-true _ _ q)
     ∙ ap (λ (k : ℕ). behind k (run (lineEnd (decoded (take (2 * (count / 2 - 1)) (drop 1 s)))) (drop (1 + count + 1) s))) size
 line-ending {s} {count} h r false q =
-    line-checksum h crLf lineEnd r (eqb-false _ _ q) ∙ sym (ending-wrong lineFeed (decoded (take (2 * (count / 2 - 1)) (drop 1 s))) s (1 + count))
+    line-checksum h crLf lineEnd r (eqb-false _ _ q) ∙ sym (ending-wrong lineEnd (decoded (take (2 * (count / 2 - 1)) (drop 1 s))) s (1 + count))

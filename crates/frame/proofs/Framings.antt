@@ -1,4 +1,4 @@
--- Laws of both framings under one name.
+-- Laws of the framings and formats under one name.
 -- Assumes nothing.
 use Prim.Native.Nat.{ℕ, _+_, _-_, _*_, _/_, _≤_, min}
 use native.Mathlib.Omega.{arith}
@@ -7,56 +7,60 @@ use mathlib.Core.List.{List}
 use lib.Dec.{lit≤}
 use lib.ListN.{length, take, drop, length-append, length-take, length-drop}
 use Rattle.frame.specs.Checks.{frame}
-use Rattle.frame.specs.Binary.{footer}
+use Rattle.frame.specs.Binary.{ending}
 use Rattle.frame.specs.Hex.{hex}
 use Rattle.frame.specs.Ascii.{crLf}
 use Rattle.frame.specs.Framing.{checks, judge, front, endingBytes, layout, limit}
 use Rattle.frame.specs.Claims.{UndecidedIsShort, FrameIsSized}
 use Rattle.frame.specs.DigitRuns.{decoded, Digits}
-use Rattle.frame.specs.Judged.{payloadAt, payloadEnd, frameLength, verdictOf, handedOut, HasPayload}
+use Rattle.frame.specs.Judged.{payloadAt, payloadEnd, frameLength, judgedLength, verdictOf, handedOut, HasPayload}
 use Rattle.frame.specs.declared.framing.Framing.{Framing}
-use Rattle.frame.specs.declared.framing.Framing.the-variants.{Binary, Ascii}
+use Rattle.frame.specs.declared.framing.Framing.the-variants.{Binary as BinaryFraming, Ascii as AsciiFraming}
+use Rattle.frame.specs.declared.framing.Footer.the-variants.{Optional, Required}
+use Rattle.frame.specs.declared.framing.Format.{Format}
+use Rattle.frame.specs.declared.framing.Format.the-variants.{Binary, Ascii}
 use Rattle.frame.specs.declared.framing.Judged.{Judged}
 use Rattle.frame.specs.declared.framing.Judged.the-variants.{Undecided, Failed, Frame}
 use Rattle.frame.proofs.Trees.{Within, bounded, Bounded}
-use Rattle.frame.proofs.BinaryLaws.{binary-within, footer-within, footer-keeps, took-binary, binary-used, length-binary-front}
-use Rattle.frame.proofs.AsciiLaws.{ascii-within, crlf-within, crlf-keeps, took-ascii, front-payload, ascii-frame-is-layout, length-ascii-front}
+use Rattle.frame.proofs.BinaryLaws.{binary-within, ending-within, ending-keeps, took-binary, binary-used, length-binary-front}
+use Rattle.frame.proofs.AsciiLaws.{ascii-within, crlf-within, crlf-keeps, took-ascii, front-payload, ascii-spelled, length-ascii-front}
 use Rattle.frame.proofs.HexLaws.{length-decoded, hex-digits}
 
 -- The length of a layout.
 pub length-layout : (f : Framing) (p : List ℕ) → length (layout f p) ≡ frameLength f (length p)
-length-layout Binary p = omega (arith, length-append (front Binary p) (endingBytes Binary), length-binary-front p)
-length-layout Ascii p = omega (arith, length-append (front Ascii p) (endingBytes Ascii), length-ascii-front p)
+length-layout BinaryFraming p = omega (arith, length-append (front BinaryFraming p) (endingBytes BinaryFraming), length-binary-front p)
+length-layout AsciiFraming p = omega (arith, length-append (front AsciiFraming p) (endingBytes AsciiFraming), length-ascii-front p)
 
 -- No way through the checks takes more bytes than the limit.
-pub within-limit : (f : Framing) → Within (limit f) (checks f)
-within-limit Binary = binary-within footer 1 footer-within
+pub within-limit : (m : Format) → Within (limit m) (checks m)
+within-limit (Binary footer) = binary-within (ending footer) 1 (ending-within footer)
 within-limit Ascii = ascii-within crLf 1 crlf-within
 
--- A frame's length goes by its payload's.
-pub used-is : (f : Framing) (s p : List ℕ) (used : ℕ) → judge f s ≡ frame used p → used ≡ frameLength f (length p)
-used-is Binary s p used e = binary-used s p used e
-used-is Ascii s p used e = ascii-frame-is-layout s p used e .count ∙ length-layout Ascii p
+-- How many bytes of a frame are judged goes by its payload's length.
+pub used-is : (m : Format) (s p : List ℕ) (used : ℕ) → judge m s ≡ frame used p → used ≡ judgedLength m (length p)
+used-is (Binary footer) s p used e = binary-used footer s p used e
+used-is Ascii s p used e = ascii-spelled s p used e .1 ∙ length-layout AsciiFraming p
 
 -- A frame has no more bytes than there are.
-pub used-there : (f : Framing) (s p : List ℕ) (used : ℕ) → judge f s ≡ frame used p → used ≤ length s
+pub used-there : (f : Format) (s p : List ℕ) (used : ℕ) → judge f s ≡ frame used p → used ≤ length s
 used-there f s p used e = subst (Bounded (limit f) (length s)) e (bounded (limit f) (checks f) s (within-limit f)) .1
 
 -- Nor more than the limit.
-pub used-most : (f : Framing) (s p : List ℕ) (used : ℕ) → judge f s ≡ frame used p → used ≤ limit f
+pub used-most : (f : Format) (s p : List ℕ) (used : ℕ) → judge f s ≡ frame used p → used ≤ limit f
 used-most f s p used e = subst (Bounded (limit f) (length s)) e (bounded (limit f) (checks f) s (within-limit f)) .0
 
 -- It uses at least one.
-pub some-used : (f : Framing) (s p : List ℕ) (used : ℕ) → judge f s ≡ frame used p → 1 ≤ used
-some-used Binary s p used e = omega (arith, used-is Binary s p used e)
+pub some-used : (f : Format) (s p : List ℕ) (used : ℕ) → judge f s ≡ frame used p → 1 ≤ used
+some-used (Binary Optional) s p used e = omega (arith, used-is (Binary Optional) s p used e)
+some-used (Binary Required) s p used e = omega (arith, used-is (Binary Required) s p used e)
 some-used Ascii s p used e = omega (arith, used-is Ascii s p used e)
 
 -- Undecided bytes are fewer than the limit.
-pub undecided-short : (f : Framing) → UndecidedIsShort f
+pub undecided-short : (f : Format) → UndecidedIsShort f
 undecided-short f s e = subst (Bounded (limit f) (length s)) e (bounded (limit f) (checks f) s (within-limit f))
 
 -- A frame uses at least one byte, at most the limit, and no more than there are.
-pub frame-sized : (f : Framing) → FrameIsSized f
+pub frame-sized : (f : Format) → FrameIsSized f
 frame-sized f s p used e = record { some = some-used f s p used e; most = used-most f s p used e; there = used-there f s p used e }
 
 -- A payload has 1 to 256 bytes.
@@ -64,14 +68,14 @@ abbrev pub PayloadSize : List ℕ → Type 0
 PayloadSize p = (1 ≤ length p) × (length p ≤ 256)
 
 -- The length of a frame's front, by its payload's.
-abbrev frontLength : Framing → ℕ → ℕ
-frontLength Binary n = n + 5
+abbrev frontLength : Format → ℕ → ℕ
+frontLength (Binary footer) n = n + 5
 frontLength Ascii n = 2 * n + 3
 
 -- The payload of a frame has 1 to 256 bytes, and all of the front that it is in is there.
-fronted : (f : Framing) (s p : List ℕ) (used : ℕ) → judge f s ≡ frame used p → PayloadSize p × (frontLength f (length p) ≤ length s)
-fronted Binary s p used e =
-    let h = took-binary footer footer-keeps s p used e in
+fronted : (f : Format) (s p : List ℕ) (used : ℕ) → judge f s ≡ frame used p → PayloadSize p × (frontLength f (length p) ≤ length s)
+fronted (Binary footer) s p used e =
+    let h = took-binary (ending footer) (ending-keeps footer) s p used e in
     let long = simp length-append at (ap length (h .ends .split)) in
     ((h .some, h .most), omega arith)
 fronted Ascii s p used e =
@@ -79,14 +83,14 @@ fronted Ascii s p used e =
     let long = simp length-append at (ap length (h .ends .split)) in
     ((h .payload .some, h .payload .most), omega (arith, length-ascii-front p))
 
-pub payload-size : (f : Framing) (s p : List ℕ) (used : ℕ) → judge f s ≡ frame used p → PayloadSize p
+pub payload-size : (f : Format) (s p : List ℕ) (used : ℕ) → judge f s ≡ frame used p → PayloadSize p
 payload-size f s p used e = fronted f s p used e .0
 
 -- Where the payload of a frame is named by its place and length, it is there, and that long.
-pub payload-there : (f : Framing) (s : List ℕ) (used len : ℕ) → judge f s ≡ frame used (payloadAt f s len) →
+pub payload-there : (f : Format) (s : List ℕ) (used len : ℕ) → judge f s ≡ frame used (payloadAt f s len) →
     (payloadEnd f len ≤ length s) × (length (payloadAt f s len) ≡ len)
-payload-there Binary s used len e =
-    let h = fronted Binary s (take len (drop 4 s)) used e in
+payload-there (Binary footer) s used len e =
+    let h = fronted (Binary footer) s (take len (drop 4 s)) used e in
     let l : length (take len (drop 4 s)) ≡ min len (length s - 4) = length-take len (drop 4 s) ∙ ap (min len) (length-drop 4 s) in
     omega arith
 payload-there Ascii s used len e =
@@ -98,8 +102,8 @@ payload-there Ascii s used len e =
     omega arith
 
 -- So it can be taken out.
-pub payload-packed : (f : Framing) (s : List ℕ) (used len : ℕ) → judge f s ≡ frame used (payloadAt f s len) → HasPayload f s len
-payload-packed Binary s used len e = payload-there Binary s used len e .0
+pub payload-packed : (f : Format) (s : List ℕ) (used len : ℕ) → judge f s ≡ frame used (payloadAt f s len) → HasPayload f s len
+payload-packed (Binary footer) s used len e = payload-there (Binary footer) s used len e .0
 payload-packed Ascii s used len e =
     let p : List ℕ = decoded (take (2 * len) (drop 1 s)) in
     let h = took-ascii crLf crlf-keeps s p used e in
@@ -108,24 +112,24 @@ payload-packed Ascii s used len e =
     (t .0, subst Digits (sym same) (hex-digits p (h .payload .bytes)))
 
 -- What a frame that was judged says of the payload that its answer names.
-pub record PayloadNamed (f : Framing) (s : List ℕ) (len : ℕ) : Type 0 where
+pub record PayloadNamed (f : Format) (s : List ℕ) (len : ℕ) : Type 0 where
   pub packed : HasPayload f s len
   pub long : length (payloadAt f s len) ≡ len
   pub most : len ≤ 256
 
-pub payload-named : (f : Framing) (s : List ℕ) (used len : ℕ) → judge f s ≡ verdictOf f s (Frame used len) → PayloadNamed f s len
+pub payload-named : (f : Format) (s : List ℕ) (used len : ℕ) → judge f s ≡ verdictOf f s (Frame used len) → PayloadNamed f s len
 payload-named f s used len e =
     let h = payload-there f s used len e in
     let m = payload-size f s (payloadAt f s len) used e in
     record { packed = payload-packed f s used len e; long = h .1; most = omega (arith, h .1, m .1) }
 
 -- A state's array has room for the longest frame.
-pub limit-most : (f : Framing) → limit f ≤ 517
-limit-most Binary = lit≤ tt
+pub limit-most : (f : Format) → limit f ≤ 517
+limit-most (Binary footer) = lit≤ tt
 limit-most Ascii = lit≤ tt
 
 -- A verdict that is no frame leaves the buffer.
-pub stays : (f : Framing) (s buf : List ℕ) (v : Judged) → ((used len : ℕ) → v ≡ Frame used len → ⊥) → handedOut (verdictOf f s v) buf ≡ buf
+pub stays : (f : Format) (s buf : List ℕ) (v : Judged) → ((used len : ℕ) → v ≡ Frame used len → ⊥) → handedOut (verdictOf f s v) buf ≡ buf
 stays f s buf Undecided h = refl
 stays f s buf (Failed r judged) h = refl
 stays f s buf (Frame used len) h = absurd (h used len refl)

@@ -15,9 +15,10 @@ pub mod HexLaws
 pub mod AsciiLaws
 pub mod AsciiJudge
 pub mod AsciiShort
--- Both framings under one name, single frames, and what every promise has.
+-- All formats under one name, the optional byte, single frames, and what every promise has.
 pub mod Endings
 pub mod Framings
+pub mod Optional
 pub mod Parts
 pub mod Singles
 pub mod Shapes
@@ -37,10 +38,12 @@ pub mod AsciiRecovery
 pub mod BinaryRecovery
 pub mod CallsRecovery
 pub mod RecoveryExamples
+pub mod MarkExamples
 -- How the code scans, and that what it makes of a scan is the call.
 pub mod Scanning
 pub mod Skipping
 pub mod ScanCalls
 pub mod Readers
+pub mod Following
 -- Every claim of specs/ under its name; a crate above this one cites this file alone.
 pub mod Theorems

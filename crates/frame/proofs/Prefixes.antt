@@ -14,8 +14,8 @@ use Rattle.frame.specs.Ascii.{ascii, colon}
 use Rattle.frame.specs.Framing.{checks, judge, limit}
 use Rattle.frame.specs.Claims.{Decided, Sized}
 use Rattle.frame.specs.Scan.{judgedBytes}
-use Rattle.frame.specs.declared.framing.Framing.{Framing}
-use Rattle.frame.specs.declared.framing.Framing.the-variants.{Binary, Ascii}
+use Rattle.frame.specs.declared.framing.Format.{Format}
+use Rattle.frame.specs.declared.framing.Format.the-variants.{Binary, Ascii}
 use Rattle.frame.proofs.Trees.{decided-behind, Bounded, bounded}
 use Rattle.frame.proofs.Shapes.{cut-behind}
 use Rattle.frame.proofs.Framings.{within-limit}
@@ -72,7 +72,7 @@ byte-judged c n t [] d = absurd d
 byte-judged c n t (b ∷ s) d =
     let v : Verdict = run (cond (eqb b c) t (fails n)) s in omega (arith, judged-behind v (decided-behind 1 v d))
 
-module _ (f : Framing) (s : List ℕ) where
+module _ (f : Format) (s : List ℕ) where
   -- The bytes that were judged are no more than the limit, and among those that are there.
   pub judged-most : judgedBytes (judge f s) ≤ limit f
   judged-most = judged-bounded (limit f) (length s) (judge f s) (bounded (limit f) (checks f) s (within-limit f)) .0
@@ -81,18 +81,18 @@ module _ (f : Framing) (s : List ℕ) where
   judged-there = judged-bounded (limit f) (length s) (judge f s) (bounded (limit f) (checks f) s (within-limit f)) .1
 
 -- A decision needs at least one byte.
-pub judged-some : (f : Framing) (s : List ℕ) → Decided (judge f s) → 1 ≤ judgedBytes (judge f s)
+pub judged-some : (f : Format) (s : List ℕ) → Decided (judge f s) → 1 ≤ judgedBytes (judge f s)
 unfolding binary ascii
-judged-some Binary s d = byte-judged 0xA5 1 _ s d
+judged-some (Binary footer) s d = byte-judged 0xA5 1 _ s d
 judged-some Ascii s d = byte-judged colon 1 _ s d
 
 -- A failed start was judged from as many bytes as a frame may use.
-pub refused-sized : (f : Framing) (s : List ℕ) (judged n : ℕ) → judge f s ≡ refused judged n → Sized f s judged
+pub refused-sized : (f : Format) (s : List ℕ) (judged n : ℕ) → judge f s ≡ refused judged n → Sized f s judged
 refused-sized f s judged n q =
     record { some = rw q at (judged-some f s (rw q tt)); most = rw q at (judged-most f s); there = rw q at (judged-there f s) }
 
 -- As many bytes as the longest frame has are enough for whatever is decided.
-pub limit-enough : (f : Framing) (s : List ℕ) (k : ℕ) → limit f ≤ k → judge f (take k s) ≡ judge f s
+pub limit-enough : (f : Format) (s : List ℕ) (k : ℕ) → limit f ≤ k → judge f (take k s) ≡ judge f s
 limit-enough f s k l = by-verdict (judge f s) refl
   where
     by-verdict : (v : Verdict) → judge f s ≡ v → judge f (take k s) ≡ judge f s

@@ -33,7 +33,7 @@ called-number c [] = refl
 called-number c (p ∷ ps) = refl
 
 -- The answer says how many bytes the call took.
-called-taken : (c : Called) (fs : List (List ℕ)) → calledValues c fs .taken ≡ c .taken
+pub called-taken : (c : Called) (fs : List (List ℕ)) → calledValues c fs .taken ≡ c .taken
 called-taken c [] = refl
 called-taken c (p ∷ ps) = refl
 

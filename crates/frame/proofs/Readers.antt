@@ -9,16 +9,16 @@ use mathlib.Core.Bool.{Bool, false}
 use borrow.Author.Tests.{le-leb, lt-leb}
 use lib.ListN.{length, take, drop, length-append}
 use lib.Seq.{paste, take-length, take-paste, take-at, drop-at}
-use Rattle.frame.specs.Framing.{limit}
+use Rattle.frame.specs.Framing.{mayFollow, limit}
 use Rattle.frame.specs.Judged.{payloadAt}
-use Rattle.frame.specs.Reader.{State, holding, stateOf, Called, line, frameValues, feedValuesOf, bufferAt, quietRefusal, feedRefusal}
+use Rattle.frame.specs.Reader.{holding, stateOf, Called, lineOn, line, frameValues, feedValuesOf, bufferAt, quietRefusal, feedRefusal}
 use Rattle.frame.specs.Reader.{Feeds}
 use Rattle.frame.specs.Scan.{Stop, found, undecided, passed, stopOf, judging, Scanned, scannedTo, scanFrom}
 use Rattle.frame.specs.Scan.{stopBuffer}
 use Rattle.frame.specs.View.{part}
 use Rattle.frame.specs.Answer.{beforeScan, calledAs, calledBy, scanWhole, keptEnd, Usable, Answerable, Keeps}
 use Rattle.frame.specs.Feeding.{joined, scanHeld, thenChunk, scanLine, Stores, Leaves, KeepsCall, QuietAnswered}
-use Rattle.frame.specs.declared.framing.Framing.{Framing}
+use Rattle.frame.specs.declared.framing.Format.{Format}
 use Rattle.frame.specs.declared.reader.Reader.{Reader}
 use Rattle.frame.specs.declared.reader.Left.{Left}
 use Rattle.frame.specs.declared.reader.Quieted.{Quieted}
@@ -36,26 +36,27 @@ use Rattle.frame.proofs.Scanning.{Ends, scan-facts}
 use Rattle.frame.proofs.ScanCalls.{scan-whole, scan-line}
 
 -- An answer, and the part that is kept with it.
-abbrev keptAs : FeedAnswer → ℕ → ℕ → Kept
-keptAs answer from end = record { answer = answer; from = from; end = end }
+abbrev keptAs : FeedAnswer → ℕ → ℕ → Bool → Kept
+keptAs answer from end follows = record { answer = answer; from = from; end = end; follows = follows }
 
-module _ (f : Framing) (w : List ℕ) (before : Before) (place reach : ℕ) (end : ScanEnd) where
+module _ (f : Format) (w : List ℕ) (before : Before) (place reach : ℕ) (end : ScanEnd) where
   -- What is kept of a scan that stopped so.
   abbrev Right : ScanEnd → Kept → Type 0
-  Right x k = Keeps before w (scannedTo place reach (stopOf f (drop place w) x)) k
+  Right x k = Keeps f before w (scannedTo place reach (stopOf f (drop place w) x)) k
 
   -- It stopped at a frame.
   pub kept-frame :
-      (used len : ℕ) → end ≡ Frame used len → length (payloadAt f (drop place w) len) ≡ len →
+      (used len : ℕ) (follows : Bool) → follows ≡ mayFollow f → end ≡ Frame used len → length (payloadAt f (drop place w) len) ≡ len →
       place + used ≤ reach → reach ≤ length w → reach ≤ place + 517 →
-      Right end (keptAs (FeedFrame (reach - before .base) (before .noise + place) len) (place + used) reach)
-  kept-frame used len e l h k m =
+      Right end (keptAs (FeedFrame (reach - before .base) (before .noise + place) len) (place + used) reach follows)
+  kept-frame used len follows u e l h k m =
       subst
-      (λ (x : ScanEnd). Right x (keptAs (FeedFrame (reach - before .base) (before .noise + place) len) (place + used) reach))
+      (λ (x : ScanEnd). Right x (keptAs (FeedFrame (reach - before .base) (before .noise + place) len) (place + used) reach follows))
       (sym e)
       (record {
         values = ap (frameValues (reach - before .base) (before .noise + place)) (sym l);
         held = refl;
+        follows = u;
         inside = h;
         there = k;
         most = omega arith;
@@ -65,22 +66,23 @@ module _ (f : Framing) (w : List ℕ) (before : Before) (place reach : ℕ) (end
   -- It stopped at undecided bytes.
   pub kept-undecided :
       end ≡ Undecided → place ≤ length w → length w ≤ place + 517 →
-      Right end (keptAs (NeedsMore (before .size) (before .noise + place)) place (length w))
+      Right end (keptAs (NeedsMore (before .size) (before .noise + place)) place (length w) false)
   kept-undecided e h m =
       subst
-      (λ (x : ScanEnd). Right x (keptAs (NeedsMore (before .size) (before .noise + place)) place (length w)))
+      (λ (x : ScanEnd). Right x (keptAs (NeedsMore (before .size) (before .noise + place)) place (length w) false))
       (sym e)
-      (record { values = refl; held = take-rest w place; inside = h; there = omega arith; most = m; ends = refl })
+      (record { values = refl; held = take-rest w place; follows = refl; inside = h; there = omega arith; most = m; ends = refl })
 
   -- It passed every place.
-  pub kept-passed : end ≡ Passed → Right end (keptAs (NeedsMore (before .size) (before .noise + place)) (length w) (length w))
+  pub kept-passed : end ≡ Passed → Right end (keptAs (NeedsMore (before .size) (before .noise + place)) (length w) (length w) false)
   kept-passed e =
       subst
-      (λ (x : ScanEnd). Right x (keptAs (NeedsMore (before .size) (before .noise + place)) (length w) (length w)))
+      (λ (x : ScanEnd). Right x (keptAs (NeedsMore (before .size) (before .noise + place)) (length w) (length w) false))
       (sym e)
       (record {
         values = refl;
         held = ap (λ (k : ℕ). take k (drop (length w) w)) (sub-self (length w));
+        follows = refl;
         inside = omega arith;
         there = omega arith;
         most = omega arith;
@@ -89,21 +91,22 @@ module _ (f : Framing) (w : List ℕ) (before : Before) (place reach : ℕ) (end
 
 -- The buffer that a scan leaves is that of the call.
 pub call-buffer :
-    (stop : Stop) (before : Before) (w : List ℕ) (place reach : ℕ) (buf : List ℕ) →
-    stopBuffer stop buf ≡ bufferAt (calledAs stop before w place reach .out .frames) buf
-call-buffer (found used p) before w place reach buf = refl
-call-buffer undecided before w place reach buf = refl
-call-buffer passed before w place reach buf = refl
+    (f : Format) (stop : Stop) (before : Before) (w : List ℕ) (place reach : ℕ) (buf : List ℕ) →
+    stopBuffer stop buf ≡ bufferAt (calledAs f stop before w place reach .out .frames) buf
+call-buffer f (found used p) before w place reach buf = refl
+call-buffer f undecided before w place reach buf = refl
+call-buffer f passed before w place reach buf = refl
 
-module _ (before : Before) (w : List ℕ) (x : Scanned) (k : Kept) (h : Keeps before w x k) (buf buf′ : List ℕ) (b : buf′ ≡ stopBuffer (x .stop) buf) where
+module _ (f : Format) (before : Before) (w : List ℕ) (x : Scanned) (k : Kept) (h : Keeps f before w x k) (buf buf′ : List ℕ) (b : buf′ ≡ stopBuffer (x .stop) buf) where
   -- The kept part, put into the front of an array, with the buffer that the scan has left.
-  pub stored-leaves : (held : List ℕ) (left : Left) → Stores (part (k .from) (k .end) w) k held left → Leaves (calledBy before w x) buf left held buf′
+  pub stored-leaves : (held : List ℕ) (left : Left) → Stores (part (k .from) (k .end) w) k held left → Leaves (calledBy f before w x) buf left held buf′
   stored-leaves held left s =
       record {
         values = ap feedValuesOf (s .answer) ∙ h .values;
         count = s .count ∙ ap length (h .held);
         bytes = s .bytes ∙ h .held;
-        buffer = b ∙ call-buffer (x .stop) before w (x .place) (x .reach) buf;
+        follows = s .follows ∙ h .follows;
+        buffer = b ∙ call-buffer f (x .stop) before w (x .place) (x .reach) buf;
       }
 
 -- What leaves one call leaves an equal one.
@@ -112,21 +115,21 @@ leaves-same c d buf left held buf′ e h = subst (λ (x : Called). Leaves x buf 
 
 -- Of a slice whose first `base` bytes were held, the kept part ends with the bytes that were taken.
 kept-taken :
-    (stop : Stop) (base : ℕ) (w : List ℕ) (place reach : ℕ) → base ≤ reach → base ≤ length w →
-    keptEnd stop w reach ≡ base + calledAs stop (beforeScan base 0 (length w - base)) w place reach .taken
-kept-taken (found used p) base w place reach h l = omega arith
-kept-taken undecided base w place reach h l = omega arith
-kept-taken passed base w place reach h l = omega arith
+    (f : Format) (stop : Stop) (base : ℕ) (w : List ℕ) (place reach : ℕ) → base ≤ reach → base ≤ length w →
+    keptEnd stop w reach ≡ base + calledAs f stop (beforeScan base 0 (length w - base)) w place reach .taken
+kept-taken f (found used p) base w place reach h l = omega arith
+kept-taken f undecided base w place reach h l = omega arith
+kept-taken f passed base w place reach h l = omega arith
 
 -- A whole slice was scanned: what a view's call keeps.
 pub view-keeps :
-    (f : Framing) (w : List ℕ) (count : ℕ) (x : Scanned) (k : Kept) (buf buf′ : List ℕ) → count ≤ length w → count ≤ x .reach →
-    x ≡ scanFrom (judging false f) (length w) 0 count w → Keeps (beforeScan count 0 (length w - count)) w x k →
-    buf′ ≡ stopBuffer (x .stop) buf → KeepsCall (line (holding f (take count w)) (drop count w)) count w k buf buf′
+    (f : Format) (w : List ℕ) (count : ℕ) (x : Scanned) (k : Kept) (buf buf′ : List ℕ) → count ≤ length w → count ≤ x .reach →
+    x ≡ scanFrom (judging false f) (length w) 0 count w → Keeps f (beforeScan count 0 (length w - count)) w x k →
+    buf′ ≡ stopBuffer (x .stop) buf → KeepsCall (lineOn f (take count w) (drop count w)) count w k buf buf′
 view-keeps f w count x k buf buf′ l r is h b =
     let before : Before = beforeScan count 0 (length w - count) in
-    let same : calledBy before w x ≡ line (holding f (take count w)) (drop count w) =
-    ap (calledBy before w) is ∙ scan-whole f count w l in
+    let same : calledBy f before w x ≡ lineOn f (take count w) (drop count w) =
+    ap (calledBy f before w) is ∙ scan-whole f count w l in
     subst
     (λ (c : Called). KeepsCall c count w k buf buf′)
     same
@@ -135,20 +138,21 @@ view-keeps f w count x k buf buf′ l r is h b =
       held = h .held;
       inside = h .inside;
       there = h .there;
-      ends = h .ends ∙ kept-taken (x .stop) count w (x .place) (x .reach) r l;
-      buffer = b ∙ call-buffer (x .stop) before w (x .place) (x .reach) buf;
+      follows = h .follows;
+      ends = h .ends ∙ kept-taken f (x .stop) count w (x .place) (x .reach) r l;
+      buffer = b ∙ call-buffer f (x .stop) before w (x .place) (x .reach) buf;
     })
 
 -- An answer can be made of a scan's result.
 usable :
-    (stop : Stop) (f : Framing) (w : List ℕ) (n place reach : ℕ) → reach ≤ place + 517 → Ends false f w n place reach stop →
+    (stop : Stop) (f : Format) (w : List ℕ) (n place reach : ℕ) → reach ≤ place + 517 → Ends false f w n place reach stop →
     Usable stop f w place reach × (place ≤ n)
 usable (found used p) f w n place reach h e = ((e .is-frame, e .inside, h), omega (arith, e .before))
 usable undecided f w n place reach h e = (e .is-cut, omega (arith, e .before))
 usable passed f w n place reach h e = (tt, omega (arith, e))
 
 pub answerable :
-    (f : Framing) (w : List ℕ) (n reach : ℕ) (x : Scanned) (before : Before) → n ≤ length w → reach ≤ length w → reach ≤ limit f →
+    (f : Format) (w : List ℕ) (n reach : ℕ) (x : Scanned) (before : Before) → n ≤ length w → reach ≤ length w → reach ≤ limit f →
     x ≡ scanFrom (judging false f) n 0 reach w → before .base ≤ reach → before .noise ≤ 517 → Answerable f w x before
 answerable f w n reach x before l k m is b s =
     let h = scan-facts false f w n reach l k x is in
@@ -163,8 +167,8 @@ answerable f w n reach x before l k m is b s =
 
 -- The held bytes' places all fail: the chunk's follow.
 held-passed :
-    (f : Framing) (held chunk : List ℕ) (x : Scanned) → x ≡ scanHeld f held chunk → x .stop ≡ passed →
-    scanWhole f 0 (length held) (x .reach - length held) chunk ≡ line (holding f held) chunk
+    (f : Format) (held chunk : List ℕ) (x : Scanned) → x ≡ scanHeld f held chunk → x .stop ≡ passed →
+    scanWhole f 0 (length held) (x .reach - length held) chunk ≡ lineOn f held chunk
 unfolding scanLine
 held-passed f held chunk x is e =
     ap (λ (s : Stop). thenChunk s f held chunk (x .place) (x .reach)) (sym e)
@@ -172,15 +176,15 @@ held-passed f held chunk x is e =
     ∙ scan-line f held chunk
 
 -- One of them does not.
-then-held : (s : Stop) (f : Framing) (held chunk : List ℕ) (place reach : ℕ) → (s ≡ passed → ⊥) →
-    calledAs s (beforeScan (length held) 0 (length chunk)) (joined f held chunk) place reach ≡ thenChunk s f held chunk place reach
+then-held : (s : Stop) (f : Format) (held chunk : List ℕ) (place reach : ℕ) → (s ≡ passed → ⊥) →
+    calledAs f s (beforeScan (length held) 0 (length chunk)) (joined f held chunk) place reach ≡ thenChunk s f held chunk place reach
 then-held (found used p) f held chunk place reach n = refl
 then-held undecided f held chunk place reach n = refl
 then-held passed f held chunk place reach n = absurd (n refl)
 
 held-found :
-    (f : Framing) (held chunk : List ℕ) (x : Scanned) → x ≡ scanHeld f held chunk → (x .stop ≡ passed → ⊥) →
-    calledBy (beforeScan (length held) 0 (length chunk)) (joined f held chunk) x ≡ line (holding f held) chunk
+    (f : Format) (held chunk : List ℕ) (x : Scanned) → x ≡ scanHeld f held chunk → (x .stop ≡ passed → ⊥) →
+    calledBy f (beforeScan (length held) 0 (length chunk)) (joined f held chunk) x ≡ lineOn f held chunk
 unfolding scanLine
 held-found f held chunk x is n =
     then-held (x .stop) f held chunk (x .place) (x .reach) n
@@ -196,99 +200,99 @@ appended d chunk count h =
 
 -- A scan from the first place on is one of all places.
 pub from-first :
-    (ended : Bool) (f : Framing) (n reach : ℕ) (w : List ℕ) (x : Scanned) → x ≡ scanFrom (judging ended f) (n - 0) 0 reach w →
+    (ended : Bool) (f : Format) (n reach : ℕ) (w : List ℕ) (x : Scanned) → x ≡ scanFrom (judging ended f) (n - 0) 0 reach w →
     x ≡ scanFrom (judging ended f) n 0 reach w
 from-first ended f n reach w x is = is ∙ ap (λ (k : ℕ). scanFrom (judging ended f) k 0 reach w) (sub-zero n)
 
 -- What is left of a chunk where nothing is held.
 pub chunk-leaves :
-    (f : Framing) (chunk : List ℕ) (noise reach : ℕ) (x : Scanned) (k : Kept) (buf buf′ held : List ℕ) (left : Left) →
-    x ≡ scanFrom (judging false f) (length chunk) 0 reach chunk → Keeps (beforeScan 0 noise (length chunk)) chunk x k →
+    (f : Format) (chunk : List ℕ) (noise reach : ℕ) (x : Scanned) (k : Kept) (buf buf′ held : List ℕ) (left : Left) →
+    x ≡ scanFrom (judging false f) (length chunk) 0 reach chunk → Keeps f (beforeScan 0 noise (length chunk)) chunk x k →
     buf′ ≡ stopBuffer (x .stop) buf → Stores (part (k .from) (k .end) chunk) k held left → Leaves (scanWhole f 0 noise reach chunk) buf left held buf′
 chunk-leaves f chunk noise reach x k buf buf′ held left is h b s =
     leaves-same _ _ buf left held buf′
-    (ap₂ (λ (n : ℕ) (y : Scanned). calledBy (beforeScan 0 noise n) chunk y) (sym (sub-zero (length chunk))) is)
-    (stored-leaves (beforeScan 0 noise (length chunk)) chunk x k h buf buf′ b held left s)
+    (ap₂ (λ (n : ℕ) (y : Scanned). calledBy f (beforeScan 0 noise n) chunk y) (sym (sub-zero (length chunk))) is)
+    (stored-leaves f (beforeScan 0 noise (length chunk)) chunk x k h buf buf′ b held left s)
 
 -- What is left of held bytes with a chunk behind them in one array, all of which were scanned.
 pub short-leaves :
-    (f : Framing) (h chunk array : List ℕ) (count : ℕ) (x : Scanned) (k : Kept) (buf buf′ held : List ℕ) (left : Left) → length h ≡ count →
+    (f : Format) (h chunk array : List ℕ) (count : ℕ) (x : Scanned) (k : Kept) (buf buf′ held : List ℕ) (left : Left) → length h ≡ count →
     let w : List ℕ = take (count + length chunk) array in
     w ≡ h ++ chunk → x ≡ scanFrom (judging false f) (count + length chunk) 0 count w →
-    Keeps (beforeScan count 0 (length chunk)) w x k → buf′ ≡ stopBuffer (x .stop) buf →
-    Stores (part (k .from) (k .end) array) k held left → Leaves (line (holding f h) chunk) buf left held buf′
+    Keeps f (beforeScan count 0 (length chunk)) w x k → buf′ ≡ stopBuffer (x .stop) buf →
+    Stores (part (k .from) (k .end) array) k held left → Leaves (lineOn f h chunk) buf left held buf′
 short-leaves f h chunk array count x k buf buf′ held left n e is keeps b s =
     let w : List ℕ = take (count + length chunk) array in
     let long : length w ≡ count + length chunk = omega (arith, ap length e ∙ length-append h chunk) in
     let rest : length chunk ≡ length w - count = omega arith in
     let within : count ≤ length w = omega arith in
-    let same : calledBy (beforeScan count 0 (length chunk)) w x ≡ line (holding f h) chunk =
-    ap₂ (λ (n : ℕ) (y : Scanned). calledBy (beforeScan count 0 n) w y) rest (is ∙ ap (λ (n : ℕ). scanFrom (judging false f) n 0 count w) (sym long))
+    let same : calledBy f (beforeScan count 0 (length chunk)) w x ≡ lineOn f h chunk =
+    ap₂ (λ (n : ℕ) (y : Scanned). calledBy f (beforeScan count 0 n) w y) rest (is ∙ ap (λ (n : ℕ). scanFrom (judging false f) n 0 count w) (sym long))
     ∙ scan-whole f count w within
-    ∙ ap₂ (λ (a c : List ℕ). line (holding f a) c) (ap (take count) e ∙ take-at h chunk count n) (ap (drop count) e ∙ drop-at h chunk count n) in
+    ∙ ap₂ (λ (a c : List ℕ). lineOn f a c) (ap (take count) e ∙ take-at h chunk count n) (ap (drop count) e ∙ drop-at h chunk count n) in
     leaves-same _ _ buf left held buf′ same
-    (stored-leaves (beforeScan count 0 (length chunk)) w x k keeps buf buf′ b held left
+    (stored-leaves f (beforeScan count 0 (length chunk)) w x k keeps buf buf′ b held left
     (subst (λ (l : List ℕ). Stores l k held left) (sym (part-front (k .from) (k .end) (count + length chunk) array (rw long at (keeps .there)))) s))
 
 -- Held bytes were joined with a chunk's front, and the places of the held ones were scanned.
-module _ (f : Framing) (h chunk w : List ℕ) (count : ℕ) (n : length h ≡ count) (j : w ≡ joined f h chunk) (x : Scanned)
+module _ (f : Format) (h chunk w : List ℕ) (count : ℕ) (n : length h ≡ count) (j : w ≡ joined f h chunk) (x : Scanned)
     (is : x ≡ scanFrom (judging false f) count 0 count w) where
   scan-is : x ≡ scanHeld f h chunk
   scan-is = is ∙ ap₂ (λ (m : ℕ) (s : List ℕ). scanFrom (judging false f) m 0 m s) (sym n) j
 
   -- One of them does not fail.
   pub long-leaves :
-      (k : Kept) (buf buf′ held : List ℕ) (left : Left) → (x .stop ≡ passed → ⊥) → Keeps (beforeScan count 0 (length chunk)) w x k →
-      buf′ ≡ stopBuffer (x .stop) buf → Stores (part (k .from) (k .end) w) k held left → Leaves (line (holding f h) chunk) buf left held buf′
+      (k : Kept) (buf buf′ held : List ℕ) (left : Left) → (x .stop ≡ passed → ⊥) → Keeps f (beforeScan count 0 (length chunk)) w x k →
+      buf′ ≡ stopBuffer (x .stop) buf → Stores (part (k .from) (k .end) w) k held left → Leaves (lineOn f h chunk) buf left held buf′
   long-leaves k buf buf′ held left p keeps b s =
       leaves-same _ _ buf left held buf′
-      (ap₂ (λ (m : ℕ) (l : List ℕ). calledBy (beforeScan m 0 (length chunk)) l x) (sym n) j ∙ held-found f h chunk x scan-is p)
-      (stored-leaves (beforeScan count 0 (length chunk)) w x k keeps buf buf′ b held left s)
+      (ap₂ (λ (m : ℕ) (l : List ℕ). calledBy f (beforeScan m 0 (length chunk)) l x) (sym n) j ∙ held-found f h chunk x scan-is p)
+      (stored-leaves f (beforeScan count 0 (length chunk)) w x k keeps buf buf′ b held left s)
 
   -- All of them fail.
-  pub long-passed : x .stop ≡ passed → scanWhole f 0 count (x .reach - count) chunk ≡ line (holding f h) chunk
+  pub long-passed : x .stop ≡ passed → scanWhole f 0 count (x .reach - count) chunk ≡ lineOn f h chunk
   long-passed p = ap (λ (m : ℕ). scanWhole f 0 m (x .reach - m) chunk) (sym n) ∙ held-passed f h chunk x scan-is p
 
 -- What a feed answers is what is left of the call.
 pub leaves-feeds :
     (r : Reader) (chunk buf : List ℕ) (left : Left) (held buf′ : List ℕ) → feedRefusal r (length buf) (length chunk) ≡ 0 →
     Leaves (line (stateOf r) chunk) buf left held buf′ →
-    Feeds r chunk buf (record { reader = record { framing = r .framing; held = held; count = left .count }; answer = left .answer }) buf′
+    Feeds r chunk buf (record { reader = record { format = r .format; held = held; count = left .count; follows = left .follows }; answer = left .answer }) buf′
 leaves-feeds r chunk buf left held buf′ z h =
-    answers z (h .values) (record { state = ap (holding (r .framing)) (h .bytes); count = h .count }) (h .buffer)
+    answers z (h .values) (record { state = ap₂ (holding (r .format)) (h .bytes) (h .follows); count = h .count }) (h .buffer)
 
 -- A scan that passed says so.
-pub passed-end : (f : Framing) (s : List ℕ) (end : ScanEnd) → stopOf f s end ≡ passed → end ≡ Passed
+pub passed-end : (f : Format) (s : List ℕ) (end : ScanEnd) → stopOf f s end ≡ passed → end ≡ Passed
 passed-end f s (Frame used len) e = cc
 passed-end f s Undecided e = cc
 passed-end f s Passed e = refl
 
 module _ (r : Reader) (room size : ℕ) where
   -- The refusals of a line call, in their order.
-  pub feed-state : limit (r .framing) < r .count → feedRefusal r room size ≡ 16
-  feed-state h = simp (lt-leb (r .count) (limit (r .framing)) h)
+  pub feed-state : limit (r .format) < r .count → feedRefusal r room size ≡ 16
+  feed-state h = simp (lt-leb (r .count) (limit (r .format)) h)
 
-  pub feed-buffer : r .count ≤ limit (r .framing) → room < 256 → feedRefusal r room size ≡ 13
-  feed-buffer h k = simp (le-leb (r .count) (limit (r .framing)) h, lt-leb 256 room k)
+  pub feed-buffer : r .count ≤ limit (r .format) → room < 256 → feedRefusal r room size ≡ 13
+  feed-buffer h k = simp (le-leb (r .count) (limit (r .format)) h, lt-leb 256 room k)
 
-  pub feed-chunk : r .count ≤ limit (r .framing) → 256 ≤ room → 65536 < size → feedRefusal r room size ≡ 15
-  feed-chunk h k l = simp (le-leb (r .count) (limit (r .framing)) h, le-leb 256 room k, lt-leb size 65536 l)
+  pub feed-chunk : r .count ≤ limit (r .format) → 256 ≤ room → 65536 < size → feedRefusal r room size ≡ 15
+  feed-chunk h k l = simp (le-leb (r .count) (limit (r .format)) h, le-leb 256 room k, lt-leb size 65536 l)
 
-  pub feed-accepted : r .count ≤ limit (r .framing) → 256 ≤ room → size ≤ 65536 → feedRefusal r room size ≡ 0
-  feed-accepted h k l = simp (le-leb (r .count) (limit (r .framing)) h, le-leb 256 room k, le-leb size 65536 l)
+  pub feed-accepted : r .count ≤ limit (r .format) → 256 ≤ room → size ≤ 65536 → feedRefusal r room size ≡ 0
+  feed-accepted h k l = simp (le-leb (r .count) (limit (r .format)) h, le-leb 256 room k, le-leb size 65536 l)
 
   -- Those of a quiet call.
-  pub quiet-state : limit (r .framing) < r .count → quietRefusal r room ≡ 16
-  quiet-state h = simp (lt-leb (r .count) (limit (r .framing)) h)
+  pub quiet-state : limit (r .format) < r .count → quietRefusal r room ≡ 16
+  quiet-state h = simp (lt-leb (r .count) (limit (r .format)) h)
 
-  pub quiet-buffer : r .count ≤ limit (r .framing) → room < 256 → quietRefusal r room ≡ 13
-  quiet-buffer h k = simp (le-leb (r .count) (limit (r .framing)) h, lt-leb 256 room k)
+  pub quiet-buffer : r .count ≤ limit (r .format) → room < 256 → quietRefusal r room ≡ 13
+  quiet-buffer h k = simp (le-leb (r .count) (limit (r .format)) h, lt-leb 256 room k)
 
-  pub quiet-accepted : r .count ≤ limit (r .framing) → 256 ≤ room → quietRefusal r room ≡ 0
-  quiet-accepted h k = simp (le-leb (r .count) (limit (r .framing)) h, le-leb 256 room k)
+  pub quiet-accepted : r .count ≤ limit (r .format) → 256 ≤ room → quietRefusal r room ≡ 0
+  quiet-accepted h k = simp (le-leb (r .count) (limit (r .format)) h, le-leb 256 room k)
 
 -- A quiet's answer is right where the call gives that.
 pub quiet-right :
-    (s : State) (c d : Called) (buf : List ℕ) (q : Quieted) (buf′ : List ℕ) → c ≡ d → QuietAnswered s d buf q buf′ →
-    QuietAnswered s c buf q buf′
-quiet-right s c d buf q buf′ e h = subst (λ (x : Called). QuietAnswered s x buf q buf′) (sym e) h
+    (m : Format) (c d : Called) (buf : List ℕ) (q : Quieted) (buf′ : List ℕ) → c ≡ d → QuietAnswered m d buf q buf′ →
+    QuietAnswered m c buf q buf′
+quiet-right m c d buf q buf′ e h = subst (λ (x : Called). QuietAnswered m x buf q buf′) (sym e) h

@@ -10,15 +10,22 @@ use mathlib.Core.Logic.{⊎-elim}
 use borrow.Author.Tests.{eq-eqb, eqb-true}
 use lib.Dec.{eqb}
 use lib.ListN.{length, getD, take, drop, replicate}
-use Rattle.frame.specs.Checks.{byte, test, word, bytes}
+use Rattle.frame.specs.Checks.{frame, byte, test, word, bytes}
 use Rattle.frame.specs.Binary.{binary, body, footer}
+use Rattle.frame.specs.Digit.{isDigit, digitValue}
+use Rattle.frame.specs.Ascii.{hexDigits, lineEnd, crLf, afterDigits, ascii}
+use Rattle.frame.specs.Framing.{read}
 use Rattle.frame.specs.Rule.{join, places, outFrom, Found, rule}
 use Rattle.frame.specs.Elements.{All}
-use Rattle.frame.specs.Recovery.{Good, Stretch, none, another, starts}
-use Rattle.frame.specs.RecoveryExamples.{response, overlapped, LostAndBack, holdsStart, unguarded, shortStart, lostFrame}
-use Rattle.frame.specs.RecoveryExamples.{ProvisoNeeded}
-use Rattle.frame.specs.declared.framing.Framing.{Framing}
-use Rattle.frame.specs.declared.framing.Framing.the-variants.{Binary}
+use Rattle.frame.specs.Recovery.{Good, Stretch, none, another, starts, PairsBegin}
+use Rattle.frame.specs.RecoveryExamples.{response, blank, success, overlapped, LostAndBack}
+use Rattle.frame.specs.RecoveryExamples.{holdsStart, completes, unguarded, shortStart, lostFrame, ProvisoNeeded}
+use Rattle.frame.specs.RecoveryExamples.{bare, mixed, MixedEndings, FooterRequired, AsciiBack}
+use Rattle.frame.specs.declared.framing.Footer.{Footer}
+use Rattle.frame.specs.declared.framing.Footer.the-variants.{Optional, Required}
+use Rattle.frame.specs.declared.framing.Format.{Format}
+use Rattle.frame.specs.declared.framing.Format.the-variants.{Binary}
+use Rattle.frame.proofs.Trees.{cut≢frame}
 
 -- The proviso as a computed test: wherever the pair stands in s, whose first byte is at `place`, that place is one of ss.
 abbrev among : ℕ → List ℕ → Bool
@@ -57,27 +64,39 @@ pairs-sound place (a ∷ b ∷ s) ss t (suc i) l x y =
     Memᴰ·cast (add-suc place i ∙ sym (suc-add place i)) (pairs-sound (suc place) (b ∷ s) ss later i (le-of-suc-le-suc l) x y)
 
 -- Copies of a good frame, and a stretch behind them.
-copies : {f : Framing} {g : List ℕ} {gs : List (List ℕ)} (n : ℕ) → Good f g → Stretch f gs → Stretch f (replicate n g ++ gs)
+copies : {f : Format} {g : List ℕ} {gs : List (List ℕ)} (n : ℕ) → Good f g → Stretch f gs → Stretch f (replicate n g ++ gs)
 copies zero good st = st
 copies (suc n) good st = another good (copies n good st)
 
+-- What is read as a frame to its last byte under each choice of the footer is a good frame under either.
+both-good :
+    (g p : List ℕ) → read (Binary Optional) g ≡ frame (length g) p → read (Binary Required) g ≡ frame (length g) p →
+    (m : Footer) → Good (Binary m) g
+both-good g p o r Optional = record { payload = p; reads = o }
+both-good g p o r Required = record { payload = p; reads = r }
+
+-- The test on all of a stretch shows the proviso on it.
+pairs-begin : (gs : List (List ℕ)) → pairsAmong 0 (flatten gs) (starts 0 gs) ≡ true → PairsBegin gs
+pairs-begin gs t i l x y = Memᴰ·cast (sym (zero-add i)) (pairs-sound 0 (flatten gs) (starts 0 gs) t i l x y)
+
 -- The response is a good frame.
-response-good : Good Binary response
+response-good : (m : Footer) → Good (Binary m) response
 unfolding binary body footer byte test word bytes
-response-good = record { payload = 0xDB ∷ 0xA1 ∷ 0x80 ∷ 0x01 ∷ []; reads = refl }
+response-good = both-good response success refl refl
+
+-- The frames that the stray start overlaps are good, and those behind them.
+overlapped-good : (m : Footer) → Stretch (Binary m) overlapped
+unfolding binary body footer byte test word bytes
+overlapped-good m =
+    copies 22 (response-good m)
+    (another (both-good (blank 11) (replicate 11 0) refl refl m)
+    (another (both-good (blank 15) (replicate 15 0) refl refl m) (another (response-good m) (another (response-good m) none))))
 
 -- A stray start loses good frames, and later ones come back.
-pub lost-and-back : LostAndBack
+pub lost-and-back : (m : Footer) → LostAndBack m
 unfolding rule places outFrom join binary body footer byte test word bytes flatten
-lost-and-back =
-    record {
-      good =
-          copies 22 response-good
-          (another (record { payload = replicate 11 0; reads = refl }) (another (record { payload = replicate 15 0; reads = refl })
-          (another response-good (another response-good none))));
-      pairs = λ i l x y. Memᴰ·cast (sym (zero-add i)) (pairs-sound 0 (flatten overlapped) (starts 0 overlapped) refl i l x y);
-      frames = refl;
-    }
+lost-and-back Optional = record { good = overlapped-good Optional; pairs = pairs-begin overlapped refl; frames = refl }
+lost-and-back Required = record { good = overlapped-good Required; pairs = pairs-begin overlapped refl; frames = refl }
 
 -- A frame is not among frames at other places.
 elsewhere : (x : Found) (xs : List Found) → All (λ y. x .place ≡ y .place → ⊥) xs → List·Memᴰ x xs → ⊥
@@ -88,16 +107,60 @@ elsewhere x (y ∷ ys) h m =
     (λ (k : List·Memᴰ x ys). elsewhere x ys (h .1) k)
     (List·Memᴰ·cases-cons m)
 
+-- The frames without the proviso are good.
+unguarded-good : (m : Footer) → Stretch (Binary m) unguarded
+unfolding binary body footer byte test word bytes
+unguarded-good m =
+    another (both-good holdsStart (take 256 (drop 4 holdsStart)) refl refl m)
+    (another (both-good completes (lostFrame .payload) refl refl m) (another (response-good m) none))
+
 -- Without the proviso a good frame far into the stretch is lost.
-pub proviso-needed : ProvisoNeeded
+pub proviso-needed : (m : Footer) → ProvisoNeeded m
 unfolding rule places outFrom join binary body footer byte test word bytes flatten
-proviso-needed =
+proviso-needed Optional =
     record {
-      good =
-          another (record { payload = take 256 (drop 4 holdsStart); reads = refl })
-          (another (record { payload = lostFrame .payload; reads = refl }) (another response-good none));
+      good = unguarded-good Optional;
       there = List·Memᴰ·tail (List·Memᴰ·head refl);
       late = omega arith;
       frames = refl;
-      lost = elsewhere lostFrame (rule Binary (shortStart ++ flatten unguarded) .frames) (omega arith, (omega arith, (omega arith, tt)));
+      lost = elsewhere lostFrame (rule (Binary Optional) (shortStart ++ flatten unguarded) .frames) (omega arith, (omega arith, (omega arith, tt)));
     }
+proviso-needed Required =
+    record {
+      good = unguarded-good Required;
+      there = List·Memᴰ·tail (List·Memᴰ·head refl);
+      late = omega arith;
+      frames = refl;
+      lost = elsewhere lostFrame (rule (Binary Required) (shortStart ++ flatten unguarded) .frames) (omega arith, (omega arith, (omega arith, tt)));
+    }
+
+-- Good frames with the footer and without it, mixed.
+pub mixed-endings : MixedEndings
+unfolding rule places outFrom join binary body footer byte test word bytes flatten
+mixed-endings =
+    let without : Good (Binary Optional) (bare response) = record { payload = success; reads = refl } in
+    record {
+      good =
+          another (response-good Optional)
+          (another without
+          (another (record { payload = replicate 1 0; reads = refl })
+          (another (record { payload = replicate 5 0; reads = refl }) (another without (another (response-good Optional) none)))));
+      pairs = pairs-begin mixed refl;
+      kept = refl;
+      lost = refl;
+    }
+
+-- Where the footer is required, a frame without it is no good frame.
+pub footer-required : FooterRequired
+unfolding rule places outFrom join binary body footer byte test word bytes flatten
+footer-required =
+    record {
+      notGood = λ good. cut≢frame 9 (good .payload) (good .reads);
+      alone = refl;
+      before = refl;
+      frames = refl;
+    }
+
+pub ascii-back : AsciiBack
+unfolding rule places outFrom join ascii hexDigits isDigit digitValue crLf lineEnd afterDigits byte test
+ascii-back = record { good = another (record { payload = 0x00 ∷ 0x01 ∷ 0x02 ∷ 0x03 ∷ []; reads = refl }) none; frames = refl }

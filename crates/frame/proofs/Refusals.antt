@@ -16,33 +16,33 @@ use Rattle.frame.specs.Reader.{quietRefusalNumber, lineRefusalNumber, Pr
 use Rattle.frame.specs.Elements.{All}
 use Rattle.frame.specs.Calls.{Phase, Calls, fed, taken, quieted, emptied, feedRefused, quietRefused, done}
 use Rattle.frame.specs.Driving.{refusalsOf, StateNeverRefused, FeedStaysInLimit, QuietStaysInLimit}
-use Rattle.frame.specs.declared.framing.Framing.{Framing}
+use Rattle.frame.specs.declared.framing.Format.{Format}
 use Rattle.frame.specs.declared.reader.Reader.{Reader}
 use Rattle.frame.proofs.Settling.{line-size, quiet-size}
 use Rattle.frame.proofs.Promises.{refusing}
 
 -- A state that holds no more than a frame can have.
 abbrev pub StateFits : Reader → Type 0
-StateFits r = r .count ≤ limit (r .framing)
+StateFits r = r .count ≤ limit (r .format)
 
 -- Its held bytes are no more than a frame can have.
-pub fits-held : (r : Reader) → StateFits r → length (stateOf r .held) ≤ limit (r .framing)
+pub fits-held : (r : Reader) → StateFits r → length (stateOf r .held) ≤ limit (r .format)
 fits-held r l = rw length-take (omega arith)
 
 -- The framing is this one, and the held bytes are within its limit.
-abbrev InLimit : Framing → Reader → Type 0
-InLimit f r = (r .framing ≡ f) × (r .count ≤ limit f)
+abbrev InLimit : Format → Reader → Type 0
+InLimit f r = (r .format ≡ f) × (r .count ≤ limit f)
 
 -- Such a state fits.
-in-limit-fits : {f : Framing} (r : Reader) → InLimit f r → StateFits r
+in-limit-fits : {f : Format} (r : Reader) → InLimit f r → StateFits r
 in-limit-fits r h = rw (h .0) (h .1)
 
 -- A state that holds no more bytes than the limit is within it.
-holds-in-limit : {s : State} {r : Reader} → Holds s r → length (s .held) ≤ limit (s .framing) → InLimit (s .framing) r
-holds-in-limit k l = (ap (λ (x : State). x .framing) (k .state), rw (k .count) l)
+holds-in-limit : {s : State} {r : Reader} → Holds s r → length (s .held) ≤ limit (s .format) → InLimit (s .format) r
+holds-in-limit k l = (ap (λ (x : State). x .format) (k .state), rw (k .count) l)
 
 -- A state that holds no more than a frame can have fits.
-pub holds-fits : {s : State} {r : Reader} → Holds s r → length (s .held) ≤ limit (s .framing) → StateFits r
+pub holds-fits : {s : State} {r : Reader} → Holds s r → length (s .held) ≤ limit (s .format) → StateFits r
 holds-fits {r = r} k l = in-limit-fits r (holds-in-limit k l)
 
 -- Such a state is not refused.
@@ -58,31 +58,30 @@ feed-other r room size l e =
     (sym
     (ap
     (λ (t : Bool). lineRefusalNumber t room size)
-    (le-leb (r .count) (limit (r .framing)) l))
+    (le-leb (r .count) (limit (r .format)) l))
     ∙ e)
 
 -- Nor does a quiet call.
 quiet-other : (r : Reader) (room : ℕ) → StateFits r → quietRefusal r room ≡ 16 → ⊥
 quiet-other r room l e =
     other-refusal (leb 256 room) true
-    (sym (ap (λ (t : Bool). quietRefusalNumber t room) (le-leb (r .count) (limit (r .framing)) l)) ∙ e)
+    (sym (ap (λ (t : Bool). quietRefusalNumber t room) (le-leb (r .count) (limit (r .format)) l)) ∙ e)
 
 -- A refused call leaves the state as it was; any other leaves one that follows.
 stays :
     {A : Type 0} {number : ℕ} {refusal answer v : A} {Next : Reader → Type 0} {filled buf buf′ : List ℕ} {r r′ : Reader} →
-    Promise number refusal answer Next filled r buf v r′ buf′ → StateFits r → (Next r′ → InLimit (r .framing) r′) → InLimit (r .framing) r′
+    Promise number refusal answer Next filled r buf v r′ buf′ → StateFits r → (Next r′ → InLimit (r .format) r′) → InLimit (r .format) r′
 stays {number = number} {r = r} {r′ = r′} p l next = by-refusal (eqb number 0) refl
   where
-    by-refusal : (q : Bool) → eqb number 0 ≡ q → InLimit (r .framing) r′
+    by-refusal : (q : Bool) → eqb number 0 ≡ q → InLimit (r .format) r′
     by-refusal true e = next (p .answers e .1)
-    by-refusal false e = subst (InLimit (r .framing)) (sym (p .refuses e .1)) (refl, l)
+    by-refusal false e = subst (InLimit (r .format)) (sym (p .refuses e .1)) (refl, l)
 
 -- The state after a quiet call is within the limit, where its held bytes are.
 after-in-limit :
-    (s : State) (c : Called) (fs : List (List ℕ)) (r : Reader) → AfterQuiet s c fs r → length (c .held) ≤ limit (s .framing) →
-    InLimit (s .framing) r
-after-in-limit s c [] r h l = subst (InLimit (s .framing)) (sym h) (refl, zero-le)
-after-in-limit s c (p ∷ ps) r h l = holds-in-limit h l
+    (m : Format) (c : Called) (fs : List (List ℕ)) (r : Reader) → AfterQuiet m c fs r → length (c .held) ≤ limit m → InLimit m r
+after-in-limit m c [] r h l = subst (InLimit m) (sym h) (refl, zero-le)
+after-in-limit m c (p ∷ ps) r h l = holds-in-limit h l
 
 -- A line call keeps held bytes within the limit, whatever state it gets.
 pub feed-stays-in-limit : FeedStaysInLimit
@@ -92,7 +91,7 @@ feed-stays-in-limit r chunk buf a buf′ p l = stays p l (λ k. holds-in-limit k
 pub quiet-stays-in-limit : QuietStaysInLimit
 quiet-stays-in-limit r buf a buf′ p l =
     let c : Called = quiet (stateOf r) in
-    stays p l (λ k. after-in-limit (stateOf r) c (c .out .frames) (a .reader) k (le-trans (quiet-size (stateOf r)) (fits-held r l)))
+    stays p l (λ k. after-in-limit (r .format) c (c .out .frames) (a .reader) k (le-trans (quiet-size (stateOf r)) (fits-held r l)))
 
 -- Whatever the calls, from a state that fits on.
 never :
@@ -113,5 +112,5 @@ never (quietRefused {r = r} buf buf′ a p n later) l =
 never done l = tt
 
 -- 16 is no refusal of a list of calls from a new reader.
-pub state-never-refused : (f : Framing) → StateNeverRefused f
+pub state-never-refused : (f : Format) → StateNeverRefused f
 state-never-refused f segment out calls = never calls zero-le

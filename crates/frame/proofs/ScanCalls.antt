@@ -9,58 +9,58 @@ use mathlib.Core.Bool.{true, false}
 use lib.ListN.{length, take, drop, length-append, length-take, length-drop, drop-of-length-le}
 use lib.Seq.{take-append-add, take-append-seam, drop-append-seam, take-take, take-all, drop-drop, drop-length}
 use Rattle.frame.specs.Checks.{Verdict, cut, refused, frame}
-use Rattle.frame.specs.Framing.{judge, limit}
+use Rattle.frame.specs.Framing.{judge, mayFollow, limit}
 use Rattle.frame.specs.Rule.{output, join}
-use Rattle.frame.specs.Reader.{holding, settleAs, settle, Called, called, stopped, lineFrom, line, quiet}
+use Rattle.frame.specs.Reader.{settleAs, settle, Called, called, stopped, lineFrom, lineOn, tookFirst, quietHeld}
 use Rattle.frame.specs.Claims.{Sized}
 use Rattle.frame.specs.Scan.{judging, judgedBytes, Stop, found, undecided, passed, Scanned, scanAs, scanFrom}
 use Rattle.frame.specs.View.{part}
 use Rattle.frame.specs.Answer.{beforeScan, calledAs, scanWhole}
 use Rattle.frame.specs.Feeding.{joined, thenChunk, scanHeld, scanLine}
-use Rattle.frame.specs.declared.framing.Framing.{Framing}
+use Rattle.frame.specs.declared.framing.Format.{Format}
 use Rattle.frame.proofs.Lists.{drop-next, drop-take}
 use Rattle.frame.proofs.Framings.{undecided-short}
 use Rattle.frame.proofs.Prefixes.{refused-sized, limit-enough}
-use Rattle.frame.proofs.Taking.{more, noisier, lineAt, line-cut, line-decided, line-found, line-failed}
+use Rattle.frame.proofs.Taking.{noisier, lineAt, line-cut, line-decided, line-found, line-failed}
 use Rattle.frame.proofs.Scanning.{AtUndecided, ScanFacts, scan-facts, scan-passed}
 use Rattle.frame.proofs.Scanning.{step-refused, step-frame, step-undecided, step-ended, step-end}
 
 -- What a quiet call gives where the scan of s stopped so at a place.
-abbrev quietBy : List ℕ → Stop → ℕ → Called
-quietBy s (found used p) place = called 0 (output (p ∷ []) place) (drop (place + used) s)
-quietBy s undecided place = called 0 (output [] place) (drop place s)
-quietBy s passed place = called 0 (output [] place) []
+abbrev quietBy : Format → List ℕ → Stop → ℕ → Called
+quietBy f s (found used p) place = called 0 (output (p ∷ []) place) (drop (place + used) s) (mayFollow f)
+quietBy f s undecided place = called 0 (output [] place) (drop place s) false
+quietBy f s passed place = called 0 (output [] place) [] false
 
 -- One step of settling at a place of s.
 settle-next :
-    (judgement : List ℕ → Verdict) (s : List ℕ) (place : ℕ) → place < length s →
-    settle judgement (drop place s) ≡ settleAs (judgement (drop place s)) (drop place s) (settle judgement (drop (place + 1) s))
+    (f : Format) (judgement : List ℕ → Verdict) (s : List ℕ) (place : ℕ) → place < length s →
+    settle f judgement (drop place s) ≡ settleAs f (judgement (drop place s)) (drop place s) (settle f judgement (drop (place + 1) s))
 unfolding settle
-settle-next judgement s place l = rw (drop-next s place l)
+settle-next f judgement s place l = rw (drop-next s place l)
 
-module _ (f : Framing) (s : List ℕ) where
+module _ (f : Format) (s : List ℕ) where
   -- A quiet at a place of this verdict.
   quiet-at :
       (place reach : ℕ) (v : Verdict) → place < length s → judge f (drop place s) ≡ v →
       ((far : ℕ) →
       let x : Scanned = scanFrom (judging true f) (length s - (place + 1)) (place + 1) far (drop (place + 1) s) in
-      noisier (place + 1) (stopped (settle (judging true f) (drop (place + 1) s))) ≡ quietBy s (x .stop) (x .place)) →
+      noisier (place + 1) (stopped (settle f (judging true f) (drop (place + 1) s))) ≡ quietBy f s (x .stop) (x .place)) →
       let x : Scanned = scanFrom (judging true f) (length s - place) place reach (drop place s) in
-      noisier place (stopped (settle (judging true f) (drop place s))) ≡ quietBy s (x .stop) (x .place)
+      noisier place (stopped (settle f (judging true f) (drop place s))) ≡ quietBy f s (x .stop) (x .place)
   unfolding join
   quiet-at place reach cut l q later =
-      rw (settle-next (judging true f) s place l, q, step-ended f (length s) place reach s l q, ← add-assoc) (later (max reach place))
+      rw (settle-next f (judging true f) s place l, q, step-ended f (length s) place reach s l q, ← add-assoc) (later (max reach place))
   quiet-at place reach (refused judged n) l q later =
-      rw (settle-next (judging true f) s place l, q, step-refused true f (length s) place reach s l judged n q, ← add-assoc)
+      rw (settle-next f (judging true f) s place l, q, step-refused true f (length s) place reach s l judged n q, ← add-assoc)
       (later (max reach (place + judged)))
   quiet-at place reach (frame used p) l q later =
-      rw (settle-next (judging true f) s place l, q, step-frame true f (length s) place reach s l used p q, add-zero, drop-drop)
+      rw (settle-next f (judging true f) s place l, q, step-frame true f (length s) place reach s l used p q, add-zero, drop-drop)
 
   -- A quiet from a place on.
   quiet-from :
       (left place reach : ℕ) → length s ≡ place + left →
       let x : Scanned = scanFrom (judging true f) (length s - place) place reach (drop place s) in
-      noisier place (stopped (settle (judging true f) (drop place s))) ≡ quietBy s (x .stop) (x .place)
+      noisier place (stopped (settle f (judging true f) (drop place s))) ≡ quietBy f s (x .stop) (x .place)
   unfolding settle
   quiet-from zero place reach d =
       rw (step-end (judging true f) (length s) place reach s (omega arith), drop-of-length-le s {i = place} (omega arith), add-zero)
@@ -68,19 +68,19 @@ module _ (f : Framing) (s : List ℕ) where
       quiet-at place reach (judge f (drop place s)) (omega arith) refl (λ far. quiet-from left (place + 1) far (omega arith))
 
   -- A quiet call gives what the scan of the held bytes gives.
-  quiet-scan : (x : Scanned) → x ≡ scanFrom (judging true f) (length s) 0 0 s → quiet (holding f s) ≡ quietBy s (x .stop) (x .place)
-  unfolding quiet
+  quiet-scan : (x : Scanned) → x ≡ scanFrom (judging true f) (length s) 0 0 s → quietHeld f s ≡ quietBy f s (x .stop) (x .place)
+  unfolding quietHeld
   quiet-scan x is = rw is (rw (sub-zero, zero-add) at (quiet-from (length s) 0 0 (sym (zero-add (length s)))))
 
   -- By the reason for which it stopped: at a frame, or behind the last place.
   pub scan-quiet-found :
       (x : Scanned) (used : ℕ) (p : List ℕ) → x ≡ scanFrom (judging true f) (length s) 0 0 s → x .stop ≡ found used p →
-      quiet (holding f s) ≡ called 0 (output (p ∷ []) (x .place)) (drop (x .place + used) s)
+      quietHeld f s ≡ called 0 (output (p ∷ []) (x .place)) (drop (x .place + used) s) (mayFollow f)
   scan-quiet-found x used p is q = rw q at (quiet-scan x is)
 
   pub scan-quiet-passed :
       (x : Scanned) → x ≡ scanFrom (judging true f) (length s) 0 0 s → x .stop ≡ passed →
-      quiet (holding f s) ≡ called 0 (output [] (x .place)) []
+      quietHeld f s ≡ called 0 (output [] (x .place)) [] false
   scan-quiet-passed x is q = rw q at (quiet-scan x is)
 
 -- The bytes taken up to a decision, counted from the place at which it is made, or from the first byte on.
@@ -90,21 +90,21 @@ count-far :
 count-far base place reach judged l b = omega arith
 
 -- The rest of a call at a place of w, where bytes up to `reach` are taken and `base` were held at first.
-abbrev callFrom : Framing → List ℕ → ℕ → ℕ → ℕ → Called
-callFrom f w base place reach = noisier place (more (reach - base) (lineAt f (drop place w) (reach - place)))
+abbrev callFrom : Format → List ℕ → ℕ → ℕ → ℕ → Called
+callFrom f w base place reach = noisier place (tookFirst (reach - base) (lineAt f (drop place w) (reach - place)))
 
 -- The call where the scan stopped so; behind the last place it goes on.
-abbrev callAt : Framing → List ℕ → ℕ → ℕ → Stop → ℕ → ℕ → Called
-callAt f w base size (found used p) place reach = calledAs (found used p) (beforeScan base 0 size) w place reach
-callAt f w base size undecided place reach = calledAs undecided (beforeScan base 0 size) w place reach
+abbrev callAt : Format → List ℕ → ℕ → ℕ → Stop → ℕ → ℕ → Called
+callAt f w base size (found used p) place reach = calledAs f (found used p) (beforeScan base 0 size) w place reach
+callAt f w base size undecided place reach = calledAs f undecided (beforeScan base 0 size) w place reach
 callAt f w base size passed place reach = callFrom f w base place reach
 
 -- The scan x goes on with the call at a place.
-record GoesOn (f : Framing) (w : List ℕ) (base size place reach : ℕ) (x : Scanned) : Type 0 where
+record GoesOn (f : Format) (w : List ℕ) (base size place reach : ℕ) (x : Scanned) : Type 0 where
   same : callFrom f w base place reach ≡ callAt f w base size (x .stop) (x .place) (x .reach)
   behind : x .place ≤ x .reach
 
-module _ (f : Framing) (w : List ℕ) (base place reach : ℕ) (l : place ≤ reach) (b : base ≤ reach) (k : reach ≤ length w) where
+module _ (f : Format) (w : List ℕ) (base place reach : ℕ) (l : place ≤ reach) (b : base ≤ reach) (k : reach ≤ length w) where
   -- The bytes held at the place are there.
   held-there : reach - place ≤ length (drop place w)
   held-there = omega (arith, length-drop place w)
@@ -112,18 +112,18 @@ module _ (f : Framing) (w : List ℕ) (base place reach : ℕ) (l : place ≤ re
   -- At undecided bytes.
   call-undecided :
       (size : ℕ) → base + size ≡ length w → judge f (drop place w) ≡ cut →
-      callFrom f w base place reach ≡ calledAs undecided (beforeScan base 0 size) w place reach
+      callFrom f w base place reach ≡ calledAs f undecided (beforeScan base 0 size) w place reach
   call-undecided size all q =
       let s : List ℕ = drop place w in
       let count : reach - base + (length s - (reach - place)) ≡ size = omega (arith, length-drop place w) in
       let noise : place + 0 ≡ 0 + place = omega arith in
-      ap (λ (c : Called). noisier place (more (reach - base) c)) (line-cut f s (reach - place) held-there q)
-      ∙ (λ i. called (count i) (output [] (noise i)) s)
+      ap (λ (c : Called). noisier place (tookFirst (reach - base) c)) (line-cut f s (reach - place) held-there q)
+      ∙ (λ i. called (count i) (output [] (noise i)) s false)
 
   -- At a frame.
   call-frame :
       (size used : ℕ) (p : List ℕ) → judge f (drop place w) ≡ frame used p →
-      callFrom f w base place reach ≡ calledAs (found used p) (beforeScan base 0 size) w place (max reach (place + used))
+      callFrom f w base place reach ≡ calledAs f (found used p) (beforeScan base 0 size) w place (max reach (place + used))
   call-frame size used p q =
       let s : List ℕ = drop place w in
       let m : ℕ = reach - place in
@@ -132,8 +132,8 @@ module _ (f : Framing) (w : List ℕ) (base place reach : ℕ) (l : place ≤ re
       let noise : place + 0 ≡ 0 + place = omega arith in
       let count : reach - base + (max m used - m) ≡ far - base = count-far base place reach used l b in
       let held : take (max m used - used) (drop used s) ≡ part (place + used) far w = rw (left, drop-drop) in
-      ap (λ (c : Called). noisier place (more (reach - base) c)) (line-found f s m used p held-there q)
-      ∙ (λ i. called (count i) (output (p ∷ []) (noise i)) (held i))
+      ap (λ (c : Called). noisier place (tookFirst (reach - base) c)) (line-found f s m used p held-there q)
+      ∙ (λ i. called (count i) (output (p ∷ []) (noise i)) (held i) (mayFollow f))
 
   -- At a failed start.
   call-refused :
@@ -150,14 +150,14 @@ module _ (f : Framing) (w : List ℕ) (base place reach : ℕ) (l : place ≤ re
       sym (add-assoc (reach - base) (max m judged - m) (c .taken)) ∙ ap (λ (k : ℕ). k + c .taken) (count-far base place reach judged l b)
       in
       let noise : place + (1 + c .out .noise) ≡ place + 1 + c .out .noise = omega arith in
-      let first : lineAt f s m ≡ more (max m judged - m) (noisier 1 c) =
+      let first : lineAt f s m ≡ tookFirst (max m judged - m) (noisier 1 c) =
       rw q at (line-decided f s m held-there)
-      ∙ ap (more (max m judged - m)) (line-failed f s (max m judged) judged n q (le-max-right m judged) ∙ rw (left, drop-drop 1 place w))
+      ∙ ap (tookFirst (max m judged - m)) (line-failed f s (max m judged) judged n q (le-max-right m judged) ∙ rw (left, drop-drop 1 place w))
       in
-      ap (λ (c : Called). noisier place (more (reach - base) c)) first
-      ∙ (λ i. called (count i) (output (c .out .frames) (noise i)) (c .held))
+      ap (λ (c : Called). noisier place (tookFirst (reach - base) c)) first
+      ∙ (λ i. called (count i) (output (c .out .frames) (noise i)) (c .held) (c .follows))
 
-module _ (f : Framing) (w : List ℕ) (base size n : ℕ) (all : base + size ≡ length w) where
+module _ (f : Format) (w : List ℕ) (base size n : ℕ) (all : base + size ≡ length w) where
   -- The scan at a place of this verdict goes on with the call.
   goes-on-at :
       (place reach : ℕ) (v : Verdict) → judge f (drop place w) ≡ v → place < n → place ≤ reach → base ≤ reach → reach ≤ length w →
@@ -192,15 +192,15 @@ module _ (f : Framing) (w : List ℕ) (base size n : ℕ) (all : base + size ≡
 
 -- Behind the last byte of w nothing is left.
 call-over :
-    (f : Framing) (w : List ℕ) (base place reach : ℕ) → place ≡ length w → reach ≡ length w →
-    callFrom f w base place reach ≡ called (length w - base) (output [] place) []
-unfolding line lineFrom settle
+    (f : Format) (w : List ℕ) (base place reach : ℕ) → place ≡ length w → reach ≡ length w →
+    callFrom f w base place reach ≡ called (length w - base) (output [] place) [] false
+unfolding lineOn lineFrom settle
 call-over f w base place reach a b = rw (a, b, drop-length, sub-self, add-zero, add-zero)
 
 -- The line call over all of w, of which the first bytes are taken, behind other noise, is what the scan of w gives.
 whole-line :
-    (f : Framing) (base noise reach : ℕ) (w : List ℕ) → base ≤ reach → reach ≤ length w →
-    scanWhole f base noise reach w ≡ noisier noise (more (reach - base) (lineAt f w reach))
+    (f : Format) (base noise reach : ℕ) (w : List ℕ) → base ≤ reach → reach ≤ length w →
+    scanWhole f base noise reach w ≡ noisier noise (tookFirst (reach - base) (lineAt f w reach))
 whole-line f base noise reach w b l = by-stop (x .stop) refl ∙ ap (noisier noise) (sym (rest .same) ∙ rw (sub-zero, zero-add))
   where
     x : Scanned
@@ -211,7 +211,7 @@ whole-line f base noise reach w b l = by-stop (x .stop) refl ∙ ap (noisier noi
 
     by-stop :
         (v : Stop) → x .stop ≡ v →
-        calledAs v (beforeScan base noise (length w - base)) w (x .place) (x .reach)
+        calledAs f v (beforeScan base noise (length w - base)) w (x .place) (x .reach)
         ≡ noisier noise (callAt f w base (length w - base) v (x .place) (x .reach))
     by-stop (found used p) q = rw zero-add
     by-stop undecided q = rw zero-add
@@ -221,16 +221,16 @@ whole-line f base noise reach w b l = by-stop (x .stop) refl ∙ ap (noisier noi
         ap (noisier noise) (sym (call-over f w base (x .place) (x .reach) last (omega (arith, size .there, rest .behind))))
 
 -- So it is where the first bytes of w are held and the others are the chunk.
-pub scan-whole : (f : Framing) (count : ℕ) (w : List ℕ) → count ≤ length w → scanWhole f count 0 count w ≡ lineAt f w count
+pub scan-whole : (f : Format) (count : ℕ) (w : List ℕ) → count ≤ length w → scanWhole f count 0 count w ≡ lineAt f w count
 scan-whole f count w l = whole-line f count 0 count w (le-refl count) l ∙ rw (sub-self, zero-add, zero-add)
 
 -- And where nothing is held.
-pub scan-chunk : (f : Framing) (chunk : List ℕ) → scanWhole f 0 0 0 chunk ≡ line (holding f []) chunk
+pub scan-chunk : (f : Format) (chunk : List ℕ) → scanWhole f 0 0 0 chunk ≡ lineOn f [] chunk
 scan-chunk f chunk = scan-whole f 0 chunk zero-le
 
 -- The front of a list that holds the longest frame at each of n places is scanned as the whole list is.
 scan-front :
-    (f : Framing) (n place reach k : ℕ) (s : List ℕ) → n + limit f ≤ k →
+    (f : Format) (n place reach k : ℕ) (s : List ℕ) → n + limit f ≤ k →
     scanFrom (judge f) n place reach (take k s) ≡ scanFrom (judge f) n place reach s
 unfolding scanFrom
 scan-front f zero place reach k s l = refl
@@ -239,7 +239,7 @@ scan-front f (suc n) place reach k s l =
     rw (limit-enough f s k (omega arith), drop-take 1 k s)
     (ap (scanAs (judge f s) place reach) (scan-front f n (suc place) far (k - 1) (drop 1 s) (omega arith)))
 
-module _ (f : Framing) (held chunk : List ℕ) where
+module _ (f : Format) (held chunk : List ℕ) where
   -- The joined bytes are the front of all bytes.
   joined-front : joined f held chunk ≡ take (length held + limit f) (held ++ chunk)
   joined-front = sym (take-append-add held chunk (limit f))
@@ -263,7 +263,7 @@ module _ (f : Framing) (held chunk : List ℕ) where
       rw (joined-front, drop-take)
       (take-take (x .reach - next) (length held + limit f - next) (drop next w) (omega (arith, facts .there)))
       in
-      λ i. called (x .reach - length held) (output (p ∷ []) (0 + x .place)) (same i)
+      λ i. called (x .reach - length held) (output (p ∷ []) (0 + x .place)) (same i) (mayFollow f)
   held-stop x undecided facts q =
       let at : AtUndecided false f (joined f held chunk) (length held) (x .place) = rw q at (facts .ends) in
       let short = undecided-short f (drop (x .place) (joined f held chunk)) (at .is-cut) in
@@ -278,7 +278,7 @@ module _ (f : Framing) (held chunk : List ℕ) where
       (whole-line f 0 (length held) (x .reach - length held) chunk zero-le (omega (arith, facts .there)) ∙ rw sub-zero)
 
   -- What the line call gives is what the scan gives.
-  pub scan-line : scanLine f held chunk ≡ line (holding f held) chunk
+  pub scan-line : scanLine f held chunk ≡ lineOn f held chunk
   unfolding scanLine
   scan-line =
       let w : List ℕ = held ++ chunk in

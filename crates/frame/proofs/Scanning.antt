@@ -14,16 +14,16 @@ use Rattle.frame.specs.Framing.{judge, limit}
 use Rattle.frame.specs.Reader.{ended}
 use Rattle.frame.specs.Claims.{Sized}
 use Rattle.frame.specs.Scan.{judging, judgedBytes, Stop, found, undecided, passed, Scanned, scannedTo, scanAs, scanFrom}
-use Rattle.frame.specs.declared.framing.Framing.{Framing}
+use Rattle.frame.specs.declared.framing.Format.{Format}
 use Rattle.frame.proofs.Framings.{frame-sized}
 use Rattle.frame.proofs.Prefixes.{refused-sized}
 
 -- What is decided is judged so whether the segment ends or not.
-judging-refused : (e : Bool) (f : Framing) (s : List ℕ) (judged n : ℕ) → judge f s ≡ refused judged n → judging e f s ≡ refused judged n
+judging-refused : (e : Bool) (f : Format) (s : List ℕ) (judged n : ℕ) → judge f s ≡ refused judged n → judging e f s ≡ refused judged n
 judging-refused true f s judged n q = ap ended q
 judging-refused false f s judged n q = q
 
-judging-frame : (e : Bool) (f : Framing) (s p : List ℕ) (used : ℕ) → judge f s ≡ frame used p → judging e f s ≡ frame used p
+judging-frame : (e : Bool) (f : Format) (s p : List ℕ) (used : ℕ) → judge f s ≡ frame used p → judging e f s ≡ frame used p
 judging-frame true f s p used q = ap ended q
 judging-frame false f s p used q = q
 
@@ -45,7 +45,7 @@ module _ (judgement : List ℕ → Verdict) (stop place far : ℕ) (s : List ℕ
   unfolding scanFrom
   step-end l = let left : stop - place ≡ 0 = omega arith in rw left
 
-module _ (e : Bool) (f : Framing) (stop place far : ℕ) (s : List ℕ) (l : place < stop) where
+module _ (e : Bool) (f : Format) (stop place far : ℕ) (s : List ℕ) (l : place < stop) where
   -- The scan goes on behind a place that fails.
   pub step-refused :
       (judged n : ℕ) → judge f (drop place s) ≡ refused judged n →
@@ -61,7 +61,7 @@ module _ (e : Bool) (f : Framing) (stop place far : ℕ) (s : List ℕ) (l : pla
       ≡ scannedTo place (max far (place + used)) (found used p)
   step-frame used p q = scan-at (judging e f) stop place far s l ∙ rw (judging-frame e f (drop place s) p used q)
 
-module _ (f : Framing) (stop place far : ℕ) (s : List ℕ) (l : place < stop) (q : judge f (drop place s) ≡ cut) where
+module _ (f : Format) (stop place far : ℕ) (s : List ℕ) (l : place < stop) (q : judge f (drop place s) ≡ cut) where
   -- It stops at undecided bytes where the segment goes on.
   pub step-undecided :
       scanFrom (judging false f) (stop - place) place far (drop place s) ≡ scannedTo place far undecided
@@ -74,36 +74,36 @@ module _ (f : Framing) (stop place far : ℕ) (s : List ℕ) (l : place < stop) 
   step-ended = scan-at (judging true f) stop place far s l ∙ rw (q, add-zero)
 
 -- A scan of s over n places stopped at `place`, having judged bytes up to `reach`: at a frame.
-pub record AtFrame (f : Framing) (s : List ℕ) (n place reach used : ℕ) (p : List ℕ) : Type 0 where
+pub record AtFrame (f : Format) (s : List ℕ) (n place reach used : ℕ) (p : List ℕ) : Type 0 where
   pub is-frame : judge f (drop place s) ≡ frame used p
   pub inside : place + used ≤ reach
   pub before : place < n
 
 -- At undecided bytes, where the segment goes on.
-pub record AtUndecided (e : Bool) (f : Framing) (s : List ℕ) (n place : ℕ) : Type 0 where
+pub record AtUndecided (e : Bool) (f : Format) (s : List ℕ) (n place : ℕ) : Type 0 where
   pub goes-on : e ≡ false
   pub is-cut : judge f (drop place s) ≡ cut
   pub before : place < n
 
 -- By the reason for which it stopped.
-abbrev pub Ends : Bool → Framing → List ℕ → ℕ → ℕ → ℕ → Stop → Type 0
+abbrev pub Ends : Bool → Format → List ℕ → ℕ → ℕ → ℕ → Stop → Type 0
 Ends e f s n place reach (found used p) = AtFrame f s n place reach used p
 Ends e f s n place reach undecided = AtUndecided e f s n place
 Ends e f s n place reach passed = place ≡ n
 
 -- What the result x of a scan of s over n places says, where bytes up to `reach` were judged before.
-pub record ScanFacts (e : Bool) (f : Framing) (s : List ℕ) (n reach : ℕ) (x : Scanned) : Type 0 where
+pub record ScanFacts (e : Bool) (f : Format) (s : List ℕ) (n reach : ℕ) (x : Scanned) : Type 0 where
   pub far : reach ≤ x .reach
   pub there : x .reach ≤ length s
   pub near : x .reach ≤ max reach (x .place + limit f)
   pub ends : Ends e f s n (x .place) (x .reach) (x .stop)
 
 -- The same of the scan of the places from one on, which stops there or behind.
-record FactsFrom (e : Bool) (f : Framing) (s : List ℕ) (n place reach : ℕ) (x : Scanned) : Type 0 where
+record FactsFrom (e : Bool) (f : Format) (s : List ℕ) (n place reach : ℕ) (x : Scanned) : Type 0 where
   facts : ScanFacts e f s n reach x
   onward : place ≤ x .place
 
-module _ (f : Framing) (s : List ℕ) (n : ℕ) (l : n ≤ length s) where
+module _ (f : Format) (s : List ℕ) (n : ℕ) (l : n ≤ length s) where
   -- The facts behind a place are the facts from it on.
   facts-on :
       (e : Bool) (place reach judged : ℕ) (x : Scanned) → judged ≤ limit f → FactsFrom e f s n (place + 1) (max reach (place + judged)) x →
@@ -169,7 +169,7 @@ module _ (f : Framing) (s : List ℕ) (n : ℕ) (l : n ≤ length s) where
   facts-from e (suc left) place reach d k =
       facts-at e place reach (judge f (drop place s)) refl (omega arith) k (λ far m. facts-from e left (place + 1) far (omega arith) m)
 
-module _ (e : Bool) (f : Framing) (s : List ℕ) (n reach : ℕ) (l : n ≤ length s) (k : reach ≤ length s) (x : Scanned)
+module _ (e : Bool) (f : Format) (s : List ℕ) (n reach : ℕ) (l : n ≤ length s) (k : reach ≤ length s) (x : Scanned)
     (is : x ≡ scanFrom (judging e f) n 0 reach s) where
   -- What a scan's result says.
   pub scan-facts : ScanFacts e f s n reach x
@@ -187,7 +187,7 @@ module _ (e : Bool) (f : Framing) (s : List ℕ) (n reach : ℕ) (l : n ≤ leng
 
 -- A scan from a later place on stopped at a frame.
 pub scan-found-from :
-    (e : Bool) (f : Framing) (s : List ℕ) (n from reach : ℕ) → n ≤ length s → reach ≤ length s → from ≤ n → (x : Scanned) →
+    (e : Bool) (f : Format) (s : List ℕ) (n from reach : ℕ) → n ≤ length s → reach ≤ length s → from ≤ n → (x : Scanned) →
     x ≡ scanFrom (judging e f) (n - from) from reach (drop from s) → (used : ℕ) (p : List ℕ) → x .stop ≡ found used p →
     AtFrame f s n (x .place) (x .reach) used p
 scan-found-from e f s n from reach l k m x is used p q =

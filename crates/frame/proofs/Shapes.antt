@@ -7,14 +7,15 @@ use mathlib.Core.Bool.{Bool, true, false, cond}
 use lib.Dec.{eqb}
 use lib.ListN.{length}
 use Rattle.frame.specs.Checks.{Checks, next, fails, whole, byte, test, Verdict, cut, refused, frame, behind, run}
-use Rattle.frame.specs.Binary.{binary, footer}
+use Rattle.frame.specs.Binary.{binary, ending}
 use Rattle.frame.specs.Digit.{isDigit, digitValue}
 use Rattle.frame.specs.Hex.{pairs, sumOf}
 use Rattle.frame.specs.Ascii.{colon, carriageReturn, lineFeed, hexDigits, digitCount, afterDigits, ascii, lineEnd, crLf}
 use Rattle.frame.specs.Framing.{checks, judge}
 use Rattle.frame.specs.Claims.{Decided}
-use Rattle.frame.specs.declared.framing.Framing.{Framing}
-use Rattle.frame.specs.declared.framing.Framing.the-variants.{Binary, Ascii}
+use Rattle.frame.specs.declared.framing.Footer.{Footer}
+use Rattle.frame.specs.declared.framing.Format.{Format}
+use Rattle.frame.specs.declared.framing.Format.the-variants.{Binary, Ascii}
 use Rattle.frame.proofs.Trees.{stands, took-byte, cut≢frame, cut≢refused}
 
 -- No frame stands there.
@@ -24,7 +25,7 @@ NoFrame (refused judged n) = Unit {0}
 NoFrame (frame used p) = ⊥
 
 -- A decision stands when more bytes follow.
-pub judge-stands : (f : Framing) (s more : List ℕ) (v : Verdict) → Decided v → judge f s ≡ v → judge f (s ++ more) ≡ v
+pub judge-stands : (f : Format) (s more : List ℕ) (v : Verdict) → Decided v → judge f s ≡ v → judge f (s ++ more) ≡ v
 judge-stands f s more v d e = stands (checks f) s more (subst Decided (sym e) d) ∙ e
 
 -- What holds of a tree whichever way a test goes.
@@ -149,5 +150,5 @@ colon-stops = ascii-stops crLf bars-line
 pub colon-first : (s p : List ℕ) (used : ℕ) → judge Ascii s ≡ frame used p → (rest : List ℕ) × (s ≡ colon ∷ rest)
 colon-first = ascii-first crLf
 
-pub pair-first : (s p : List ℕ) (used : ℕ) → judge Binary s ≡ frame used p → (rest : List ℕ) × (s ≡ 0xA5 ∷ 0x5A ∷ rest)
-pair-first = binary-first footer
+pub pair-first : (footer : Footer) (s p : List ℕ) (used : ℕ) → judge (Binary footer) s ≡ frame used p → (rest : List ℕ) × (s ≡ 0xA5 ∷ 0x5A ∷ rest)
+pair-first footer = binary-first (ending footer)

@@ -14,6 +14,7 @@ use Rattle.frame.specs.Framing.{read, layout, inFront}
 use Rattle.frame.specs.Refusal.{numberOf}
 use Rattle.frame.specs.Single.{noReading, readingOf, reading, readInto, Reads, noWriting, writable, Writes}
 use Rattle.frame.specs.declared.framing.Framing.{Framing}
+use Rattle.frame.specs.declared.framing.Format.{Format}
 use Rattle.frame.specs.declared.refusal.Refusal.{Refusal}
 use Rattle.frame.specs.declared.refusal.Refusal.the-variants.{Cut, Buffer, Payload}
 use Rattle.frame.specs.declared.single.ReadAnswer.{ReadAnswer}
@@ -21,7 +22,7 @@ use Rattle.frame.specs.declared.single.ReadAnswer.the-variants.{Frame, R
 use Rattle.frame.specs.declared.single.WriteAnswer.the-variants.{Written, Refused as WriteRefused}
 use Rattle.frame.proofs.Numbers.{and-true, and-fails}
 
-module _ (f : Framing) (s buf : List ℕ) where
+module _ (f : Format) (s buf : List ℕ) where
   -- The verdict decides the promise.
   reads-by : (v : Verdict) (a : ReadAnswer) (after : List ℕ) → read f s ≡ v →
       readingOf a ≡ reading v (length buf) → after ≡ readInto v buf → Reads f s buf a after

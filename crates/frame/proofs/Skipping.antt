@@ -15,12 +15,12 @@ use Rattle.frame.specs.Checks.{Checks, next, fails, whole, test, Verdict
 use Rattle.frame.specs.Binary.{binary}
 use Rattle.frame.specs.Digit.{isDigit, digitValue}
 use Rattle.frame.specs.Ascii.{ascii, colon, hexDigits, crLf}
-use Rattle.frame.specs.Framing.{read}
+use Rattle.frame.specs.Framing.{judge}
 use Rattle.frame.specs.DigitRuns.{allPass}
 use Rattle.frame.specs.Judged.{startOf, doubledNumber, passedBy}
 use Rattle.frame.specs.Scan.{judging, scanFrom, other, Skips}
-use Rattle.frame.specs.declared.framing.Framing.{Framing}
-use Rattle.frame.specs.declared.framing.Framing.the-variants.{Binary, Ascii}
+use Rattle.frame.specs.declared.framing.Format.{Format}
+use Rattle.frame.specs.declared.framing.Format.the-variants.{Binary, Ascii}
 use Rattle.frame.proofs.Numbers.{both-true, and-true}
 use Rattle.frame.proofs.Lists.{drop-next}
 use Rattle.frame.proofs.Trees.{pass-byte, fail-byte, cut≢refused, refused≢frame}
@@ -68,9 +68,9 @@ module _ (b : ℕ) (s : List ℕ) (from stop : ℕ) where
   skips-one at h l m e = skips-more at 1 h (omega arith) (rw (drop-next s at (omega arith), other-byte b (getD s at 0) e))
 
 -- A byte that starts no frame fails as the first.
-pub start-fails : (f : Framing) (s : List ℕ) (place : ℕ) → place < length s → (getD s place 0 ≡ startOf f → ⊥) → read f (drop place s) ≡ refused 1 1
+pub start-fails : (f : Format) (s : List ℕ) (place : ℕ) → place < length s → (getD s place 0 ≡ startOf f → ⊥) → judge f (drop place s) ≡ refused 1 1
 unfolding binary ascii
-start-fails Binary s place l e = fail-byte 0xA5 1 _ s place l e
+start-fails (Binary footer) s place l e = fail-byte 0xA5 1 _ s place l e
 start-fails Ascii s place l e = fail-byte colon 1 (hexDigits 514 crLf) s place l e
 
 -- What is refused behind one byte is refused with one byte judged fewer.
@@ -119,7 +119,7 @@ digits-judged (suc room) t s judged n e =
 
 -- A colon that starts no frame fails behind it, and no byte between it and the failing one is a colon.
 colon-fails :
-    (s : List ℕ) (place judged n : ℕ) → place < length s → getD s place 0 ≡ colon → read Ascii (drop place s) ≡ refused judged n →
+    (s : List ℕ) (place judged n : ℕ) → place < length s → getD s place 0 ≡ colon → judge Ascii (drop place s) ≡ refused judged n →
     (2 ≤ judged) × (allPass (other colon) (take (judged - 2) (drop (place + 1) s)) ≡ true)
 unfolding ascii
 colon-fails s place judged n l is q =
@@ -133,11 +133,11 @@ colon-fails s place judged n l is q =
 
 -- The places that a failed start passes over are its own and those of bytes that start no frame.
 pub fails-over :
-    (f : Framing) (s : List ℕ) (stop place judged n : ℕ) → stop ≤ length s → place < stop → getD s place 0 ≡ startOf f →
-    read f (drop place s) ≡ refused judged n → Skips (startOf f) s (place + 1) stop (min (place + passedBy f judged) stop) × (passedBy f judged ≤ judged)
-fails-over Binary s stop place judged n m l is q =
+    (f : Format) (s : List ℕ) (stop place judged n : ℕ) → stop ≤ length s → place < stop → getD s place 0 ≡ startOf f →
+    judge f (drop place s) ≡ refused judged n → Skips (startOf f) s (place + 1) stop (min (place + passedBy f judged) stop) × (passedBy f judged ≤ judged)
+fails-over (Binary footer) s stop place judged n m l is q =
     let to : min (place + 1) stop ≡ place + 1 = omega arith in
-    (rw to (skips-none 0xA5 s (place + 1) stop (omega arith)), refused-sized Binary (drop place s) judged n q .some)
+    (rw to (skips-none 0xA5 s (place + 1) stop (omega arith)), refused-sized (Binary footer) (drop place s) judged n q .some)
 fails-over Ascii s stop place judged n m l is q =
     let h = colon-fails s place judged n (omega arith) is q in
     let to : ℕ = min (place + (judged - 1)) stop in
@@ -154,10 +154,10 @@ fails-over Ascii s stop place judged n m l is q =
 
 -- A start that another start follows fails at that.
 pub doubled-fails :
-    (f : Framing) (s : List ℕ) (place : ℕ) → place + 1 < length s → getD s place 0 ≡ startOf f → getD s (place + 1) 0 ≡ startOf f →
-    read f (drop place s) ≡ refused 2 (doubledNumber f)
+    (f : Format) (s : List ℕ) (place : ℕ) → place + 1 < length s → getD s place 0 ≡ startOf f → getD s (place + 1) 0 ≡ startOf f →
+    judge f (drop place s) ≡ refused 2 (doubledNumber f)
 unfolding binary ascii hexDigits crLf isDigit test
-doubled-fails Binary s place l e d =
+doubled-fails (Binary footer) s place l e d =
     let second : getD s (suc place) 0 ≡ 0xA5 = ap (λ (k : ℕ). getD s k 0) (sym (add-one place)) ∙ d in
     pass-byte 0xA5 1 _ s place (omega arith) e
     ∙ ap (behind 1) (fail-byte 0x5A 1 _ s (suc place) (omega arith) (λ z. let no : _≡_ {A = ℕ} 0xA5 0x5A = sym second ∙ z in omega arith))
@@ -167,7 +167,7 @@ doubled-fails Ascii s place l e d =
     ∙ ap (λ (r : List ℕ). behind 1 (run (hexDigits 514 crLf) r))
     (drop-next s (suc place) (omega arith) ∙ ap (λ (c : ℕ). c ∷ drop (suc place + 1) s) second)
 
-module _ (e : Bool) (f : Framing) (s : List ℕ) (stop : ℕ) (m : stop ≤ length s) where
+module _ (e : Bool) (f : Format) (s : List ℕ) (stop : ℕ) (m : stop ≤ length s) where
   -- One byte that starts no frame is passed.
   pass-one :
       (place far : ℕ) → place < stop → (getD s place 0 ≡ startOf f → ⊥) →
@@ -202,7 +202,7 @@ module _ (e : Bool) (f : Framing) (s : List ℕ) (stop : ℕ) (m : stop ≤ leng
 
   -- The scan from a failed start goes on behind the places that it passes over.
   pub scan-fails :
-      (place far judged n : ℕ) → place < stop → getD s place 0 ≡ startOf f → read f (drop place s) ≡ refused judged n →
+      (place far judged n : ℕ) → place < stop → getD s place 0 ≡ startOf f → judge f (drop place s) ≡ refused judged n →
       let to = min (place + passedBy f judged) stop in
       scanFrom (judging e f) (stop - place) place far (drop place s) ≡ scanFrom (judging e f) (stop - to) to (max far (place + judged)) (drop to s)
   scan-fails place far judged n l is q =

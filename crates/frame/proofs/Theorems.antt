@@ -1,20 +1,20 @@
--- The claims of specs/, each proved: specs/Claims.antt and the claims on calls and damage for both framings.
+-- The claims of specs/, each proved: specs/Claims.antt and the claims on calls and damage for every format.
 -- Every export has its statement in specs/; a crate above this one names this module alone.
 -- Assumes nothing.
 use Rattle.frame.specs.Framing.{checks}
-use Rattle.frame.specs.Claims.{LayoutReads, FrameIsLayout, DecisionStands, UndecidedIsShort, FrameIsSized, BytesAddUp, TakenIsInside}
+use Rattle.frame.specs.Claims.{LayoutReads, EndingsRead, NeverFive, FrameIsLayout, DecisionStands, UndecidedIsShort, FrameIsSized, ReadIsSized, BytesAddUp, TakenIsInside}
 use Rattle.frame.specs.Claims.{TakenIsNeeded, NeedsMoreIsTrue, HeldThenChunk, CallsFollowRule, ViewIsFeed, ViewStaysInside}
 use Rattle.frame.specs.Recovery.{CleanLine, AsciiRecovers, BinaryRecovers}
 use Rattle.frame.specs.Recovery.{LateFramesComeBack, AsciiCallsRecover, BinaryCallsRecover, CleanCalls}
 use Rattle.frame.specs.Draining.{LineDrains, NeedsMoreIsDrained, DrainFollowsRule, QuietFollowsRule, EmptyIsDrained}
 use Rattle.frame.specs.Draining.{FeedReports, QuietReports, ViewReports, DrainIsSized, RuleIsSized}
 use Rattle.frame.specs.Driving.{CanDrive, DrivesAreShort, StateNeverRefused, FeedStaysInLimit, QuietStaysInLimit, EndsFresh}
-use Rattle.frame.specs.RecoveryExamples.{LostAndBack, ProvisoNeeded}
-use Rattle.frame.specs.declared.framing.Framing.{Framing}
-use Rattle.frame.specs.declared.framing.Framing.the-variants.{Binary, Ascii}
+use Rattle.frame.specs.MarkExamples.{NextCallTakesIt, HeldBehindTheFrame, QuietEndsIt}
+use Rattle.frame.specs.RecoveryExamples.{LostAndBack, ProvisoNeeded, MixedEndings, FooterRequired, AsciiBack}
+use Rattle.frame.specs.declared.framing.Footer.{Footer}
+use Rattle.frame.specs.declared.framing.Format.{Format}
 use Rattle.frame.proofs.Trees.{stands}
-use Rattle.frame.proofs.BinaryLaws.{binary-layout-reads, binary-frame-is-layout}
-use Rattle.frame.proofs.AsciiLaws.{ascii-layout-reads, ascii-frame-is-layout}
+use Rattle.frame.proofs.Optional as optional
 use Rattle.frame.proofs.Framings.{undecided-short, frame-sized}
 use Rattle.frame.proofs.Rules as rules
 use Rattle.frame.proofs.Settling as settling
@@ -29,25 +29,33 @@ use Rattle.frame.proofs.Driving as driving
 use Rattle.frame.proofs.Refusals as refusals
 use Rattle.frame.proofs.Taking as taking
 use Rattle.frame.proofs.RecoveryExamples as recovery-examples
+use Rattle.frame.proofs.MarkExamples as mark-examples
 
-pub layout-reads : (f : Framing) → LayoutReads f
-layout-reads Binary = binary-layout-reads
-layout-reads Ascii = ascii-layout-reads
+pub layout-reads : (m : Format) → LayoutReads m
+layout-reads = optional.layout-reads
 
-pub frame-is-layout : (f : Framing) → FrameIsLayout f
-frame-is-layout Binary = binary-frame-is-layout
-frame-is-layout Ascii = λ s p used b e. ascii-frame-is-layout s p used e
+pub endings-read : (m : Format) → EndingsRead m
+endings-read = optional.endings-read
 
-pub decision-stands : (f : Framing) → DecisionStands f
+pub never-five : NeverFive
+never-five = optional.five-never
+
+pub frame-is-layout : (m : Format) → FrameIsLayout m
+frame-is-layout = optional.frame-is-layout
+
+pub decision-stands : (f : Format) → DecisionStands f
 decision-stands f = stands (checks f)
 
-pub undecided-is-short : (f : Framing) → UndecidedIsShort f
+pub undecided-is-short : (f : Format) → UndecidedIsShort f
 undecided-is-short = undecided-short
 
-pub frame-is-sized : (f : Framing) → FrameIsSized f
+pub frame-is-sized : (f : Format) → FrameIsSized f
 frame-is-sized = frame-sized
 
-pub bytes-add-up : (f : Framing) → BytesAddUp f
+pub read-is-sized : (m : Format) → ReadIsSized m
+read-is-sized = optional.read-sized
+
+pub bytes-add-up : (f : Format) → BytesAddUp f
 bytes-add-up = rules.bytes-add-up
 
 pub taken-is-inside : TakenIsInside
@@ -95,40 +103,40 @@ view-stays-inside = views.view-stays-inside
 pub drain-is-sized : DrainIsSized
 drain-is-sized = draining.drain-is-sized
 
-pub rule-is-sized : (f : Framing) → RuleIsSized f
+pub rule-is-sized : (f : Format) → RuleIsSized f
 rule-is-sized = draining.rule-is-sized
 
-pub calls-follow-rule : (f : Framing) → CallsFollowRule f
+pub calls-follow-rule : (f : Format) → CallsFollowRule f
 calls-follow-rule = calling.calls-follow-rule
 
-pub clean-line : (f : Framing) → CleanLine f
+pub clean-line : (f : Format) → CleanLine f
 clean-line = stretches.clean-line
 
 pub ascii-recovers : AsciiRecovers
 ascii-recovers = ascii-recovery.ascii-recovers
 
-pub binary-recovers : BinaryRecovers
+pub binary-recovers : (footer : Footer) → BinaryRecovers footer
 binary-recovers = binary-recovery.binary-recovers
 
-pub late-frames-come-back : LateFramesComeBack
+pub late-frames-come-back : (footer : Footer) → LateFramesComeBack footer
 late-frames-come-back = binary-recovery.late-frames-come-back
 
 pub ascii-calls-recover : AsciiCallsRecover
 ascii-calls-recover = calls-recovery.ascii-calls-recover
 
-pub binary-calls-recover : BinaryCallsRecover
+pub binary-calls-recover : (footer : Footer) → BinaryCallsRecover footer
 binary-calls-recover = calls-recovery.binary-calls-recover
 
-pub clean-calls : (f : Framing) → CleanCalls f
+pub clean-calls : (f : Format) → CleanCalls f
 clean-calls = calls-recovery.clean-calls
 
-pub can-drive : (f : Framing) → CanDrive f
+pub can-drive : (f : Format) → CanDrive f
 can-drive = driving.can-drive
 
-pub drives-are-short : (f : Framing) → DrivesAreShort f
+pub drives-are-short : (f : Format) → DrivesAreShort f
 drives-are-short = driving.drives-are-short
 
-pub state-never-refused : (f : Framing) → StateNeverRefused f
+pub state-never-refused : (f : Format) → StateNeverRefused f
 state-never-refused = refusals.state-never-refused
 
 pub feed-stays-in-limit : FeedStaysInLimit
@@ -137,11 +145,29 @@ feed-stays-in-limit = refusals.feed-stays-in-limit
 pub quiet-stays-in-limit : QuietStaysInLimit
 quiet-stays-in-limit = refusals.quiet-stays-in-limit
 
-pub ends-fresh : (f : Framing) → EndsFresh f
+pub ends-fresh : (f : Format) → EndsFresh f
 ends-fresh = calling.ends-fresh
 
-pub lost-and-back : LostAndBack
+pub lost-and-back : (footer : Footer) → LostAndBack footer
 lost-and-back = recovery-examples.lost-and-back
 
-pub proviso-needed : ProvisoNeeded
+pub proviso-needed : (footer : Footer) → ProvisoNeeded footer
 proviso-needed = recovery-examples.proviso-needed
+
+pub mixed-endings : MixedEndings
+mixed-endings = recovery-examples.mixed-endings
+
+pub footer-required : FooterRequired
+footer-required = recovery-examples.footer-required
+
+pub next-call-takes-it : NextCallTakesIt
+next-call-takes-it = mark-examples.next-call-takes-it
+
+pub held-behind-the-frame : HeldBehindTheFrame
+held-behind-the-frame = mark-examples.held-behind-the-frame
+
+pub quiet-ends-it : QuietEndsIt
+quiet-ends-it = mark-examples.quiet-ends-it
+
+pub ascii-back : AsciiBack
+ascii-back = recovery-examples.ascii-back

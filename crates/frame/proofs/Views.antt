@@ -10,7 +10,7 @@ use lib.Dec.{leb, eqb}
 use lib.ListN.{length, take, drop, length-drop}
 use lib.Seq.{drop-drop}
 use Rattle.frame.specs.Framing.{limit}
-use Rattle.frame.specs.Reader.{State, holding, Called, line, after, stateOf, Holds, refusalValues, valuesAt, bufferAt, sound, lineRefusalNumber}
+use Rattle.frame.specs.Reader.{State, holding, Called, lineBehind, line, after, stateOf, Holds, refusalValues, valuesAt, bufferAt, sound, lineRefusalNumber}
 use Rattle.frame.specs.Reader.{feedRefusal}
 use Rattle.frame.specs.Reader.{feedValuesOf, Feeds}
 use Rattle.frame.specs.Refusal.{numberOf}
@@ -41,17 +41,17 @@ both false b e = absurd (false≢true e)
 pub record Inside (v : View) (size : ℕ) : Type 0 where
   pub onward : v .from ≤ v .end
   pub there : v .end ≤ size
-  pub fits : v .end - v .from ≤ limit (v .framing)
+  pub fits : v .end - v .from ≤ limit (v .format)
 
 pub is-inside : (v : View) (size : ℕ) → inside v size ≡ true → Inside v size
 is-inside v size e =
-    let h = both (leb (v .from) (v .end)) (leb (v .end) size && leb (v .end - v .from) (limit (v .framing))) e in
-    let k = both (leb (v .end) size) (leb (v .end - v .from) (limit (v .framing))) (h .1) in
+    let h = both (leb (v .from) (v .end)) (leb (v .end) size && leb (v .end - v .from) (limit (v .format))) e in
+    let k = both (leb (v .end) size) (leb (v .end - v .from) (limit (v .format))) (h .1) in
     record { onward = leb-true _ _ (h .0); there = leb-true _ _ (k .0); fits = leb-true _ _ (k .1) }
 
 pub inside-is : (v : View) (size : ℕ) → Inside v size → inside v size ≡ true
 inside-is v size h =
-    simp (le-leb (v .from) (v .end) (h .onward), le-leb (v .end) size (h .there), le-leb (v .end - v .from) (limit (v .framing)) (h .fits))
+    simp (le-leb (v .from) (v .end) (h .onward), le-leb (v .end) size (h .there), le-leb (v .end - v .from) (limit (v .format)) (h .fits))
 
 -- The part of a view has as many bytes as it says.
 pub part-length : (v : View) (chunk : List ℕ) → Inside v (length chunk) → length (part (v .from) (v .end) chunk) ≡ v .end - v .from
@@ -59,7 +59,7 @@ part-length v chunk h = part-size (v .from) (v .end) chunk (h .onward) (h .there
 
 -- The reader of a view that lies in the chunk.
 stands-state : (v : View) (chunk : List ℕ) (r : Reader) → inside v (length chunk) ≡ true → Stands v chunk r → Holds (viewed v chunk) r
-stands-state v chunk r e h = subst (λ (q : Bool). Holds (cond q (viewed v chunk) (holding (v .framing) [])) r) e h
+stands-state v chunk r e h = subst (λ (q : Bool). Holds (cond q (viewed v chunk) (holding (v .format) [] false)) r) e h
 
 -- The view that follows a call lies in the chunk.
 next-inside :
@@ -67,13 +67,13 @@ next-inside :
 next-inside v chunk v′ h k =
     let c : Called = viewCall v chunk in
     let taken : c .taken ≤ length (drop (v .end) chunk) = line-taken (viewed v chunk) (drop (v .end) chunk) in
-    let framing : v′ .framing ≡ v .framing = ap (λ (s : State). s .framing) (k .state) in
-    let few : length (c .held) ≤ limit (v .framing) =
+    let format : v′ .format ≡ v .format = ap (λ (s : State). s .format) (k .state) in
+    let few : length (c .held) ≤ limit (v .format) =
     line-size (viewed v chunk) (drop (v .end) chunk) (rw (part-length v chunk h) (h .fits)) in
     record {
       onward = omega (arith, k .from);
       there = omega (arith, k .end, length-drop (v .end) chunk, h .there);
-      fits = rw framing (omega (arith, k .from));
+      fits = rw format (omega (arith, k .from));
     }
 
 pub view-stays-inside : ViewStaysInside
@@ -89,9 +89,9 @@ same-refusal :
     viewRefusal v room (length chunk) ≡ feedRefusal r room (length chunk)
 same-refusal v chunk room r e h =
     let k = is-inside v (length chunk) e in
-    let framing : r .framing ≡ v .framing = ap (λ (s : State). s .framing) (h .state) in
-    let few : r .count ≤ limit (r .framing) = rw framing (omega (arith, h .count, part-length v chunk k, k .fits)) in
-    ap (λ (q : Bool). lineRefusalNumber q room (length chunk)) (e ∙ sym (le-leb (r .count) (limit (r .framing)) few))
+    let format : r .format ≡ v .format = ap (λ (s : State). s .format) (h .state) in
+    let few : r .count ≤ limit (r .format) = rw format (omega (arith, h .count, part-length v chunk k, k .fits)) in
+    ap (λ (q : Bool). lineRefusalNumber q room (length chunk)) (e ∙ sym (le-leb (r .count) (limit (r .format)) few))
 
 -- Where a chunk is not refused, no shorter one is.
 shorter : (q : Bool) (room size less : ℕ) → less ≤ size → lineRefusalNumber q room size ≡ 0 → lineRefusalNumber q room less ≡ 0
@@ -163,13 +163,13 @@ pub kept-views :
     (v : View) (chunk buf buf′ : List ℕ) (k : Kept) → Inside v (length chunk) → 256 ≤ length buf → length chunk ≤ 65536 →
     let w : List ℕ = drop (v .from) chunk in
     let count : ℕ = v .end - v .from in
-    KeepsCall (line (holding (v .framing) (take count w)) (drop count w)) count w k buf buf′ →
-    Views v chunk buf (record { view = record { framing = v .framing; from = v .from + k .from; end = v .from + k .end }; answer = k .answer }) buf′
+    KeepsCall (lineBehind (v .format) (v .follows) (take count w) (drop count w)) count w k buf buf′ →
+    Views v chunk buf (record { view = record { format = v .format; from = v .from + k .from; end = v .from + k .end; follows = k .follows }; answer = k .answer }) buf′
 kept-views v chunk buf buf′ k h room few kept =
     let w : List ℕ = drop (v .from) chunk in
     let count : ℕ = v .end - v .from in
     let end : v .from + count ≡ v .end = omega (arith, h .onward) in
-    let same : line (holding (v .framing) (take count w)) (drop count w) ≡ viewCall v chunk =
+    let same : lineBehind (v .format) (v .follows) (take count w) (drop count w) ≡ viewCall v chunk =
     ap (line (viewed v chunk)) (drop-drop count (v .from) chunk ∙ ap (λ (n : ℕ). drop n chunk) end) in
     let g : KeepsCall (viewCall v chunk) count w k buf buf′ = subst (λ (c : Called). KeepsCall c count w k buf buf′) same kept in
     let size : length (viewCall v chunk .held) ≡ k .end - k .from = ap length (sym (g .held)) ∙ part-size (k .from) (k .end) w (g .inside) (g .there) in
@@ -179,6 +179,6 @@ kept-views v chunk buf buf′ k h room few kept =
     (record {
       end = omega (arith, g .ends);
       from = omega (arith, g .inside);
-      state = ap (holding (v .framing)) (sym (part-rest (v .from) (k .from) (k .end) chunk) ∙ g .held);
+      state = ap₂ (holding (v .format)) (sym (part-rest (v .from) (k .from) (k .end) chunk) ∙ g .held) (g .follows);
     })
     (g .buffer)

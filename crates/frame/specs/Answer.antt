@@ -2,14 +2,16 @@
 use Prim.Native.Nat.{ℕ, _+_, _-_, _≤_}
 use mathlib.Core.Path.{_≡_}
 use mathlib.Core.List.{List, [], _∷_}
+use mathlib.Core.Bool.{false}
 use lib.ListN.{length, drop}
 use Rattle.frame.specs.Checks.{cut, frame}
-use Rattle.frame.specs.Framing.{judge}
+use Rattle.frame.specs.Framing.{judge, mayFollow}
 use Rattle.frame.specs.Rule.{output}
-use Rattle.frame.specs.Reader.{Called, called, feedValuesOf, valuesAt}
+use Rattle.frame.specs.Reader.{Called, called, tookFirst, feedValuesOf, valuesAt}
 use Rattle.frame.specs.View.{part}
 use Rattle.frame.specs.Scan.{Stop, found, undecided, passed, Scanned, scanFrom}
-use Rattle.frame.specs.declared.framing.Framing.{Framing}
+use Rattle.frame.specs.declared.framing.Format.{Format}
+use Rattle.frame.specs.declared.answer.FeedAnswer.{FeedAnswer}
 use Rattle.frame.specs.declared.answer.Before.{Before}
 use Rattle.frame.specs.declared.answer.Kept.{Kept}
 
@@ -17,27 +19,31 @@ use Rattle.frame.specs.declared.answer.Kept.{Kept}
 abbrev pub beforeScan : ℕ → ℕ → ℕ → Before
 beforeScan base noise size = record { base = base; noise = noise; size = size }
 
--- What a scan of w that stopped so gives as a call.
-abbrev pub calledAs : Stop → Before → List ℕ → ℕ → ℕ → Called
-calledAs (found used p) before w place reach =
-    called (reach - before .base) (output (p ∷ []) (before .noise + place)) (part (place + used) reach w)
-calledAs undecided before w place reach = called (before .size) (output [] (before .noise + place)) (drop place w)
-calledAs passed before w place reach = called (before .size) (output [] (before .noise + place)) []
+-- Where an answer stands for a call, r stands for the call that took n bytes more, before the others.
+abbrev pub TookFirst : ℕ → FeedAnswer → FeedAnswer → Type 0
+TookFirst n answer r = (c : Called) → feedValuesOf answer ≡ valuesAt c → feedValuesOf r ≡ valuesAt (tookFirst n c)
 
-abbrev pub calledBy : Before → List ℕ → Scanned → Called
-calledBy before w x = calledAs (x .stop) before w (x .place) (x .reach)
+-- What a scan of w that stopped so gives as a call.
+abbrev pub calledAs : Format → Stop → Before → List ℕ → ℕ → ℕ → Called
+calledAs m (found used p) before w place reach =
+    called (reach - before .base) (output (p ∷ []) (before .noise + place)) (part (place + used) reach w) (mayFollow m)
+calledAs m undecided before w place reach = called (before .size) (output [] (before .noise + place)) (drop place w) false
+calledAs m passed before w place reach = called (before .size) (output [] (before .noise + place)) [] false
+
+abbrev pub calledBy : Format → Before → List ℕ → Scanned → Called
+calledBy m before w x = calledAs m (x .stop) before w (x .place) (x .reach)
 
 -- The call over all of w, whose first `base` bytes were held, where bytes up to `reach` were judged before and `noise` bytes before w were settled.
-abbrev pub scanWhole : Framing → ℕ → ℕ → ℕ → List ℕ → Called
-scanWhole f base noise reach w = calledBy (beforeScan base noise (length w - base)) w (scanFrom (judge f) (length w) 0 reach w)
+abbrev pub scanWhole : Format → ℕ → ℕ → ℕ → List ℕ → Called
+scanWhole f base noise reach w = calledBy f (beforeScan base noise (length w - base)) w (scanFrom (judge f) (length w) 0 reach w)
 
 -- A scan's result from which an answer can be made.
-abbrev pub Usable : Stop → Framing → List ℕ → ℕ → ℕ → Type 0
+abbrev pub Usable : Stop → Format → List ℕ → ℕ → ℕ → Type 0
 Usable (found used p) f w place reach = (judge f (drop place w) ≡ frame used p) × (place + used ≤ reach) × (reach ≤ place + 517)
 Usable undecided f w place reach = judge f (drop place w) ≡ cut
 Usable passed f w place reach = Unit {0}
 
-pub record Answerable (f : Framing) (w : List ℕ) (x : Scanned) (before : Before) : Type 0 where
+pub record Answerable (f : Format) (w : List ℕ) (x : Scanned) (before : Before) : Type 0 where
   pub usable : Usable (x .stop) f w (x .place) (x .reach)
   pub inside : x .place ≤ length w
   pub from : before .base ≤ x .reach
@@ -51,9 +57,10 @@ keptEnd undecided w reach = length w
 keptEnd passed w reach = length w
 
 -- The answer that is made of a scan of w, and the part of w that is held afterwards. The buffer is another function's.
-pub record Keeps (before : Before) (w : List ℕ) (x : Scanned) (k : Kept) : Type 0 where
-  pub values : feedValuesOf (k .answer) ≡ valuesAt (calledBy before w x)
-  pub held : part (k .from) (k .end) w ≡ calledBy before w x .held
+pub record Keeps (m : Format) (before : Before) (w : List ℕ) (x : Scanned) (k : Kept) : Type 0 where
+  pub values : feedValuesOf (k .answer) ≡ valuesAt (calledBy m before w x)
+  pub held : part (k .from) (k .end) w ≡ calledBy m before w x .held
+  pub follows : k .follows ≡ calledBy m before w x .follows
   pub inside : k .from ≤ k .end
   pub there : k .end ≤ length w
   pub most : k .end ≤ k .from + 517

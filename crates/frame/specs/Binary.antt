@@ -1,5 +1,5 @@
 -- Binary framing. Document 01, "Two framings": A5 5A; a 16-bit number, 0x8000 plus the payload length; the payload; the XOR of
--- its bytes; 04. Numbers are big-endian.
+-- its bytes; 04. Numbers are big-endian. Document 02, CR 2: on input the 04 may be missing, unless a reader requires it.
 use Prim.Native.Nat.{ℕ, _+_, _-_, _/_, _%_}
 use mathlib.Core.List.{List, [], _∷_, _++_}
 use mathlib.Core.Bool.{Bool, _&&_}
@@ -7,6 +7,8 @@ use lib.Bits.{bitXor}
 use lib.Dec.{leb}
 use lib.ListN.{length}
 use Rattle.frame.specs.Checks.{Checks, whole, byte, test, word, bytes}
+use Rattle.frame.specs.declared.framing.Footer.{Footer}
+use Rattle.frame.specs.declared.framing.Footer.the-variants.{Optional, Required}
 
 -- The XOR of a and the bytes.
 abbrev pub xorFrom : ℕ → List ℕ → ℕ
@@ -25,9 +27,13 @@ bigEndian n = n / 256 ∷ n % 256 ∷ []
 unfoldable pub binaryFront : List ℕ → List ℕ
 binaryFront p = 0xA5 ∷ 0x5A ∷ (bigEndian (0x8000 + length p) ++ (p ++ (xorOf p ∷ [])))
 
+-- The footer.
+abbrev pub footerByte : ℕ
+footerByte = 0x04
+
 -- The bytes of the ending.
 abbrev pub binaryEnding : List ℕ
-binaryEnding = 0x04 ∷ []
+binaryEnding = footerByte ∷ []
 
 -- The number before the payload is 0x8000 plus a length from 1 to 256.
 abbrev pub lengthWord : ℕ → Bool
@@ -41,6 +47,11 @@ body end n = bytes n (λ p. byte (xorOf p) 4 (end p))
 unfoldable pub binary : (List ℕ → Checks) → Checks
 binary end = byte 0xA5 1 (byte 0x5A 1 (word (λ w. test (lengthWord w) 3 (body end (w - 0x8000)))))
 
--- The ending of a frame with the payload p: the footer 04 (5).
+-- The ending of a frame with the payload p, where the footer is required: it is there (5).
 unfoldable pub footer : List ℕ → Checks
-footer p = byte 0x04 5 (whole p)
+footer p = byte footerByte 5 (whole p)
+
+-- Where it is optional, the frame is complete at its checksum.
+abbrev pub ending : Footer → List ℕ → Checks
+ending Optional p = whole p
+ending Required p = footer p

@@ -1,20 +1,24 @@
 -- What is claimed of single frames, of the leftmost rule, of line calls and of lists of calls, in that order; the claims on damage stand in Recovery.antt.
--- proofs/Theorems.antt proves each claim.
+-- proofs/Theorems.antt proves each claim, one that takes a format for every format.
 use Prim.Native.Nat.{ℕ, _+_, _≤_, _<_}
 use mathlib.Core.Path.{_≡_}
-use mathlib.Core.List.{List, [], _++_, map}
+use mathlib.Core.List.{List, [], _∷_, _++_, map, List·Memᴰ}
 use mathlib.Core.Bool.{true}
 use mathlib.Core.Logic.{_⊎_}
 use lib.ListN.{length, take, drop}
 use Rattle.frame.specs.Checks.{Verdict, cut, refused, frame}
 use Rattle.frame.specs.Hex.{sumOf}
-use Rattle.frame.specs.Framing.{judge, read, layout, limit}
+use Rattle.frame.specs.Binary.{binaryEnding}
+use Rattle.frame.specs.Ascii.{asciiEnding}
+use Rattle.frame.specs.Framing.{judge, read, mayFollow, absorbed, front, layout, framingOf, limit}
 use Rattle.frame.specs.Rule.{Output, Found, rule, payloads}
 use Rattle.frame.specs.Reader.{State, holding, Called, line, newReader, feedValuesOf, Feeds}
 use Rattle.frame.specs.View.{inside, Views, Stands}
 use Rattle.frame.specs.Elements.{Bytes}
 use Rattle.frame.specs.Calls.{Refused, Answered, Calls, offering}
-use Rattle.frame.specs.declared.framing.Framing.{Framing}
+use Rattle.frame.specs.declared.framing.Footer.the-variants.{Optional, Required}
+use Rattle.frame.specs.declared.framing.Format.{Format}
+use Rattle.frame.specs.declared.framing.Format.the-variants.{Binary, Ascii}
 use Rattle.frame.specs.declared.reader.Reader.{Reader}
 use Rattle.frame.specs.declared.view.View.{View}
 use Rattle.frame.specs.declared.view.Viewed.{Viewed}
@@ -25,19 +29,39 @@ pub record Payload (p : List ℕ) : Type 0 where
   pub some : 1 ≤ length p
   pub most : length p ≤ 256
 
--- What the layout gives is read as a frame of just that length with just that payload, whatever bytes follow.
-abbrev pub LayoutReads : Framing → Type 0
-LayoutReads f = (p more : List ℕ) → Payload p → read f (layout f p ++ more) ≡ frame (length (layout f p)) p
+-- In every format of a framing, what its layout gives is read as a frame of just that length with just that payload, whatever bytes follow.
+abbrev pub LayoutReads : Format → Type 0
+LayoutReads m =
+    (p more : List ℕ) → Payload p → let whole : List ℕ = layout (framingOf m) p in read m (whole ++ more) ≡ frame (length whole) p
 
--- The bytes used of s are the layout of a payload.
-pub record IsLayout (f : Framing) (s : List ℕ) (used : ℕ) (p : List ℕ) : Type 0 where
-  pub bytes : take used s ≡ layout f p
-  pub count : used ≡ length (layout f p)
+-- The endings that a frame may have in a format: the published one; where the footer is optional, also none.
+abbrev pub endings : Format → List (List ℕ)
+endings (Binary Optional) = binaryEnding ∷ [] ∷ []
+endings (Binary Required) = binaryEnding ∷ []
+endings Ascii = asciiEnding ∷ []
+
+-- The front of a frame and any of its endings are read as a frame of just that length with just that payload, whatever bytes follow that do not begin with
+-- an optional one.
+abbrev pub EndingsRead : Format → Type 0
+EndingsRead m =
+    (p ending more : List ℕ) → Payload p → List·Memᴰ ending (endings m) → absorbed m (mayFollow m) more ≡ 0 →
+    let whole : List ℕ = front (framingOf m) p ++ ending in read m (whole ++ more) ≡ frame (length whole) p
+
+-- Document 02, CR 2: where the footer is optional, 5 is never given.
+abbrev pub NeverFive : Type 0
+NeverFive = (s : List ℕ) (judged : ℕ) → read (Binary Optional) s ≡ refused judged 5 → ⊥
+
+-- The bytes used of s are the front of a frame with this payload and an ending.
+pub record IsLayout (m : Format) (s : List ℕ) (used : ℕ) (p : List ℕ) : Type 0 where
+  pub ending : List ℕ
+  pub ends : List·Memᴰ ending (endings m)
+  pub bytes : take used s ≡ front (framingOf m) p ++ ending
+  pub count : used ≡ length (front (framingOf m) p ++ ending)
   pub payload : Payload p
 
--- Of bytes, whatever is read as a frame is the layout of its payload: the encoding is unique.
-abbrev pub FrameIsLayout : Framing → Type 0
-FrameIsLayout f = (s p : List ℕ) (used : ℕ) → Bytes s → read f s ≡ frame used p → IsLayout f s used p
+-- Of bytes, whatever is read as a frame is the layout of its payload, with one of the format's endings: the encoding is unique but for these.
+abbrev pub FrameIsLayout : Format → Type 0
+FrameIsLayout m = (s p : List ℕ) (used : ℕ) → Bytes s → read m s ≡ frame used p → IsLayout m s used p
 
 -- The bytes are enough for a decision.
 abbrev pub Decided : Verdict → Type 0
@@ -46,25 +70,28 @@ Decided (refused judged n) = Unit {0}
 Decided (frame used p) = Unit {0}
 
 -- A decision stands when more bytes follow.
-abbrev pub DecisionStands : Framing → Type 0
+abbrev pub DecisionStands : Format → Type 0
 DecisionStands f = (s more : List ℕ) → Decided (judge f s) → judge f (s ++ more) ≡ judge f s
 
 -- Bytes still undecided are fewer than the limit.
-abbrev pub UndecidedIsShort : Framing → Type 0
+abbrev pub UndecidedIsShort : Format → Type 0
 UndecidedIsShort f = (s : List ℕ) → judge f s ≡ cut → length s < limit f
 
 -- As many bytes of s as a frame can use: at least one, at most the limit, and no more than there are.
-pub record Sized (f : Framing) (s : List ℕ) (used : ℕ) : Type 0 where
+pub record Sized (f : Format) (s : List ℕ) (used : ℕ) : Type 0 where
   pub some : 1 ≤ used
   pub most : used ≤ limit f
   pub there : used ≤ length s
 
--- A frame that was judged uses so many.
-abbrev pub FrameIsSized : Framing → Type 0
+-- A frame that was judged uses so many, and so does one that is read, with its optional byte.
+abbrev pub FrameIsSized : Format → Type 0
 FrameIsSized f = (s p : List ℕ) (used : ℕ) → judge f s ≡ frame used p → Sized f s used
 
+abbrev pub ReadIsSized : Format → Type 0
+ReadIsSized f = (s p : List ℕ) (used : ℕ) → read f s ≡ frame used p → Sized f s used
+
 -- The bytes of a segment are those of its frames and noise.
-abbrev pub BytesAddUp : Framing → Type 0
+abbrev pub BytesAddUp : Format → Type 0
 BytesAddUp f = (s : List ℕ) → sumOf (map (λ (x : Found). x .used) (rule f s .frames)) + rule f s .noise ≡ length s
 
 -- A line call takes no more bytes than the chunk has.
@@ -81,20 +108,20 @@ abbrev pub NeedsMoreIsTrue : Type 0
 NeedsMoreIsTrue =
     (s : State) (chunk : List ℕ) →
     let c : Called = line s chunk in
-    c .out .frames ≡ [] → (c .taken ≡ length chunk) × ((c .held ≡ []) ⊎ (judge (s .framing) (c .held) ≡ cut))
+    c .out .frames ≡ [] → (c .taken ≡ length chunk) × ((c .held ≡ []) ⊎ (judge (s .format) (c .held) ≡ cut))
 
 -- The bytes that a call over a chunk leaves for later ones: those held, and then those not taken.
 abbrev pub remaining : Called → List ℕ → List ℕ
 remaining c chunk = c .held ++ drop (c .taken) chunk
 
--- A line call's answer is that of the held bytes followed by the chunk: it hands out, noise too, and leaves what a call does that holds nothing and is
--- offered both.
+-- A line call's answer is that of the held bytes followed by the chunk: it hands out, noise too, and leaves, the mark too, what a call does that has the
+-- same mark, holds nothing and is offered both.
 abbrev pub HeldThenChunk : Type 0
 HeldThenChunk =
     (s : State) (chunk : List ℕ) →
     let c : Called = line s chunk in
-    let whole : Called = line (holding (s .framing) []) (s .held ++ chunk) in
-    (c .out ≡ whole .out) × (remaining c chunk ≡ remaining whole (s .held ++ chunk))
+    let whole : Called = line (holding (s .format) [] (s .follows)) (s .held ++ chunk) in
+    (c .out ≡ whole .out) × (remaining c chunk ≡ remaining whole (s .held ++ chunk)) × (c .follows ≡ whole .follows)
 
 -- Where the view is inside the chunk, its call is the line call of the reader that it stands for, offered what stands behind the view in the chunk, and the
 -- view that follows stands for the reader that follows; where it is refused, that reader is refused so with the chunk. So lists of calls admit it.
@@ -116,5 +143,5 @@ ViewStaysInside =
     inside (a .view) (length chunk) ≡ true
 
 -- Any list of calls hands out what the rule gives over the whole segment.
-abbrev pub CallsFollowRule : Framing → Type 0
+abbrev pub CallsFollowRule : Format → Type 0
 CallsFollowRule f = (segment : List ℕ) (out : Output (List ℕ)) → Calls offering (newReader f) segment out → out ≡ payloads (rule f segment)

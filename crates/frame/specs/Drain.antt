@@ -2,35 +2,45 @@
 -- empty rest, until more bytes are needed.
 use Prim.Native.Nat.{ℕ, zero, suc}
 use mathlib.Core.List.{List, [], _∷_, _++_}
+use mathlib.Core.Bool.{Bool, false, cond, _&&_}
 use Rattle.frame.specs.Checks.{Verdict, cut, refused, frame}
-use Rattle.frame.specs.Framing.{judge}
+use Rattle.frame.specs.Framing.{judge, mayFollow, isOptional, behindOptional}
 use Rattle.frame.specs.Rule.{Output, nothing, noiseByte, handed, join, passAfter, rule, payloads}
 use Rattle.frame.specs.Reader.{State, holding, Settled, settled}
-use Rattle.frame.specs.declared.framing.Framing.{Framing}
+use Rattle.frame.specs.declared.framing.Format.{Format}
 
 -- An output, and then what was settled.
 abbrev pub before : Output (List ℕ) → Settled → Settled
-before o st = settled (join o (st .out)) (st .rest)
+before o st = settled (join o (st .out)) (st .rest) (st .follows)
 
 -- The rule at a place of a segment that goes on: undecided bytes stay.
 abbrev pub drainAs : Verdict → List ℕ → Settled → Settled
-drainAs cut s later = settled nothing s
+drainAs cut s later = settled nothing s false
 drainAs (refused judged n) s later = before noiseByte later
 drainAs (frame used p) s later = before (handed p) later
 
--- The leftmost rule over s, with `pass` bytes to pass over first, as far as it is settled: from the first undecided place on the bytes stay.
-unfoldable pub drainFrom : Framing → ℕ → List ℕ → Settled
-drainFrom f pass [] = settled nothing []
-drainFrom f zero (b ∷ s) = drainAs (judge f (b ∷ s)) (b ∷ s) (drainFrom f (passAfter (judge f (b ∷ s))) s)
-drainFrom f (suc pass) (b ∷ s) = drainFrom f pass s
+-- Whether an optional byte may follow what stands at a place.
+abbrev pub followsAfter : Format → Verdict → Bool
+followsAfter m cut = false
+followsAfter m (refused judged n) = false
+followsAfter m (frame used p) = mayFollow m
+
+-- The leftmost rule over s, with `pass` bytes to pass over first, as far as it is settled: from the first undecided place on the bytes stay. `follows`
+-- says whether the byte behind those that are passed over may be an optional one, which is then passed over too.
+unfoldable pub drainFrom : Format → Bool → ℕ → List ℕ → Settled
+drainFrom m follows pass [] = settled nothing [] follows
+drainFrom m follows (suc pass) (b ∷ s) = drainFrom m follows pass s
+drainFrom m follows zero (b ∷ s) =
+    let v : Verdict = judge m (b ∷ s) in
+    cond (follows && isOptional m b) (drainFrom m false zero s) (drainAs v (b ∷ s) (drainFrom m (followsAfter m v) (passAfter v) s))
 
 -- What the line calls over a chunk give together from a state on, and the state that follows them.
 abbrev pub drain : State → List ℕ → Settled
-drain s chunk = drainFrom (s .framing) 0 (s .held ++ chunk)
+drain s chunk = drainFrom (s .format) (s .follows) 0 (s .held ++ chunk)
 
 abbrev pub afterDrain : State → Settled → State
-afterDrain s d = holding (s .framing) (d .rest)
+afterDrain s d = holding (s .format) (d .rest) (d .follows)
 
 -- What the rule gives from a state on, where these bytes are still to come.
 abbrev pub ruleAfter : State → List ℕ → Output (List ℕ)
-ruleAfter s todo = payloads (rule (s .framing) (s .held ++ todo))
+ruleAfter s todo = payloads (rule (s .format) (behindOptional (s .format) (s .follows) (s .held ++ todo)))

@@ -8,13 +8,15 @@ use mathlib.Core.Bool.{false}
 use lib.Dec.{eqb}
 use lib.ListN.{length, drop}
 use Rattle.frame.specs.Hex.{sumOf}
-use Rattle.frame.specs.Rule.{nothing, join, rule, payloads}
+use Rattle.frame.specs.Rule.{Output, nothing, join, rule, payloads}
 use Rattle.frame.specs.Reader.{State, Settled, settled, Called, line, quiet, after, stateOf, Holds, Values, feedValuesOf}
 use Rattle.frame.specs.Reader.{quietValuesOf, feedRefusal, quietRefusal, Feeds, AfterQuiet, Quiets}
 use Rattle.frame.specs.View.{viewCall, Follows, viewRefusal, Views}
 use Rattle.frame.specs.Drain.{before, drain, afterDrain, ruleAfter}
 use Rattle.frame.specs.Calls.{Refused, Answered, outOf}
-use Rattle.frame.specs.declared.framing.Framing.{Framing}
+use Rattle.frame.specs.declared.framing.Footer.the-variants.{Optional, Required}
+use Rattle.frame.specs.declared.framing.Format.{Format}
+use Rattle.frame.specs.declared.framing.Format.the-variants.{Binary, Ascii}
 use Rattle.frame.specs.declared.reader.Reader.{Reader}
 use Rattle.frame.specs.declared.reader.Fed.{Fed}
 use Rattle.frame.specs.declared.reader.Quieted.{Quieted}
@@ -29,7 +31,7 @@ LineDrains =
 -- Where no frame comes out of a line call, all is drained.
 abbrev pub NeedsMoreIsDrained : Type 0
 NeedsMoreIsDrained =
-    (s : State) (chunk : List ℕ) → let c : Called = line s chunk in c .out .frames ≡ [] → drain (after s c) [] ≡ settled nothing (c .held)
+    (s : State) (chunk : List ℕ) → let c : Called = line s chunk in c .out .frames ≡ [] → drain (after s c) [] ≡ settled nothing (c .held) (c .follows)
 
 -- What is drained, and then the rule over what is left and what follows, is the rule over all.
 abbrev pub DrainFollowsRule : Type 0
@@ -64,7 +66,7 @@ abbrev pub QuietReports : Type 0
 QuietReports =
     (r : Reader) (buf : List ℕ) (a : Quieted) (buf′ : List ℕ) → Quiets r buf a buf′ →
     let c : Called = quiet (stateOf r) in
-    Reports (quietRefusal r (length buf)) c (AfterQuiet (stateOf r) c (c .out .frames)) r buf (quietValuesOf (a .answer)) (a .reader) buf′
+    Reports (quietRefusal r (length buf)) c (AfterQuiet (r .format) c (c .out .frames)) r buf (quietValuesOf (a .answer)) (a .reader) buf′
 
 abbrev pub ViewReports : Type 0
 ViewReports =
@@ -72,13 +74,22 @@ ViewReports =
     let c : Called = viewCall v chunk in
     Reports (viewRefusal v (length buf) (length chunk)) c (Follows v chunk c) v buf (feedValuesOf (a .answer)) (a .view) buf′
 
--- Each payload that is drained takes its length and six bytes or more, and each byte of noise one.
+-- The bytes of a frame besides its payload, at least: those of a binary one without its footer, or with it; an ASCII one has five and its payload twice.
+abbrev pub overhead : Format → ℕ
+overhead (Binary Optional) = 5
+overhead (Binary Required) = 6
+overhead Ascii = 6
+
+-- The bytes that an output takes at least: each payload its length and those, each byte of noise one.
+abbrev pub sizeOf : Format → Output (List ℕ) → ℕ
+sizeOf m o = sumOf (map (λ p. length p + overhead m) (o .frames)) + o .noise
+
+-- What is drained takes no more bytes than were held and offered.
 abbrev pub DrainIsSized : Type 0
 DrainIsSized =
     (s : State) (chunk : List ℕ) →
-    let d : Settled = drain s chunk in
-    sumOf (map (λ p. length p + 6) (d .out .frames)) + d .out .noise + length (d .rest) ≤ length (s .held) + length chunk
+    let d : Settled = drain s chunk in sizeOf (s .format) (d .out) + length (d .rest) ≤ length (s .held) + length chunk
 
--- So does each payload that the rule gives.
-abbrev pub RuleIsSized : Framing → Type 0
-RuleIsSized f = (s : List ℕ) → sumOf (map (λ p. length p + 6) (payloads (rule f s) .frames)) + payloads (rule f s) .noise ≤ length s
+-- What the rule gives takes no more than the segment has.
+abbrev pub RuleIsSized : Format → Type 0
+RuleIsSized m = (s : List ℕ) → sizeOf m (payloads (rule m s)) ≤ length s

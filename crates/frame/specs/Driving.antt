@@ -10,7 +10,7 @@ use Rattle.frame.specs.Rule.{Output}
 use Rattle.frame.specs.Reader.{newReader, Values, feedValuesOf, quietValuesOf, Feeds, Quiets}
 use Rattle.frame.specs.Elements.{All}
 use Rattle.frame.specs.Calls.{Phase, offering, Calls, fed, taken, quieted, emptied, feedRefused, quietRefused, done}
-use Rattle.frame.specs.declared.framing.Framing.{Framing}
+use Rattle.frame.specs.declared.framing.Format.{Format}
 use Rattle.frame.specs.declared.reader.Reader.{Reader}
 use Rattle.frame.specs.declared.reader.Fed.{Fed}
 use Rattle.frame.specs.declared.reader.Quieted.{Quieted}
@@ -63,39 +63,39 @@ Offers (quietRefused buf buf′ a p n later) chunks = ⊥
 Offers done chunks = chunks ≡ []
 
 -- A caller gets a segment through a new reader in these chunks, with no more calls than the chunks plus the bytes plus one.
-pub record Driven (f : Framing) (chunks : List (List ℕ)) : Type 0 where
+pub record Driven (f : Format) (chunks : List (List ℕ)) : Type 0 where
   pub out : Output (List ℕ)
   pub calls : Calls offering (newReader f) (flatten chunks) out
   pub offers : Offers calls chunks
   pub few : countOf calls ≤ length chunks + length (flatten chunks) + 1
 
-abbrev pub CanDrive : Framing → Type 0
+abbrev pub CanDrive : Format → Type 0
 CanDrive f = (chunks : List (List ℕ)) → All (λ chunk. length chunk ≤ 65536) chunks → Driven f chunks
 
 -- However a caller offers a segment in chunks, the calls are no more than the chunks plus the bytes plus one.
-abbrev pub DrivesAreShort : Framing → Type 0
+abbrev pub DrivesAreShort : Format → Type 0
 DrivesAreShort f =
     (chunks : List (List ℕ)) (out : Output (List ℕ)) (calls : Calls offering (newReader f) (flatten chunks) out) → Offers calls chunks →
     countOf calls ≤ length chunks + length (flatten chunks) + 1
 
 -- No call in a list from a new reader refuses the state that it gets.
-abbrev pub StateNeverRefused : Framing → Type 0
+abbrev pub StateNeverRefused : Format → Type 0
 StateNeverRefused f =
     (segment : List ℕ) (out : Output (List ℕ)) (calls : Calls offering (newReader f) segment out) → All (λ n. n ≡ 16 → ⊥) (refusalsOf calls)
 
--- Whatever state a line call gets: held bytes within the limit stay within it, and the framing stays.
+-- Whatever state a line call gets: held bytes within the limit stay within it, and the format stays.
 abbrev pub FeedStaysInLimit : Type 0
 FeedStaysInLimit =
-    (r : Reader) (chunk buf : List ℕ) (a : Fed) (buf′ : List ℕ) → Feeds r chunk buf a buf′ → r .count ≤ limit (r .framing) →
-    (a .reader .framing ≡ r .framing) × (a .reader .count ≤ limit (r .framing))
+    (r : Reader) (chunk buf : List ℕ) (a : Fed) (buf′ : List ℕ) → Feeds r chunk buf a buf′ → r .count ≤ limit (r .format) →
+    (a .reader .format ≡ r .format) × (a .reader .count ≤ limit (r .format))
 
 -- The same of a quiet call.
 abbrev pub QuietStaysInLimit : Type 0
 QuietStaysInLimit =
-    (r : Reader) (buf : List ℕ) (a : Quieted) (buf′ : List ℕ) → Quiets r buf a buf′ → r .count ≤ limit (r .framing) →
-    (a .reader .framing ≡ r .framing) × (a .reader .count ≤ limit (r .framing))
+    (r : Reader) (buf : List ℕ) (a : Quieted) (buf′ : List ℕ) → Quiets r buf a buf′ → r .count ≤ limit (r .format) →
+    (a .reader .format ≡ r .format) × (a .reader .count ≤ limit (r .format))
 
 -- A list of calls from a new reader ends in a new reader's state.
-abbrev pub EndsFresh : Framing → Type 0
+abbrev pub EndsFresh : Format → Type 0
 EndsFresh f =
     (segment : List ℕ) (out : Output (List ℕ)) (calls : Calls offering (newReader f) segment out) → lastState calls ≡ newReader f

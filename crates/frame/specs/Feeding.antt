@@ -3,39 +3,40 @@
 use Prim.Native.Nat.{ℕ, _+_, _-_, _≤_}
 use mathlib.Core.Path.{_≡_}
 use mathlib.Core.List.{List, _++_}
+use mathlib.Core.Bool.{Bool}
 use lib.ListN.{length, take, drop}
 use Rattle.frame.specs.Framing.{judge, limit}
-use Rattle.frame.specs.Reader.{State, holding, Called, line, AfterQuiet, feedValuesOf, quietValuesOf, valuesAt, bufferAt}
+use Rattle.frame.specs.Reader.{Called, lineOn, lineBehind, AfterQuiet, feedValuesOf, quietValuesOf, valuesAt, bufferAt}
 use Rattle.frame.specs.View.{part}
 use Rattle.frame.specs.Scan.{Stop, found, undecided, passed, Scanned, scanFrom}
 use Rattle.frame.specs.Answer.{beforeScan, calledAs, scanWhole}
-use Rattle.frame.specs.declared.framing.Framing.{Framing}
+use Rattle.frame.specs.declared.framing.Format.{Format}
 use Rattle.frame.specs.declared.answer.Kept.{Kept}
 use Rattle.frame.specs.declared.reader.Left.{Left}
 use Rattle.frame.specs.declared.reader.Quieted.{Quieted}
 use Rattle.frame.specs.declared.reader.Joined.{Joined}
 
 -- The held bytes and as much of the chunk as a frame that begins in them can have.
-abbrev pub joined : Framing → List ℕ → List ℕ → List ℕ
+abbrev pub joined : Format → List ℕ → List ℕ → List ℕ
 joined f held chunk = held ++ take (limit f) chunk
 
-abbrev pub scanHeld : Framing → List ℕ → List ℕ → Scanned
+abbrev pub scanHeld : Format → List ℕ → List ℕ → Scanned
 scanHeld f held chunk = scanFrom (judge f) (length held) 0 (length held) (joined f held chunk)
 
 -- The places among the held bytes first; where all fail, the chunk's.
-abbrev pub thenChunk : Stop → Framing → List ℕ → List ℕ → ℕ → ℕ → Called
+abbrev pub thenChunk : Stop → Format → List ℕ → List ℕ → ℕ → ℕ → Called
 thenChunk passed f held chunk place reach = scanWhole f 0 (length held) (reach - length held) chunk
 thenChunk undecided f held chunk place reach =
-    calledAs undecided (beforeScan (length held) 0 (length chunk)) (joined f held chunk) place reach
+    calledAs f undecided (beforeScan (length held) 0 (length chunk)) (joined f held chunk) place reach
 thenChunk (found used p) f held chunk place reach =
-    calledAs (found used p) (beforeScan (length held) 0 (length chunk)) (joined f held chunk) place reach
+    calledAs f (found used p) (beforeScan (length held) 0 (length chunk)) (joined f held chunk) place reach
 
-unfoldable pub scanLine : Framing → List ℕ → List ℕ → Called
+unfoldable pub scanLine : Format → List ℕ → List ℕ → Called
 scanLine f held chunk =
     thenChunk (scanHeld f held chunk .stop) f held chunk (scanHeld f held chunk .place) (scanHeld f held chunk .reach)
 
 -- Bytes joined in front of a larger array.
-pub record Joins (f : Framing) (held chunk : List ℕ) (j : Joined) : Type 0 where
+pub record Joins (f : Format) (held chunk : List ℕ) (j : Joined) : Type 0 where
   pub size : j .size ≡ length (joined f held chunk)
   pub bytes : take (j .size) (j .bytes) ≡ joined f held chunk
 
@@ -44,27 +45,32 @@ pub record Stores (s : List ℕ) (k : Kept) (held : List ℕ) (left : Left) : Ty
   pub answer : left .answer ≡ k .answer
   pub count : left .count ≡ length s
   pub bytes : take (left .count) held ≡ s
+  pub follows : left .follows ≡ k .follows
 
 -- A function behind `feed` answers what c gives: values, the held bytes in the front of an array, and the buffer.
 pub record Leaves (c : Called) (buf : List ℕ) (left : Left) (held buf′ : List ℕ) : Type 0 where
   pub values : feedValuesOf (left .answer) ≡ valuesAt c
   pub count : left .count ≡ length (c .held)
   pub bytes : take (left .count) held ≡ c .held
+  pub follows : left .follows ≡ c .follows
   pub buffer : buf′ ≡ bufferAt (c .out .frames) buf
 
--- The same of the line call where the first `count` bytes of an array are held.
-abbrev pub LeavesLine : Framing → List ℕ → ℕ → List ℕ → List ℕ → Left → List ℕ → List ℕ → Type 0
-LeavesLine f array count chunk buf left held buf′ = Leaves (line (holding f (take count array)) chunk) buf left held buf′
+-- The same of the line call where the first `count` bytes of an array are held, by the mark, and where no optional byte is to come.
+abbrev pub LeavesLine : Format → Bool → List ℕ → ℕ → List ℕ → List ℕ → Left → List ℕ → List ℕ → Type 0
+LeavesLine f follows array count chunk buf left held buf′ = Leaves (lineBehind f follows (take count array) chunk) buf left held buf′
+
+abbrev pub LeavesHeld : Format → List ℕ → ℕ → List ℕ → List ℕ → Left → List ℕ → List ℕ → Type 0
+LeavesHeld f array count chunk buf left held buf′ = Leaves (lineOn f (take count array) chunk) buf left held buf′
 
 -- A function behind `quiet` answers what c gives, with the reader that follows.
-pub record QuietAnswered (s : State) (c : Called) (buf : List ℕ) (q : Quieted) (buf′ : List ℕ) : Type 0 where
+pub record QuietAnswered (m : Format) (c : Called) (buf : List ℕ) (q : Quieted) (buf′ : List ℕ) : Type 0 where
   pub values : quietValuesOf (q .answer) ≡ valuesAt c
-  pub state : AfterQuiet s c (c .out .frames) (q .reader)
+  pub state : AfterQuiet m c (c .out .frames) (q .reader)
   pub buffer : buf′ ≡ bufferAt (c .out .frames) buf
 
--- The call over w, whose first `count` bytes are held and whose others are offered.
-abbrev pub lineOver : Framing → ℕ → List ℕ → Called
-lineOver f count w = line (holding f (take count w)) (drop count w)
+-- The call over w, whose first `count` bytes are held and whose others are offered, where no optional byte is to come.
+abbrev pub lineOver : Format → ℕ → List ℕ → Called
+lineOver f count w = lineOn f (take count w) (drop count w)
 
 -- What a view's call answers, and the part of w that is held afterwards, where the first `count` bytes of w were held.
 pub record KeepsCall (c : Called) (count : ℕ) (w : List ℕ) (k : Kept) (buf buf′ : List ℕ) : Type 0 where
@@ -73,17 +79,18 @@ pub record KeepsCall (c : Called) (count : ℕ) (w : List ℕ) (k : Kept) (buf b
   pub inside : k .from ≤ k .end
   pub there : k .end ≤ length w
   pub ends : k .end ≡ count + c .taken
+  pub follows : k .follows ≡ c .follows
   pub buffer : buf′ ≡ bufferAt (c .out .frames) buf
 
 -- What `feed_chunk` is called with, and what `feed_long`, `feed_short` and `feed_on` are.
-pub record ChunkFed (f : Framing) (held chunk : List ℕ) (reach noise : ℕ) (buf : List ℕ) : Type 0 where
+pub record ChunkFed (f : Format) (held chunk : List ℕ) (reach noise : ℕ) (buf : List ℕ) : Type 0 where
   pub long : 517 ≤ length held
   pub reached : reach ≤ length chunk
   pub near : reach ≤ limit f
   pub small : noise ≤ 517
   pub room : 256 ≤ length buf
 
-pub record HeldFed (f : Framing) (held : List ℕ) (count : ℕ) (buf : List ℕ) : Type 0 where
+pub record HeldFed (f : Format) (held : List ℕ) (count : ℕ) (buf : List ℕ) : Type 0 where
   pub long : 517 ≤ length held
   pub fits : count ≤ limit f
   pub room : 256 ≤ length buf

@@ -1,45 +1,88 @@
--- The two framings under one name: what document 01 says of both is said once, over the framing.
-use Prim.Native.Nat.{ℕ}
-use mathlib.Core.List.{List, _++_}
+-- The two framings, and the formats in which they are read, under one name: what documents 01 and 02 say of all is said once, over the framing where
+-- frames are laid out, and over the format where they are read.
+use Prim.Native.Nat.{ℕ, _+_}
+use mathlib.Core.List.{List, [], _∷_, _++_}
+use mathlib.Core.Bool.{Bool, true, false, cond}
+use lib.Dec.{eqb}
 use lib.ListN.{length, drop}
-use Rattle.frame.specs.Checks.{Checks, Verdict, run}
-use Rattle.frame.specs.Binary.{binary, binaryFront, binaryEnding, footer}
+use Rattle.frame.specs.Checks.{Checks, Verdict, cut, refused, frame, run}
+use Rattle.frame.specs.Binary.{binary, binaryFront, binaryEnding, footerByte, ending}
 use Rattle.frame.specs.Ascii.{ascii, asciiFront, asciiEnding, crLf}
 use Rattle.frame.specs.declared.framing.Framing.{Framing}
-use Rattle.frame.specs.declared.framing.Framing.the-variants.{Binary, Ascii}
-
--- The checks of a framing.
-abbrev pub checks : Framing → Checks
-checks Binary = binary footer
-checks Ascii = ascii crLf
+use Rattle.frame.specs.declared.framing.Framing.the-variants.{Binary as BinaryFraming, Ascii as AsciiFraming}
+use Rattle.frame.specs.declared.framing.Footer.the-variants.{Optional, Required}
+use Rattle.frame.specs.declared.framing.Format.{Format}
+use Rattle.frame.specs.declared.framing.Format.the-variants.{Binary, Ascii}
 
 -- The bytes of a frame before its ending.
 abbrev pub front : Framing → List ℕ → List ℕ
-front Binary p = binaryFront p
-front Ascii p = asciiFront p
+front BinaryFraming p = binaryFront p
+front AsciiFraming p = asciiFront p
 
 -- The bytes of the ending.
 abbrev pub endingBytes : Framing → List ℕ
-endingBytes Binary = binaryEnding
-endingBytes Ascii = asciiEnding
+endingBytes BinaryFraming = binaryEnding
+endingBytes AsciiFraming = asciiEnding
 
 -- The published layout, from payload to frame.
 abbrev pub layout : Framing → List ℕ → List ℕ
 layout f p = front f p ++ endingBytes f
 
+-- The format in which a framing is read where none is named. Document 02, CR 2: binary frames with the footer and without it.
+abbrev pub formatOf : Framing → Format
+formatOf BinaryFraming = Binary Optional
+formatOf AsciiFraming = Ascii
+
+-- The framing of a format.
+abbrev pub framingOf : Format → Framing
+framingOf (Binary footer) = BinaryFraming
+framingOf Ascii = AsciiFraming
+
+-- The checks of a format.
+abbrev pub checks : Format → Checks
+checks (Binary footer) = binary (ending footer)
+checks Ascii = ascii crLf
+
 -- The longest frame.
-abbrev pub limit : Framing → ℕ
-limit Binary = 262
+abbrev pub limit : Format → ℕ
+limit (Binary footer) = 262
 limit Ascii = 517
 
 -- What the checks decide of the front of s: any verdict but `cut` is changed by no later byte. The line reader works with it.
-abbrev pub judge : Framing → List ℕ → Verdict
-judge f s = run (checks f) s
+abbrev pub judge : Format → List ℕ → Verdict
+judge m s = run (checks m) s
 
--- Which frame stands at the front of s, with all bytes that belong to it: as long as every frame ends with the byte that decides it, the same. Single
--- reads and the leftmost rule work with it.
-abbrev pub read : Framing → List ℕ → Verdict
-read f s = judge f s
+-- Document 02, CR 2: where the footer is optional, a byte may follow a frame that the checks decide, and belong to it,
+abbrev pub mayFollow : Format → Bool
+mayFollow (Binary Optional) = true
+mayFollow (Binary Required) = false
+mayFollow Ascii = false
+
+-- and that byte is 04.
+abbrev pub isOptional : Format → ℕ → Bool
+isOptional (Binary Optional) b = eqb b footerByte
+isOptional (Binary Required) b = false
+isOptional Ascii b = false
+
+-- How many bytes at the front of s, one or none, belong to the frame before them; `follows` says whether one may.
+abbrev pub absorbed : Format → Bool → List ℕ → ℕ
+absorbed m false s = 0
+absorbed m true [] = 0
+absorbed m true (b ∷ s) = cond (isOptional m b) 1 0
+
+-- Without them.
+abbrev pub behindOptional : Format → Bool → List ℕ → List ℕ
+behindOptional m follows s = drop (absorbed m follows s) s
+
+-- A frame of s that was judged, with the optional byte that follows it.
+abbrev pub withOptional : Format → List ℕ → Verdict → Verdict
+withOptional m s cut = cut
+withOptional m s (refused judged n) = refused judged n
+withOptional m s (frame used p) = frame (used + absorbed m (mayFollow m) (drop used s)) p
+
+-- Which frame stands at the front of s, with all bytes that belong to it. Single reads and the leftmost rule work with it.
+abbrev pub read : Format → List ℕ → Verdict
+read m s = withOptional m s (judge m s)
 
 -- The bytes of p in the front of a buffer, the rest of which stays.
 abbrev pub inFront : List ℕ → List ℕ → List ℕ

@@ -10,32 +10,41 @@ use Rattle.frame.specs.DigitRuns.{Digits, decoded}
 use Rattle.frame.specs.Framing.{inFront}
 use Rattle.frame.specs.Refusal.{numberOf}
 use Rattle.frame.specs.declared.framing.Framing.{Framing}
-use Rattle.frame.specs.declared.framing.Framing.the-variants.{Binary, Ascii}
+use Rattle.frame.specs.declared.framing.Framing.the-variants.{Binary as BinaryFraming, Ascii as AsciiFraming}
+use Rattle.frame.specs.declared.framing.Footer.the-variants.{Optional, Required}
+use Rattle.frame.specs.declared.framing.Format.{Format}
+use Rattle.frame.specs.declared.framing.Format.the-variants.{Binary, Ascii}
 use Rattle.frame.specs.declared.framing.Judged.{Judged}
 use Rattle.frame.specs.declared.framing.Judged.the-variants.{Undecided, Failed, Frame}
 
 -- The payload of n bytes of the frame at the front of s.
-abbrev pub payloadAt : Framing → List ℕ → ℕ → List ℕ
-payloadAt Binary s n = take n (drop 4 s)
+abbrev pub payloadAt : Format → List ℕ → ℕ → List ℕ
+payloadAt (Binary footer) s n = take n (drop 4 s)
 payloadAt Ascii s n = decoded (take (2 * n) (drop 1 s))
 
 -- The place behind that payload.
-abbrev pub payloadEnd : Framing → ℕ → ℕ
-payloadEnd Binary n = 4 + n
+abbrev pub payloadEnd : Format → ℕ → ℕ
+payloadEnd (Binary footer) n = 4 + n
 payloadEnd Ascii n = 1 + 2 * n
 
 -- A payload of n bytes can be taken out of s: it is there, and in digits where they are decoded.
-abbrev pub HasPayload : Framing → List ℕ → ℕ → Type 0
-HasPayload Binary s n = payloadEnd Binary n ≤ length s
+abbrev pub HasPayload : Format → List ℕ → ℕ → Type 0
+HasPayload (Binary footer) s n = payloadEnd (Binary footer) n ≤ length s
 HasPayload Ascii s n = (payloadEnd Ascii n ≤ length s) × Digits (take (2 * n) (drop 1 s))
 
 -- The length of a frame with a payload of n bytes.
 abbrev pub frameLength : Framing → ℕ → ℕ
-frameLength Binary n = n + 6
-frameLength Ascii n = 2 * n + 5
+frameLength BinaryFraming n = n + 6
+frameLength AsciiFraming n = 2 * n + 5
+
+-- How many bytes of it are judged in a format: all but an optional one.
+abbrev pub judgedLength : Format → ℕ → ℕ
+judgedLength (Binary Optional) n = n + 5
+judgedLength (Binary Required) n = n + 6
+judgedLength Ascii n = 2 * n + 5
 
 -- The verdict that an answer stands for, where s was judged.
-abbrev pub verdictOf : Framing → List ℕ → Judged → Verdict
+abbrev pub verdictOf : Format → List ℕ → Judged → Verdict
 verdictOf f s Undecided = cut
 verdictOf f s (Failed r judged) = refused judged (numberOf r)
 verdictOf f s (Frame used len) = frame used (payloadAt f s len)
@@ -57,26 +66,34 @@ pub record Short (s : List ℕ) (count : ℕ) : Type 0 where
   pub ends : getD s (1 + count) 0 ≡ carriageReturn
 
 -- The first byte of every frame.
-abbrev pub startOf : Framing → ℕ
-startOf Binary = 0xA5
+abbrev pub startOf : Format → ℕ
+startOf (Binary footer) = 0xA5
 startOf Ascii = colon
 
 -- The refusal of a start that another start follows, which fails there.
-abbrev pub doubledNumber : Framing → ℕ
-doubledNumber Binary = 1
+abbrev pub doubledNumber : Format → ℕ
+doubledNumber (Binary footer) = 1
 doubledNumber Ascii = 6
 
 -- The places that a failed start passes over, its own the first: in ASCII framing the bytes before the failing one are digits or a CR, which
 -- start no frame.
-abbrev pub passedBy : Framing → ℕ → ℕ
-passedBy Binary judged = 1
+abbrev pub passedBy : Format → ℕ → ℕ
+passedBy (Binary footer) judged = 1
 passedBy Ascii judged = judged - 1
 
--- The checks of a frame's ending, whose payload is p: its checksum is right (4), and its last byte is there (5).
-abbrev pub endChecks : Bool → ℕ → List ℕ → Checks
-endChecks right last p = test right 4 (byte last 5 (whole p))
+-- The checks of a frame's ending, whose payload is p: its checksum is right (4), and then what is left.
+abbrev pub endChecks : Bool → (List ℕ → Checks) → List ℕ → Checks
+endChecks right rest p = test right 4 (rest p)
 
--- The answer on the ending, in either framing, where the checksum is complete with the byte at `end`.
+-- The answer on the ending, in any format, where the checksum is complete with the byte at `end`.
+abbrev pub EndedSo : List ℕ → ℕ → Bool → (List ℕ → Checks) → ℕ → Judged → Type 0
+EndedSo s end right rest len r =
+    (m : Format) → behind (end + 1) (run (endChecks right rest (payloadAt m s len)) (drop (end + 1) s)) ≡ verdictOf m s r
+
+-- Where one byte, `last`, is left (5).
 abbrev pub Ended : List ℕ → ℕ → Bool → ℕ → ℕ → Judged → Type 0
-Ended s end right last len r =
-    (f : Framing) → behind (end + 1) (run (endChecks right last (payloadAt f s len)) (drop (end + 1) s)) ≡ verdictOf f s r
+Ended s end right last len r = EndedSo s end right (λ p. byte last 5 (whole p)) len r
+
+-- Where nothing is left.
+abbrev pub Completed : ℕ → Bool → ℕ → Judged → Type 0
+Completed end right len r = (s : List ℕ) → EndedSo s end right whole len r

@@ -1,16 +1,16 @@
 -- The line reader's calls. Document 01, "The leftmost rule and the line reader" and "Refusal numbers". A line call offers a chunk; a quiet call, document
 -- 01's term, says that the line was silent and the segment has ended.
-use Prim.Native.Nat.{ℕ, suc}
+use Prim.Native.Nat.{ℕ, suc, _+_}
 use mathlib.Core.Path.{_≡_}
 use mathlib.Core.List.{List, [], _∷_, _++_}
 use mathlib.Core.Bool.{Bool, true, false, cond}
 use lib.Dec.{leb, eqb}
 use lib.ListN.{length, take, drop, replicate}
 use Rattle.frame.specs.Checks.{Verdict, cut, refused, frame}
-use Rattle.frame.specs.Framing.{judge, limit, inFront}
+use Rattle.frame.specs.Framing.{judge, mayFollow, absorbed, behindOptional, limit, inFront}
 use Rattle.frame.specs.Refusal.{numberOf}
 use Rattle.frame.specs.Rule.{Output, nothing, noiseByte, handed, join}
-use Rattle.frame.specs.declared.framing.Framing.{Framing}
+use Rattle.frame.specs.declared.framing.Format.{Format}
 use Rattle.frame.specs.declared.reader.Reader.{Reader}
 use Rattle.frame.specs.declared.reader.Fed.{Fed}
 use Rattle.frame.specs.declared.answer.FeedAnswer.{FeedAnswer}
@@ -19,48 +19,53 @@ use Rattle.frame.specs.declared.reader.Quieted.{Quieted}
 use Rattle.frame.specs.declared.answer.QuietAnswer.{QuietAnswer}
 use Rattle.frame.specs.declared.answer.QuietAnswer.the-variants.{Frame as QuietFrame, Empty, Refused as QuietRefused}
 
--- What a reader's calls depend on: its framing, and the bytes that it holds.
+-- What a reader's calls depend on: its format, the bytes that it holds, and the mark of document 02, CR 2: whether an optional byte may still follow the
+-- last frame and belong to it. In a format without such a byte it changes no frame, noise or count of bytes taken.
 pub record State : Type 0 where
-  pub framing : Framing
+  pub format : Format
   pub held : List ℕ
+  pub follows : Bool
 
-abbrev pub holding : Framing → List ℕ → State
-holding f h = record { framing = f; held = h }
+abbrev pub holding : Format → List ℕ → Bool → State
+holding m h follows = record { format = m; held = h; follows = follows }
 
--- Bytes after judging: what they gave, and those that are still held.
+-- Bytes after judging: what they gave, those that are still held, and the mark.
 pub record Settled : Type 0 where
   pub out : Output (List ℕ)
   pub rest : List ℕ
+  pub follows : Bool
 
-abbrev pub settled : Output (List ℕ) → List ℕ → Settled
-settled out rest = record { out = out; rest = rest }
+abbrev pub settled : Output (List ℕ) → List ℕ → Bool → Settled
+settled out rest follows = record { out = out; rest = rest; follows = follows }
 
--- The held bytes h, judged so: undecided, they stay; a frame is handed out; at a failed start one byte is noise, and the rest is judged again.
-abbrev pub settleAs : Verdict → List ℕ → Settled → Settled
-settleAs cut h later = settled nothing h
-settleAs (refused judged n) h later = settled (join noiseByte (later .out)) (later .rest)
-settleAs (frame used p) h later = settled (handed p) (drop used h)
+-- The held bytes h, judged so: undecided, they stay; a frame is handed out, and an optional byte may follow it where the format has one; at a failed start
+-- one byte is noise, and the rest is judged again.
+abbrev pub settleAs : Format → Verdict → List ℕ → Settled → Settled
+settleAs m cut h later = settled nothing h false
+settleAs m (refused judged n) h later = settled (join noiseByte (later .out)) (later .rest) (later .follows)
+settleAs m (frame used p) h later = settled (handed p) (drop used h) (mayFollow m)
 
-unfoldable pub settle : (List ℕ → Verdict) → List ℕ → Settled
-settle judgement [] = settled nothing []
-settle judgement (b ∷ h) = let later : Settled = settle judgement h in settleAs (judgement (b ∷ h)) (b ∷ h) later
+unfoldable pub settle : Format → (List ℕ → Verdict) → List ℕ → Settled
+settle m judgement [] = settled nothing [] false
+settle m judgement (b ∷ h) = let later : Settled = settle m judgement h in settleAs m (judgement (b ∷ h)) (b ∷ h) later
 
--- What a call gives: bytes taken, what came out, the bytes held afterwards.
+-- What a call gives: bytes taken, what came out, the bytes held afterwards, and the mark.
 pub record Called : Type 0 where
   pub taken : ℕ
   pub out : Output (List ℕ)
   pub held : List ℕ
+  pub follows : Bool
 
-abbrev pub called : ℕ → Output (List ℕ) → List ℕ → Called
-called taken out held = record { taken = taken; out = out; held = held }
+abbrev pub called : ℕ → Output (List ℕ) → List ℕ → Bool → Called
+called taken out held follows = record { taken = taken; out = out; held = held; follows = follows }
 
 -- The call stops here.
 abbrev pub stopped : Settled → Called
-stopped st = called 0 (st .out) (st .rest)
+stopped st = called 0 (st .out) (st .rest) (st .follows)
 
 -- The call took one byte more, after `out` had come out.
 abbrev pub oneMore : Output (List ℕ) → Called → Called
-oneMore out c = called (suc (c .taken)) (join out (c .out)) (c .held)
+oneMore out c = called (suc (c .taken)) (join out (c .out)) (c .held) (c .follows)
 
 -- A frame came out: the first; otherwise the second.
 abbrev pub ifFrame : List (List ℕ) → Called → Called → Called
@@ -69,14 +74,30 @@ ifFrame (p ∷ ps) a b = a
 
 -- The line call over a chunk, byte by byte. A further byte is taken only while the held bytes are empty or undecided; the call stops as
 -- soon as a frame completes, or with the chunk used up.
-unfoldable pub lineFrom : Framing → Settled → List ℕ → Called
-lineFrom f st [] = stopped st
-lineFrom f st (b ∷ chunk) =
-    let next : Called = oneMore (st .out) (lineFrom f (settle (judge f) (st .rest ++ (b ∷ []))) chunk) in
+unfoldable pub lineFrom : Format → Settled → List ℕ → Called
+lineFrom m st [] = stopped st
+lineFrom m st (b ∷ chunk) =
+    let next : Called = oneMore (st .out) (lineFrom m (settle m (judge m) (st .rest ++ (b ∷ []))) chunk) in
     ifFrame (st .out .frames) (stopped st) next
 
-unfoldable pub line : State → List ℕ → Called
-line s chunk = lineFrom (s .framing) (settle (judge (s .framing)) (s .held)) chunk
+-- The line call where h is held and no optional byte is to come.
+unfoldable pub lineOn : Format → List ℕ → List ℕ → Called
+lineOn m h chunk = lineFrom m (settle m (judge m) h) chunk
+
+-- A call that took n bytes more, before the others.
+abbrev pub tookFirst : ℕ → Called → Called
+tookFirst n c = called (n + c .taken) (c .out) (c .held) (c .follows)
+
+-- The line call by what is held and the mark. An optional byte that may follow is dealt with first: in front of held bytes it is dropped; where nothing
+-- is held, it is taken from the chunk's front, and with an empty chunk the mark stays. It is no noise.
+abbrev pub lineBehind : Format → Bool → List ℕ → List ℕ → Called
+lineBehind m follows [] [] = called 0 nothing [] follows
+lineBehind m follows [] (b ∷ chunk) =
+    let n : ℕ = absorbed m follows (b ∷ chunk) in tookFirst n (lineOn m [] (drop n (b ∷ chunk)))
+lineBehind m follows (b ∷ h) chunk = lineOn m (behindOptional m follows (b ∷ h)) chunk
+
+abbrev pub line : State → List ℕ → Called
+line s chunk = lineBehind (s .format) (s .follows) (s .held) chunk
 
 -- At a quiet the held bytes end the segment: an unfinished frame fails like any other. (How many bytes were judged is of no use here.)
 abbrev pub ended : Verdict → Verdict
@@ -84,16 +105,20 @@ ended cut = refused 0 2
 ended (refused judged n) = refused judged n
 ended (frame used p) = frame used p
 
-unfoldable pub quiet : State → Called
-quiet s = stopped (settle (λ h. ended (judge (s .framing) h)) (s .held))
+unfoldable pub quietHeld : Format → List ℕ → Called
+quietHeld m h = stopped (settle m (λ h. ended (judge m h)) h)
+
+-- The quiet call: a held optional byte that may follow is dropped first.
+abbrev pub quiet : State → Called
+quiet s = quietHeld (s .format) (behindOptional (s .format) (s .follows) (s .held))
 
 -- The state that follows a call.
 abbrev pub after : State → Called → State
-after s c = holding (s .framing) (c .held)
+after s c = holding (s .format) (c .held) (c .follows)
 
 -- The state of a reader: the bytes that it holds are the first `count` of its array.
 abbrev pub stateOf : Reader → State
-stateOf r = holding (r .framing) (take (r .count) (r .held))
+stateOf r = holding (r .format) (take (r .count) (r .held)) (r .follows)
 
 -- A reader with this state; the other bytes of its array may be any.
 pub record Holds (s : State) (r : Reader) : Type 0 where
@@ -101,8 +126,8 @@ pub record Holds (s : State) (r : Reader) : Type 0 where
   pub count : r .count ≡ length (s .held)
 
 -- A new reader.
-abbrev pub newReader : Framing → Reader
-newReader f = record { framing = f; held = replicate 517 0; count = 0 }
+abbrev pub newReader : Format → Reader
+newReader m = record { format = m; held = replicate 517 0; count = 0; follows = false }
 
 -- An answer as document 01 has it: the refusal's number, 0 for none, bytes taken, noise, the payload's length, and whether there is one.
 pub record Values : Type 0 where
@@ -154,7 +179,7 @@ lineRefusalNumber sound room size = cond sound (cond (leb 256 room) (cond (leb s
 
 -- A state is sound where it holds no more bytes than the longest frame has.
 abbrev pub sound : Reader → Bool
-sound r = leb (r .count) (limit (r .framing))
+sound r = leb (r .count) (limit (r .format))
 
 abbrev pub quietRefusal : Reader → ℕ → ℕ
 quietRefusal r room = quietRefusalNumber (sound r) room
@@ -181,12 +206,12 @@ Feeds r chunk buf fed buf′ =
     Gives (feedRefusal r (length buf) (length chunk)) c (Holds (after (stateOf r) c)) r buf (feedValuesOf (fed .answer)) (fed .reader) buf′
 
 -- After a quiet call: a new reader where no frame came out.
-abbrev pub AfterQuiet : State → Called → List (List ℕ) → Reader → Type 0
-AfterQuiet s c [] r = r ≡ newReader (s .framing)
-AfterQuiet s c (p ∷ ps) r = Holds (after s c) r
+abbrev pub AfterQuiet : Format → Called → List (List ℕ) → Reader → Type 0
+AfterQuiet m c [] r = r ≡ newReader m
+AfterQuiet m c (p ∷ ps) r = Holds (holding m (c .held) (c .follows)) r
 
 -- The promise of a quiet call with the reader r and a buffer.
 abbrev pub Quiets : Reader → List ℕ → Quieted → List ℕ → Type 0
 Quiets r buf q buf′ =
     let c : Called = quiet (stateOf r) in
-    Gives (quietRefusal r (length buf)) c (AfterQuiet (stateOf r) c (c .out .frames)) r buf (quietValuesOf (q .answer)) (q .reader) buf′
+    Gives (quietRefusal r (length buf)) c (AfterQuiet (r .format) c (c .out .frames)) r buf (quietValuesOf (q .answer)) (q .reader) buf′

@@ -1,5 +1,6 @@
 -- Good frames behind damage. Document 00, demand 3, and document 01, last section; "damage", "stretch" and "good frame" are its terms. The bytes of a
--- stretch are its frames one behind another, `flatten`.
+-- stretch are its frames one behind another, `flatten`. Document 02, CR 2: in binary framing for either choice of the footer; where it is optional, good
+-- frames have it or not, mixed as they come.
 use Prim.Native.Nat.{ℕ, suc, _+_, _≤_, _<_}
 use mathlib.Core.Path.{_≡_}
 use mathlib.Core.List.{List, [], _∷_, _++_, map, flatten, List·Memᴰ}
@@ -12,16 +13,17 @@ use Rattle.frame.specs.Rule.{Output, output, join, Found, foundAt, rule,
 use Rattle.frame.specs.Reader.{newReader}
 use Rattle.frame.specs.Elements.{select, All}
 use Rattle.frame.specs.Calls.{Calls, offering}
-use Rattle.frame.specs.declared.framing.Framing.{Framing}
-use Rattle.frame.specs.declared.framing.Framing.the-variants.{Binary, Ascii}
+use Rattle.frame.specs.declared.framing.Footer.{Footer}
+use Rattle.frame.specs.declared.framing.Format.{Format}
+use Rattle.frame.specs.declared.framing.Format.the-variants.{Binary, Ascii}
 
 -- A good frame: any bytes that a single read with room for the payload accepts and uses to the last.
-pub record Good (f : Framing) (g : List ℕ) : Type 0 where
+pub record Good (f : Format) (g : List ℕ) : Type 0 where
   pub payload : List ℕ
   pub reads : read f g ≡ frame (length g) payload
 
 -- A stretch: any number of good frames, none too, each right behind the last.
-pub data Stretch (f : Framing) : List (List ℕ) → Type 0 where
+pub data Stretch (f : Format) : List (List ℕ) → Type 0 where
   none : Stretch f []
   another : {g : List ℕ} {gs : List (List ℕ)} → Good f g → Stretch f gs → Stretch f (g ∷ gs)
 
@@ -31,7 +33,7 @@ payloadIn (refused judged n) = []
 payloadIn (frame used p) = p
 
 -- Its frames, the first of which begins at `place`.
-abbrev pub foundsFrom : Framing → ℕ → List (List ℕ) → List Found
+abbrev pub foundsFrom : Format → ℕ → List (List ℕ) → List Found
 foundsFrom f place [] = []
 foundsFrom f place (g ∷ gs) =
     foundAt place (length g) (payloadIn (read f g)) ∷ foundsFrom f (place + length g) gs
@@ -62,36 +64,36 @@ inNone place [] = true
 inNone place (x ∷ xs) = not (leb (x .place) place && ltb place (x .place + x .used)) && inNone place xs
 
 -- The good frames behind damage whose first byte lies in none of the frames `early`.
-abbrev pub clearOf : List Found → List ℕ → List (List ℕ) → List Found
-clearOf early damage gs = select (λ x. inNone (x .place) early) (foundsFrom Binary (length damage) gs)
+abbrev pub clearOf : Footer → List Found → List ℕ → List (List ℕ) → List Found
+clearOf footer early damage gs = select (λ x. inNone (x .place) early) (foundsFrom (Binary footer) (length damage) gs)
 
 -- The frames that the rule over damage and a stretch in binary framing hands out and that begin in the damage.
-abbrev pub earlyOf : List ℕ → List (List ℕ) → List Found
-earlyOf damage gs = select (λ x. ltb (x .place) (length damage)) (rule Binary (damage ++ flatten gs) .frames)
+abbrev pub earlyOf : Footer → List ℕ → List (List ℕ) → List Found
+earlyOf footer damage gs = select (λ x. ltb (x .place) (length damage)) (rule (Binary footer) (damage ++ flatten gs) .frames)
 
 -- The rule over damage and a stretch in binary framing: the frames that begin in the damage; at most one of them reaches into the stretch,
 -- and none further than its first 260 bytes; then, in order, exactly the good frames whose first byte lies in none of them.
-pub record Recovered (damage : List ℕ) (gs : List (List ℕ)) : Type 0 where
-  pub one : length (select (reaches (length damage)) (earlyOf damage gs)) ≤ 1
-  pub reach : All (λ x. x .place + x .used ≤ length damage + 260) (earlyOf damage gs)
-  pub frames : rule Binary (damage ++ flatten gs) .frames ≡ earlyOf damage gs ++ clearOf (earlyOf damage gs) damage gs
+pub record Recovered (footer : Footer) (damage : List ℕ) (gs : List (List ℕ)) : Type 0 where
+  pub one : length (select (reaches (length damage)) (earlyOf footer damage gs)) ≤ 1
+  pub reach : All (λ x. x .place + x .used ≤ length damage + 260) (earlyOf footer damage gs)
+  pub frames : rule (Binary footer) (damage ++ flatten gs) .frames ≡ earlyOf footer damage gs ++ clearOf footer (earlyOf footer damage gs) damage gs
 
-abbrev pub BinaryRecovers : Type 0
-BinaryRecovers = (damage : List ℕ) (gs : List (List ℕ)) → Stretch Binary gs → PairsBegin gs → Recovered damage gs
+abbrev pub BinaryRecovers : Footer → Type 0
+BinaryRecovers footer = (damage : List ℕ) (gs : List (List ℕ)) → Stretch (Binary footer) gs → PairsBegin gs → Recovered footer damage gs
 
 -- And so every good frame that begins 260 or more bytes into the stretch is handed out.
-abbrev pub LateFramesComeBack : Type 0
-LateFramesComeBack =
-    (damage : List ℕ) (gs : List (List ℕ)) → Stretch Binary gs → PairsBegin gs → (x : Found) →
-    List·Memᴰ x (foundsFrom Binary (length damage) gs) → length damage + 260 ≤ x .place →
-    List·Memᴰ x (rule Binary (damage ++ flatten gs) .frames)
+abbrev pub LateFramesComeBack : Footer → Type 0
+LateFramesComeBack footer =
+    (damage : List ℕ) (gs : List (List ℕ)) → Stretch (Binary footer) gs → PairsBegin gs → (x : Found) →
+    List·Memᴰ x (foundsFrom (Binary footer) (length damage) gs) → length damage + 260 ≤ x .place →
+    List·Memᴰ x (rule (Binary footer) (damage ++ flatten gs) .frames)
 
--- With no damage, in either framing and without the proviso: every good frame, in order, and no noise.
-abbrev pub CleanLine : Framing → Type 0
+-- With no damage, in any format and without the proviso: every good frame, in order, and no noise.
+abbrev pub CleanLine : Format → Type 0
 CleanLine f = (gs : List (List ℕ)) → Stretch f gs → rule f (flatten gs) ≡ output (foundsFrom f 0 gs) 0
 
 -- The payloads of a stretch.
-abbrev pub payloadsOf : Framing → List (List ℕ) → List (List ℕ)
+abbrev pub payloadsOf : Format → List (List ℕ) → List (List ℕ)
 payloadsOf f gs = map (λ g. payloadIn (read f g)) gs
 
 -- Any list of calls over damage and a stretch in ASCII framing hands out what the damage alone gives, then every good frame's payload, in
@@ -104,21 +106,21 @@ AsciiCallsRecover =
 
 -- What calls over damage and a stretch in binary framing hand out: the payloads of the frames that begin in the damage, then those of the
 -- good frames clear of them, among which are all that begin 260 or more bytes into the stretch; the noise is the rule's.
-pub record CallsRecovered (damage : List ℕ) (gs : List (List ℕ)) (out : Output (List ℕ)) : Type 0 where
-  pub found : Recovered damage gs
-  pub frames : out .frames ≡ map (λ (x : Found). x .payload) (earlyOf damage gs ++ clearOf (earlyOf damage gs) damage gs)
+pub record CallsRecovered (footer : Footer) (damage : List ℕ) (gs : List (List ℕ)) (out : Output (List ℕ)) : Type 0 where
+  pub found : Recovered footer damage gs
+  pub frames : out .frames ≡ map (λ (x : Found). x .payload) (earlyOf footer damage gs ++ clearOf footer (earlyOf footer damage gs) damage gs)
   pub late :
-      (x : Found) → List·Memᴰ x (foundsFrom Binary (length damage) gs) → length damage + 260 ≤ x .place →
-      List·Memᴰ x (clearOf (earlyOf damage gs) damage gs)
-  pub noise : out .noise ≡ rule Binary (damage ++ flatten gs) .noise
+      (x : Found) → List·Memᴰ x (foundsFrom (Binary footer) (length damage) gs) → length damage + 260 ≤ x .place →
+      List·Memᴰ x (clearOf footer (earlyOf footer damage gs) damage gs)
+  pub noise : out .noise ≡ rule (Binary footer) (damage ++ flatten gs) .noise
 
-abbrev pub BinaryCallsRecover : Type 0
-BinaryCallsRecover =
-    (damage : List ℕ) (gs : List (List ℕ)) (out : Output (List ℕ)) → Stretch Binary gs → PairsBegin gs →
-    Calls offering (newReader Binary) (damage ++ flatten gs) out → CallsRecovered damage gs out
+abbrev pub BinaryCallsRecover : Footer → Type 0
+BinaryCallsRecover footer =
+    (damage : List ℕ) (gs : List (List ℕ)) (out : Output (List ℕ)) → Stretch (Binary footer) gs → PairsBegin gs →
+    Calls offering (newReader (Binary footer)) (damage ++ flatten gs) out → CallsRecovered footer damage gs out
 
 -- With no damage, any list of calls hands out every good frame's payload, in order, and no noise.
-abbrev pub CleanCalls : Framing → Type 0
+abbrev pub CleanCalls : Format → Type 0
 CleanCalls f =
     (gs : List (List ℕ)) (out : Output (List ℕ)) → Stretch f gs → Calls offering (newReader f) (flatten gs) out →
     out ≡ output (payloadsOf f gs) 0

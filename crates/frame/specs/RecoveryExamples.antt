@@ -1,12 +1,16 @@
--- Examples of damage in binary framing: good frames are lost and later ones come back; and without the proviso on A5 5A a good frame far
--- into the stretch may be lost.
+-- Examples of damage in binary framing: good frames are lost and later ones come back; without the proviso on A5 5A a good frame far
+-- into the stretch may be lost; and where the footer is optional, good frames with it and without it stand mixed. Document 02, CR 2.
 use Prim.Native.Nat.{ℕ, _+_, _≤_}
 use mathlib.Core.Path.{_≡_}
-use mathlib.Core.List.{List, [], _∷_, _++_, flatten, List·Memᴰ}
+use mathlib.Core.List.{List, [], _∷_, _++_, flatten, dropLast, List·Memᴰ}
 use lib.ListN.{length, take, drop, replicate}
+use Rattle.frame.specs.Checks.{cut, refused}
+use Rattle.frame.specs.Framing.{read}
 use Rattle.frame.specs.Rule.{output, Found, foundAt, rule}
-use Rattle.frame.specs.Recovery.{Stretch, foundsFrom, PairsBegin}
-use Rattle.frame.specs.declared.framing.Framing.the-variants.{Binary}
+use Rattle.frame.specs.Recovery.{Good, Stretch, foundsFrom, PairsBegin}
+use Rattle.frame.specs.declared.framing.Footer.{Footer}
+use Rattle.frame.specs.declared.framing.Footer.the-variants.{Optional, Required}
+use Rattle.frame.specs.declared.framing.Format.the-variants.{Binary, Ascii}
 
 -- A response: 80, success.
 abbrev pub response : List ℕ
@@ -16,9 +20,13 @@ response = 0xA5 ∷ 0x5A ∷ 0x80 ∷ 0x04 ∷ 0xDB ∷ 0xA1 ∷ 0x80 ∷ 0x01 �
 abbrev pub blank : ℕ → List ℕ
 blank n = 0xA5 ∷ 0x5A ∷ 0x80 ∷ n ∷ (replicate n 0 ++ (0x00 ∷ 0x04 ∷ []))
 
+-- The payload of the response.
+abbrev pub success : List ℕ
+success = 0xDB ∷ 0xA1 ∷ 0x80 ∷ 0x01 ∷ []
+
 -- A response found at a place.
 abbrev pub responseAt : ℕ → Found
-responseAt place = foundAt place 10 (0xDB ∷ 0xA1 ∷ 0x80 ∷ 0x01 ∷ [])
+responseAt place = foundAt place 10 success
 
 -- The start of a frame with 256 bytes of payload.
 abbrev pub strayStart : List ℕ
@@ -28,12 +36,12 @@ strayStart = 0xA5 ∷ 0x5A ∷ 0x81 ∷ 0x00 ∷ []
 abbrev pub overlapped : List (List ℕ)
 overlapped = replicate 22 response ++ (blank 11 ∷ blank 15 ∷ response ∷ response ∷ [])
 
--- The stray start takes 24 good frames with it, and the two behind them come back.
-pub record LostAndBack : Type 0 where
-  pub good : Stretch Binary overlapped
+-- The stray start takes 24 good frames with it, and the two behind them come back; for either choice of the footer.
+pub record LostAndBack (footer : Footer) : Type 0 where
+  pub good : Stretch (Binary footer) overlapped
   pub pairs : PairsBegin overlapped
   pub frames :
-      rule Binary (strayStart ++ flatten overlapped)
+      rule (Binary footer) (strayStart ++ flatten overlapped)
       ≡ output (foundAt 0 262 (take 256 (flatten overlapped)) ∷ responseAt 262 ∷ responseAt 272 ∷ []) 0
 
 -- A good frame of 262 bytes whose payload holds another frame's start, and one that happens to complete that start.
@@ -54,12 +62,66 @@ shortStart = 0xA5 ∷ 0x5A ∷ 0x80 ∷ 0x04 ∷ []
 abbrev pub lostFrame : Found
 lostFrame = foundAt 266 10 (0x7B ∷ 0x04 ∷ 0x00 ∷ 0x00 ∷ [])
 
--- Without the proviso: it is lost to a frame that begins inside the first good one.
-pub record ProvisoNeeded : Type 0 where
-  pub good : Stretch Binary unguarded
-  pub there : List·Memᴰ lostFrame (foundsFrom Binary (length shortStart) unguarded)
+-- Without the proviso: it is lost to a frame that begins inside the first good one; for either choice of the footer.
+pub record ProvisoNeeded (footer : Footer) : Type 0 where
+  pub good : Stretch (Binary footer) unguarded
+  pub there : List·Memᴰ lostFrame (foundsFrom (Binary footer) (length shortStart) unguarded)
   pub late : length shortStart + 260 ≤ lostFrame .place
   pub frames :
-      rule Binary (shortStart ++ flatten unguarded)
+      rule (Binary footer) (shortStart ++ flatten unguarded)
       ≡ output (foundAt 0 10 strayStart ∷ foundAt 10 262 (take 256 (drop 10 (flatten unguarded))) ∷ responseAt 276 ∷ []) 4
-  pub lost : List·Memᴰ lostFrame (rule Binary (shortStart ++ flatten unguarded) .frames) → ⊥
+  pub lost : List·Memᴰ lostFrame (rule (Binary footer) (shortStart ++ flatten unguarded) .frames) → ⊥
+
+-- A frame without its footer.
+abbrev pub bare : List ℕ → List ℕ
+bare g = dropLast g
+
+-- A response without its footer, found at a place.
+abbrev pub bareAt : ℕ → Found
+bareAt place = foundAt place 9 success
+
+-- Six good frames of 10, 9, 6, 11, 9 and 10 bytes, the second, third and fifth without their footers.
+abbrev pub mixed : List (List ℕ)
+mixed = response ∷ bare response ∷ bare (blank 1) ∷ blank 5 ∷ bare response ∷ response ∷ []
+
+-- The start of a frame with 8 bytes of payload, which fails in the first good frame: their XOR is 80, and FB follows.
+abbrev pub failingStart : List ℕ
+failingStart = 0xA5 ∷ 0x5A ∷ 0x80 ∷ 0x08 ∷ []
+
+-- The start of a frame with 34 bytes of payload, which the first four good frames happen to complete: the XOR of the 34 is 00, and the
+-- fourth frame's checksum and footer follow, 00 and 04.
+abbrev pub mixedStart : List ℕ
+mixedStart = 0xA5 ∷ 0x5A ∷ 0x80 ∷ 0x22 ∷ []
+
+-- Where the footer is optional: a start that fails takes no good frame with it; one that is completed takes four, with the fourth one's
+-- footer, and the two behind them come back.
+pub record MixedEndings : Type 0 where
+  pub good : Stretch (Binary Optional) mixed
+  pub pairs : PairsBegin mixed
+  pub kept :
+      rule (Binary Optional) (failingStart ++ flatten mixed)
+      ≡ output
+      (responseAt 4 ∷ bareAt 14 ∷ foundAt 23 6 (replicate 1 0) ∷ foundAt 29 11 (replicate 5 0) ∷ bareAt 40 ∷ responseAt 49 ∷ [])
+      4
+  pub lost :
+      rule (Binary Optional) (mixedStart ++ flatten mixed)
+      ≡ output (foundAt 0 40 (take 34 (flatten mixed)) ∷ bareAt 40 ∷ responseAt 49 ∷ []) 0
+
+-- Where the footer is required, a frame without it is no good frame: alone it is cut short (2); before another frame it is refused (5),
+-- and its bytes are noise.
+pub record FooterRequired : Type 0 where
+  pub notGood : Good (Binary Required) (bare response) → ⊥
+  pub alone : read (Binary Required) (bare response) ≡ cut
+  pub before : read (Binary Required) (bare response ++ response) ≡ refused 10 5
+  pub frames : rule (Binary Required) (bare response ++ response) ≡ output (responseAt 9 ∷ []) 9
+
+-- In ASCII framing, a start cut short by the next: `:0001` is noise, and `:00010203FA` with CR LF comes back.
+abbrev pub cutShort : List ℕ
+cutShort = 0x3A ∷ 0x30 ∷ 0x30 ∷ 0x30 ∷ 0x31 ∷ []
+
+abbrev pub asciiFrame : List ℕ
+asciiFrame = 0x3A ∷ 0x30 ∷ 0x30 ∷ 0x30 ∷ 0x31 ∷ 0x30 ∷ 0x32 ∷ 0x30 ∷ 0x33 ∷ 0x46 ∷ 0x41 ∷ 0x0D ∷ 0x0A ∷ []
+
+pub record AsciiBack : Type 0 where
+  pub good : Stretch Ascii (asciiFrame ∷ [])
+  pub frames : rule Ascii (cutShort ++ asciiFrame) ≡ output (foundAt 5 13 (0x00 ∷ 0x01 ∷ 0x02 ∷ 0x03 ∷ []) ∷ []) 5

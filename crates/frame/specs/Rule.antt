@@ -5,7 +5,7 @@ use Prim.Native.Nat.{ℕ, zero, suc, pred, _+_}
 use mathlib.Core.List.{List, [], _∷_, _++_, map}
 use Rattle.frame.specs.Checks.{Verdict, cut, refused, frame}
 use Rattle.frame.specs.Framing.{read}
-use Rattle.frame.specs.declared.framing.Framing.{Framing}
+use Rattle.frame.specs.declared.framing.Format.{Format}
 
 -- What comes out of a segment or of calls: frames in their order, and the count of noise bytes.
 pub record Output (A : Type 0) : Type 0 where
@@ -41,7 +41,7 @@ abbrev pub passAfter : Verdict → ℕ
 passAfter v = pred (onBy v)
 
 -- The places at which the rule stands in s, with `pass` bytes to pass over first: each as the bytes from there on.
-unfoldable pub places : Framing → ℕ → List ℕ → List (List ℕ)
+unfoldable pub places : Format → ℕ → List ℕ → List (List ℕ)
 places f pass [] = []
 places f zero (b ∷ s) = (b ∷ s) ∷ places f (passAfter (read f (b ∷ s))) s
 places f (suc pass) (b ∷ s) = places f pass s
@@ -62,12 +62,12 @@ outAt place (refused judged n) = noiseByte
 outAt place (frame used p) = handed (foundAt place used p)
 
 -- What it gives at places in order, the first of which is `place`.
-unfoldable pub outFrom : Framing → ℕ → List (List ℕ) → Output Found
+unfoldable pub outFrom : Format → ℕ → List (List ℕ) → Output Found
 outFrom f place [] = nothing
 outFrom f place (s ∷ ss) = join (outAt place (read f s)) (outFrom f (place + onBy (read f s)) ss)
 
 -- The rule over a whole segment: it starts at place 0.
-unfoldable pub rule : Framing → List ℕ → Output Found
+unfoldable pub rule : Format → List ℕ → Output Found
 rule f s = outFrom f 0 (places f 0 s)
 
 -- The payloads of an output, with its noise.

@@ -11,13 +11,13 @@ use Rattle.frame.specs.Framing.{judge, inFront}
 use Rattle.frame.specs.Reader.{ended}
 use Rattle.frame.specs.DigitRuns.{allPass}
 use Rattle.frame.specs.Judged.{payloadAt}
-use Rattle.frame.specs.declared.framing.Framing.{Framing}
+use Rattle.frame.specs.declared.framing.Format.{Format}
 use Rattle.frame.specs.declared.scan.ScanResult.{ScanResult}
 use Rattle.frame.specs.declared.scan.ScanEnd.{ScanEnd}
 use Rattle.frame.specs.declared.scan.ScanEnd.the-variants.{Frame, Undecided, Passed}
 
 -- The judge of a segment that goes on, or has ended.
-abbrev pub judging : Bool → Framing → List ℕ → Verdict
+abbrev pub judging : Bool → Format → List ℕ → Verdict
 judging true f s = ended (judge f s)
 judging false f s = judge f s
 
@@ -66,12 +66,12 @@ pub record Skips (b : ℕ) (s : List ℕ) (from stop to : ℕ) : Type 0 where
   pub others : allPass (other b) (take (to - from) (drop from s)) ≡ true
 
 -- The result that an answer of `scan` stands for.
-abbrev pub stopOf : Framing → List ℕ → ScanEnd → Stop
+abbrev pub stopOf : Format → List ℕ → ScanEnd → Stop
 stopOf f s (Frame used len) = found used (payloadAt f s len)
 stopOf f s Undecided = undecided
 stopOf f s Passed = passed
 
-abbrev pub scanned : Framing → List ℕ → ScanResult → Scanned
+abbrev pub scanned : Format → List ℕ → ScanResult → Scanned
 scanned f s r = scannedTo (r .place) (r .reach) (stopOf f (drop (r .place) s) (r .end))
 
 abbrev pub stoppedAt : ℕ → ℕ → ScanEnd → ScanResult

@@ -9,6 +9,7 @@ use Rattle.frame.specs.Checks.{Verdict, cut, refused, frame}
 use Rattle.frame.specs.Framing.{read, layout, inFront}
 use Rattle.frame.specs.Refusal.{numberOf}
 use Rattle.frame.specs.declared.framing.Framing.{Framing}
+use Rattle.frame.specs.declared.framing.Format.{Format}
 use Rattle.frame.specs.declared.single.ReadAnswer.{ReadAnswer}
 use Rattle.frame.specs.declared.single.ReadAnswer.the-variants.{Frame, Refused as ReadRefused}
 use Rattle.frame.specs.declared.single.WriteAnswer.{WriteAnswer}
@@ -43,9 +44,9 @@ readInto (refused judged n) buf = buf
 readInto (frame used p) buf = cond (leb (length p) (length buf)) (inFront p buf) buf
 
 -- The promise of a read of s into buf, which then holds `after`.
-pub record Reads (f : Framing) (s buf : List ℕ) (answer : ReadAnswer) (after : List ℕ) : Type 0 where
-  pub answers : readingOf answer ≡ reading (read f s) (length buf)
-  pub leaves : after ≡ readInto (read f s) buf
+pub record Reads (m : Format) (s buf : List ℕ) (answer : ReadAnswer) (after : List ℕ) : Type 0 where
+  pub answers : readingOf answer ≡ reading (read m s) (length buf)
+  pub leaves : after ≡ readInto (read m s) buf
 
 -- A write's answer: the refusal's number, 0 for none, and the length of the output.
 pub record Writing : Type 0 where

@@ -2,7 +2,7 @@
 use Prim.Native.Nat.{ℕ, _+_, _-_}
 use mathlib.Core.Path.{_≡_}
 use mathlib.Core.List.{List, []}
-use mathlib.Core.Bool.{Bool, cond, _&&_}
+use mathlib.Core.Bool.{Bool, false, cond, _&&_}
 use lib.Dec.{leb}
 use lib.ListN.{length, take, drop}
 use Rattle.frame.specs.Framing.{limit}
@@ -13,7 +13,7 @@ use Rattle.frame.specs.declared.view.Viewed.{Viewed}
 
 -- The view's bytes lie in a chunk of this size, and a reader can hold them.
 abbrev pub inside : View → ℕ → Bool
-inside v size = leb (v .from) (v .end) && (leb (v .end) size && leb (v .end - v .from) (limit (v .framing)))
+inside v size = leb (v .from) (v .end) && (leb (v .end) size && leb (v .end - v .from) (limit (v .format)))
 
 -- The bytes of s from index `from` up to `end`.
 abbrev pub part : ℕ → ℕ → List ℕ → List ℕ
@@ -21,7 +21,7 @@ part from end s = take (end - from) (drop from s)
 
 -- The state that a view of a chunk stands for: it holds that part of the chunk.
 abbrev pub viewed : View → List ℕ → State
-viewed v chunk = holding (v .framing) (part (v .from) (v .end) chunk)
+viewed v chunk = holding (v .format) (part (v .from) (v .end) chunk) (v .follows)
 
 -- The line call on that state, which is offered what stands behind the view in the chunk.
 abbrev pub viewCall : View → List ℕ → Called
@@ -43,6 +43,6 @@ Views v chunk buf a buf′ =
     let c : Called = viewCall v chunk in
     Gives (viewRefusal v (length buf) (length chunk)) c (Follows v chunk c) v buf (feedValuesOf (a .answer)) (a .view) buf′
 
--- The reader that a view stands for; one that holds nothing where `inside` fails, so that a call of the view is refused.
+-- The reader that a view stands for; one that holds nothing, without the mark, where `inside` fails, which is where the view's call is refused with 16.
 abbrev pub Stands : View → List ℕ → Reader → Type 0
-Stands v chunk r = Holds (cond (inside v (length chunk)) (viewed v chunk) (holding (v .framing) [])) r
+Stands v chunk r = Holds (cond (inside v (length chunk)) (viewed v chunk) (holding (v .format) [] false)) r

@@ -8,7 +8,8 @@ ghost use mathlib.Core.Path.{_≡_};
 ghost use mathlib.Core.Bool.{true};
 ghost use Prim.Native.Nat.{_≤_, _<_, _+_, _*_, _%_};
 ghost use lib.ListN.{length, getD, take, drop};
-ghost use Rattle.frame.specs.declared.framing.Framing.the-variants.{Ascii};
+ghost use Rattle.frame.specs.declared.framing.Format.the-variants.{Ascii};
+ghost use Rattle.frame.specs.declared.framing.Framing.the-variants.{Ascii as AsciiFraming};
 ghost use Rattle.frame.specs.Checks.{run, behind};
 ghost use Rattle.frame.specs.Hex.{sumOf};
 ghost use Rattle.frame.specs.Ascii.{carriageReturn, hexDigits, crLf};
@@ -175,7 +176,7 @@ pub(crate) fn extract(s: &[u8], buf: &mut [u8]) -> Judged
 pub(crate) fn pack(p: &[u8], buf: &mut [u8])
     requires { ⌜ length (now p) ≤ 256 ⌝ }
     requires { ⌜ 2 * length (now p) + 5 ≤ length (now buf) ⌝ }
-    ensures { λ _. ⌜ now (buf .exit) ≡ inFront (layout Ascii (now (p .entry))) (now (buf .entry)) ⌝ }
+    ensures { λ _. ⌜ now (buf .exit) ≡ inFront (layout AsciiFraming (now (p .entry))) (now (buf .entry)) ⌝ }
 {
     let len = p.len();
     let end = 1 + 2 * len;

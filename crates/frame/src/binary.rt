@@ -1,15 +1,18 @@
 // Binary framing.
+use crate::framing::Footer;
 use crate::framing::Judged;
+use crate::framing::judge_complete;
 use crate::framing::judge_ending;
 use crate::refusal::Refusal;
 ghost use mathlib.Core.Path.{_≡_};
 ghost use Prim.Native.Nat.{_≤_, _<_, _+_};
-ghost use lib.ListN.{length, drop};
-ghost use Rattle.frame.specs.declared.framing.Framing.the-variants.{Binary};
-ghost use Rattle.frame.specs.Binary.{xorOf, body, footer};
+ghost use lib.ListN.{length, take, drop};
+ghost use Rattle.frame.specs.declared.framing.Format.the-variants.{Binary};
+ghost use Rattle.frame.specs.declared.framing.Framing.the-variants.{Binary as BinaryFraming};
+ghost use Rattle.frame.specs.Binary.{xorOf, body, ending};
 ghost use Rattle.frame.specs.Checks.{run, behind};
 ghost use Rattle.frame.specs.Framing.{judge, inFront, layout};
-ghost use Rattle.frame.specs.Judged.{payloadAt, HasPayload, verdictOf, handedOut};
+ghost use Rattle.frame.specs.Judged.{verdictOf, handedOut};
 
 // The XOR of all bytes.
 pub(crate) fn xor_of(s: &[u8]) -> u8
@@ -32,22 +35,26 @@ fn wide(b: u8) -> usize
     b as usize
 }
 
-// Judges what stands behind the length `len`: the payload, its checksum and the footer.
-fn judge_body(s: &[u8], len: usize) -> Judged
+// Judges what stands behind the length `len`: the payload, its checksum and, where it is required, the footer.
+fn judge_body(footer: Footer, s: &[u8], len: usize) -> Judged
     requires { ⌜ 4 ≤ length (now s) ⌝ }
     requires { ⌜ len ≤ 256 ⌝ }
-    ensures { λ r. ⌜ behind 4 (run (body footer len) (drop 4 (now (s .entry)))) ≡ verdictOf Binary (now (s .entry)) r ⌝ }
+    ensures { λ r. ⌜ behind 4 (run (body (ending footer) len) (drop 4 (now (s .entry)))) ≡ verdictOf (Binary footer) (now (s .entry)) r ⌝ }
 {
     let end = 4 + len;
     if s.len() <= end {
         return Judged::Undecided;
     }
-    judge_ending(s, end, xor_of(&s[4..end]) == s[end], 0x04, len)
+    let right = xor_of(&s[4..end]) == s[end];
+    match footer {
+        Footer::Optional => judge_complete(end, right, len),
+        Footer::Required => judge_ending(s, end, right, 0x04, len),
+    }
 }
 
 // Judges the front of s: the start bytes, the length, and what stands behind them.
-pub(crate) fn judge(s: &[u8]) -> Judged
-    ensures { λ r. ⌜ judge Binary (now (s .entry)) ≡ verdictOf Binary (now (s .entry)) r ⌝ }
+pub(crate) fn judge(footer: Footer, s: &[u8]) -> Judged
+    ensures { λ r. ⌜ judge (Binary footer) (now (s .entry)) ≡ verdictOf (Binary footer) (now (s .entry)) r ⌝ }
 {
     let n = s.len();
     if n == 0 {
@@ -80,25 +87,25 @@ pub(crate) fn judge(s: &[u8]) -> Judged
     if 0x8100 < word {
         return Judged::Failed { refusal, judged };
     }
-    judge_body(s, word - 0x8000)
+    judge_body(footer, s, word - 0x8000)
 }
 
 // Puts the payload of `len` bytes of the frame at the front of s into the front of buf.
 pub(crate) fn unpack(s: &[u8], len: usize, buf: &mut [u8])
-    requires { ⌜ HasPayload Binary (now s) len ⌝ }
+    requires { ⌜ 4 + len ≤ length (now s) ⌝ }
     requires { ⌜ len ≤ length (now buf) ⌝ }
-    ensures { λ _. ⌜ now (buf .exit) ≡ inFront (payloadAt Binary (now (s .entry)) len) (now (buf .entry)) ⌝ }
+    ensures { λ _. ⌜ now (buf .exit) ≡ inFront (take len (drop 4 (now (s .entry)))) (now (buf .entry)) ⌝ }
 {
     bytes::copy(&s[4..4 + len], buf);
 }
 
 // Judges the front of s, and puts the payload of a frame into the front of buf.
-pub(crate) fn extract(s: &[u8], buf: &mut [u8]) -> Judged
+pub(crate) fn extract(footer: Footer, s: &[u8], buf: &mut [u8]) -> Judged
     requires { ⌜ 256 ≤ length (now buf) ⌝ }
-    ensures { λ r. ⌜ judge Binary (now (s .entry)) ≡ verdictOf Binary (now (s .entry)) r ⌝ }
-    ensures { λ r. ⌜ now (buf .exit) ≡ handedOut (judge Binary (now (s .entry))) (now (buf .entry)) ⌝ }
+    ensures { λ r. ⌜ judge (Binary footer) (now (s .entry)) ≡ verdictOf (Binary footer) (now (s .entry)) r ⌝ }
+    ensures { λ r. ⌜ now (buf .exit) ≡ handedOut (judge (Binary footer) (now (s .entry))) (now (buf .entry)) ⌝ }
 {
-    let verdict = judge(s);
+    let verdict = judge(footer, s);
     if let Judged::Frame { used: _, len } = verdict {
         unpack(s, len, buf);
     }
@@ -109,7 +116,7 @@ pub(crate) fn extract(s: &[u8], buf: &mut [u8]) -> Judged
 pub(crate) fn pack(p: &[u8], buf: &mut [u8])
     requires { ⌜ length (now p) ≤ 256 ⌝ }
     requires { ⌜ length (now p) + 6 ≤ length (now buf) ⌝ }
-    ensures { λ _. ⌜ now (buf .exit) ≡ inFront (layout Binary (now (p .entry))) (now (buf .entry)) ⌝ }
+    ensures { λ _. ⌜ now (buf .exit) ≡ inFront (layout BinaryFraming (now (p .entry))) (now (buf .entry)) ⌝ }
 {
     let len = p.len();
     let end = 4 + len;

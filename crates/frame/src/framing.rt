@@ -1,4 +1,4 @@
-// The two framings under one name: judging the front of a slice, taking the payload out and writing a frame.
+// The two framings and the formats in which they are read under one name: judging the front of a slice, taking the payload out and writing a frame.
 use crate::ascii;
 use crate::binary;
 use crate::reader::Reader;
@@ -6,16 +6,43 @@ use crate::refusal::Refusal;
 ghost use mathlib.Core.Path.{_≡_};
 ghost use Prim.Native.Nat.{_≤_, _<_};
 ghost use lib.ListN.{length};
-ghost use Rattle.frame.specs.Framing.{judge, layout, limit, inFront};
-ghost use Rattle.frame.specs.Judged.{verdictOf, handedOut, payloadAt, HasPayload, frameLength, startOf, doubledNumber, passedBy, Ended};
+ghost use Rattle.frame.specs.Framing.{formatOf, judge, layout, limit, inFront, mayFollow, absorbed};
+ghost use Rattle.frame.specs.Judged.{verdictOf, handedOut, payloadAt, HasPayload, frameLength, startOf, doubledNumber, passedBy, Ended, Completed};
 ghost use Rattle.frame.specs.Refusal.{numberOf};
+ghost use Rattle.frame.specs.declared.framing.Format.the-variants.{Binary};
 
-// How frames are laid out on the line.
+// How frames are laid out on the line, and so how they are written.
 pub enum Framing {
     // A5 5A, a length, the payload, its XOR and 04.
     Binary,
     // A colon, the payload and its checksum in hex digits, CR LF.
     Ascii,
+}
+
+// Whether a binary frame that is read may lack its last byte, the footer 04.
+pub enum Footer {
+    // A frame is complete at its checksum; a 04 right behind it belongs to it.
+    Optional,
+    // A frame ends with its 04.
+    Required,
+}
+
+// How frames are read: a framing with its choice.
+pub enum Format {
+    Binary(Footer),
+    Ascii,
+}
+
+impl Framing {
+    // The format in which a framing is read where none is named: in binary framing the footer is optional.
+    pub fn format(self) -> Format
+        ensures { λ r. ⌜ r ≡ formatOf self ⌝ }
+    {
+        match self {
+            Framing::Binary => Format::Binary(Footer::Optional),
+            Framing::Ascii => Format::Ascii,
+        }
+    }
 }
 
 // What stands at the front of a slice.
@@ -29,43 +56,43 @@ pub(crate) enum Judged {
 }
 
 // The first byte of every frame.
-pub(crate) fn start_of(framing: Framing) -> u8
-    ensures { λ r. ⌜ r ≡ startOf framing ⌝ }
+pub(crate) fn start_of(format: Format) -> u8
+    ensures { λ r. ⌜ r ≡ startOf format ⌝ }
 {
-    match framing {
-        Framing::Binary => 0xA5,
-        Framing::Ascii => 0x3A,
+    match format {
+        Format::Binary(_) => 0xA5,
+        Format::Ascii => 0x3A,
     }
 }
 
 // The longest frame of a framing.
-pub(crate) fn limit_of(framing: Framing) -> usize
-    ensures { λ r. ⌜ r ≡ limit framing ⌝ }
+pub(crate) fn limit_of(format: Format) -> usize
+    ensures { λ r. ⌜ r ≡ limit format ⌝ }
 {
-    match framing {
-        Framing::Binary => Reader::MAX_BINARY,
-        Framing::Ascii => Reader::MAX_ASCII,
+    match format {
+        Format::Binary(_) => Reader::MAX_BINARY,
+        Format::Ascii => Reader::MAX_ASCII,
     }
 }
 
 // How many places a failed start passes over, where `judged` bytes were judged.
-pub(crate) fn passed_by(framing: Framing, judged: usize) -> usize
+pub(crate) fn passed_by(format: Format, judged: usize) -> usize
     requires { ⌜ 1 ≤ judged ⌝ }
-    ensures { λ r. ⌜ r ≡ passedBy framing judged ⌝ }
+    ensures { λ r. ⌜ r ≡ passedBy format judged ⌝ }
 {
-    match framing {
-        Framing::Binary => 1,
-        Framing::Ascii => judged - 1,
+    match format {
+        Format::Binary(_) => 1,
+        Format::Ascii => judged - 1,
     }
 }
 
 // The refusal of a start that another start follows.
-pub(crate) fn doubled_refusal(framing: Framing) -> Refusal
-    ensures { λ r. ⌜ numberOf r ≡ doubledNumber framing ⌝ }
+pub(crate) fn doubled_refusal(format: Format) -> Refusal
+    ensures { λ r. ⌜ numberOf r ≡ doubledNumber format ⌝ }
 {
-    match framing {
-        Framing::Binary => Refusal::Start,
-        Framing::Ascii => Refusal::Character,
+    match format {
+        Format::Binary(_) => Refusal::Start,
+        Format::Ascii => Refusal::Character,
     }
 }
 
@@ -96,37 +123,90 @@ pub(crate) fn judge_ending(s: &[u8], end: usize, right: bool, last: u8, len: usi
     }
 }
 
-// Puts the payload of `len` bytes of the frame at the front of s into the front of buf.
-pub(crate) fn unpack(framing: Framing, s: &[u8], len: usize, buf: &mut [u8])
-    requires { ⌜ HasPayload framing (now s) len ⌝ }
-    requires { ⌜ len ≤ length (now buf) ⌝ }
-    ensures { λ _. ⌜ now (buf .exit) ≡ inFront (payloadAt framing (now (s .entry)) len) (now (buf .entry)) ⌝ }
+// Judges the checksum of a frame with a payload of `len` bytes that is complete with the byte at `end`: right or not.
+pub(crate) fn judge_complete(end: usize, right: bool, len: usize) -> Judged
+    requires { ⌜ end < 65536 ⌝ }
+    ensures { λ r. ⌜ Completed end right len r ⌝ }
 {
-    match framing {
-        Framing::Binary => binary::unpack(s, len, buf),
-        Framing::Ascii => ascii::unpack(s, len, buf),
+    if !right {
+        return Judged::Failed {
+            refusal: Refusal::Checksum,
+            judged: end + 1,
+        };
+    }
+    Judged::Frame {
+        used: end + 1,
+        len: len,
+    }
+}
+
+// Whether a frame may lack its footer.
+fn may_lack(footer: Footer) -> bool
+    ensures { λ r. ⌜ r ≡ mayFollow (Binary footer) ⌝ }
+{
+    match footer {
+        Footer::Optional => true,
+        Footer::Required => false,
+    }
+}
+
+// Whether an optional byte may follow a frame that was judged complete.
+pub(crate) fn may_follow(format: Format) -> bool
+    ensures { λ r. ⌜ r ≡ mayFollow format ⌝ }
+{
+    match format {
+        Format::Binary(footer) => may_lack(footer),
+        Format::Ascii => false,
+    }
+}
+
+// How many bytes at the front of s, one or none, belong to the frame before them, where one may follow it.
+pub(crate) fn absorbed(format: Format, follows: bool, s: &[u8]) -> usize
+    ensures { λ r. ⌜ r ≡ absorbed format follows (now (s .entry)) ⌝ }
+{
+    if !follows {
+        return 0;
+    }
+    if s.len() == 0 {
+        return 0;
+    }
+    if s[0] != 0x04 {
+        return 0;
+    }
+    if may_follow(format) { 1 } else { 0 }
+}
+
+// Puts the payload of `len` bytes of the frame at the front of s into the front of buf.
+pub(crate) fn unpack(format: Format, s: &[u8], len: usize, buf: &mut [u8])
+    requires { ⌜ HasPayload format (now s) len ⌝ }
+    requires { ⌜ len ≤ length (now buf) ⌝ }
+    ensures { λ _. ⌜ now (buf .exit) ≡ inFront (payloadAt format (now (s .entry)) len) (now (buf .entry)) ⌝ }
+{
+    match format {
+        Format::Binary(_) => binary::unpack(s, len, buf),
+        Format::Ascii => ascii::unpack(s, len, buf),
     }
 }
 
 // Judges the front of s.
-pub(crate) fn judge(framing: Framing, s: &[u8]) -> Judged
-    ensures { λ r. ⌜ judge framing (now (s .entry)) ≡ verdictOf framing (now (s .entry)) r ⌝ }
+pub(crate) fn judge(format: Format, s: &[u8]) -> Judged
+    ensures { λ r. ⌜ judge format (now (s .entry)) ≡ verdictOf format (now (s .entry)) r ⌝ }
 {
-    match framing {
-        Framing::Binary => binary::judge(s),
-        Framing::Ascii => ascii::judge(s),
+    match format {
+        Format::Binary(footer) => binary::judge(footer, s),
+        Format::Ascii => ascii::judge(s),
     }
 }
 
 // Judges the front of s, and puts the payload of a frame into the front of buf.
-pub(crate) fn extract(framing: Framing, s: &[u8], buf: &mut [u8]) -> Judged
+pub(crate) fn extract(format: Format, s: &[u8], buf: &mut [u8]) -> Judged
     requires { ⌜ 256 ≤ length (now buf) ⌝ }
-    ensures { λ r. ⌜ judge framing (now (s .entry)) ≡ verdictOf framing (now (s .entry)) r ⌝ }
-    ensures { λ r. ⌜ now (buf .exit) ≡ handedOut (judge framing (now (s .entry))) (now (buf .entry)) ⌝ }
+    ensures { λ r. ⌜ judge format (now (s .entry)) ≡ verdictOf format (now (s .entry)) r ⌝ }
+    ensures { λ r. ⌜ now (buf .exit) ≡ handedOut (judge format (now (s .entry))) (now (buf .entry)) ⌝ }
 {
-    match framing {
-        Framing::Binary => binary::extract(s, buf),
-        Framing::Ascii => ascii::extract(s, buf),
+    match format {
+        Format::Binary(footer) => binary::extract(footer, s, buf),
+        Format::Ascii => ascii::extract(s, buf),
     }
 }
 

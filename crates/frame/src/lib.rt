@@ -13,6 +13,8 @@ mod view;
 
 pub use answer::FeedAnswer;
 pub use answer::QuietAnswer;
+pub use framing::Footer;
+pub use framing::Format;
 pub use framing::Framing;
 pub use hex::hex_of;
 pub use reader::Fed;
@@ -22,6 +24,7 @@ pub use refusal::Refusal;
 pub use single::ReadAnswer;
 pub use single::WriteAnswer;
 pub use single::read_frame;
+pub use single::read_frame_as;
 pub use single::write_frame;
 pub use view::View;
 pub use view::Viewed;

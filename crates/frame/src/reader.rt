@@ -4,26 +4,33 @@ use crate::answer::FeedAnswer;
 use crate::answer::Kept;
 use crate::answer::QuietAnswer;
 use crate::answer::answer;
+use crate::answer::took_first;
+use crate::framing::Format;
 use crate::framing::Framing;
+use crate::framing::absorbed;
 use crate::framing::limit_of;
+use crate::framing::may_follow;
 use crate::refusal::Refusal;
 use crate::scan::ScanEnd;
 use crate::scan::find;
 use crate::scan::smaller;
 ghost use mathlib.Core.Path.{_≡_};
+ghost use mathlib.Core.List.{[]};
 ghost use Prim.Native.Nat.{_+_, _≤_};
 ghost use lib.ListN.{length, take, drop};
-ghost use Rattle.frame.specs.Framing.{limit};
-ghost use Rattle.frame.specs.Reader.{holding, quiet, newReader, Holds, Feeds, Quiets};
+ghost use Rattle.frame.specs.Framing.{formatOf, limit, behindOptional};
+ghost use Rattle.frame.specs.Reader.{holding, lineBehind, quietHeld, newReader, Holds, Feeds, Quiets};
 ghost use Rattle.frame.specs.View.{part};
 ghost use Rattle.frame.specs.Answer.{scanWhole};
-ghost use Rattle.frame.specs.Feeding.{Joins, Stores, Leaves, LeavesLine, QuietAnswered, ChunkFed, HeldFed};
+ghost use Rattle.frame.specs.Feeding.{Joins, Stores, Leaves, LeavesHeld, LeavesLine, QuietAnswered, ChunkFed, HeldFed};
 
-// A reader's state, by value: its framing and the bytes that it holds, the first `count` of `held`.
+// A reader's state, by value: its format; the bytes that it holds, the first `count` of `held`; and `follows`, whether an optional byte, the 04 of a frame that
+// may lack it, may still follow the last frame and belong to it. In other formats `follows` is of no account.
 pub struct Reader {
-    pub framing: Framing,
+    pub format: Format,
     pub held: [u8; 517],
     pub count: usize,
+    pub follows: bool,
 }
 
 // The answer to a chunk, with the state that follows.
@@ -44,34 +51,36 @@ struct Joined {
     size: usize,
 }
 
-// An answer, and how many bytes are held afterwards: the first of an array that was lent.
+// An answer, how many bytes are held afterwards, the first of an array that was lent, and whether an optional byte may follow.
 struct Left {
     answer: FeedAnswer,
     count: usize,
+    follows: bool,
 }
 
 // A state that holds the bytes of s.
-pub(crate) fn hold(framing: Framing, s: &[u8]) -> Reader
+pub(crate) fn hold(format: Format, s: &[u8], follows: bool) -> Reader
     requires { ⌜ length (now s) ≤ 517 ⌝ }
-    ensures { λ r. ⌜ Holds (holding framing (now (s .entry))) r ⌝ }
+    ensures { λ r. ⌜ Holds (holding format (now (s .entry)) follows) r ⌝ }
 {
     let mut held = [0u8; 517];
     bytes::copy(s, &mut held);
     let count = s.len();
     Reader {
-        framing,
+        format,
         held,
         count,
+        follows,
     }
 }
 
 // Joins held bytes and the chunk's front.
-fn join(framing: Framing, held: &[u8], chunk: &[u8]) -> Joined
-    requires { ⌜ length (now held) ≤ limit framing ⌝ }
-    ensures { λ r. ⌜ Joins framing (now (held .entry)) (now (chunk .entry)) r ⌝ }
+fn join(format: Format, held: &[u8], chunk: &[u8]) -> Joined
+    requires { ⌜ length (now held) ≤ limit format ⌝ }
+    ensures { λ r. ⌜ Joins format (now (held .entry)) (now (chunk .entry)) r ⌝ }
 {
     let count = held.len();
-    let more = smaller(chunk.len(), limit_of(framing));
+    let more = smaller(chunk.len(), limit_of(format));
     let mut bytes = [0u8; 1034];
     bytes::copy(held, &mut bytes);
     bytes::copy(&chunk[..more], &mut bytes[count..]);
@@ -93,6 +102,7 @@ fn keep(held: &mut [u8], w: &[u8], kept: Kept) -> Left
     Left {
         answer: answer,
         count: end - from,
+        follows: kept.follows,
     }
 }
 
@@ -105,10 +115,15 @@ fn shift(held: &mut [u8], kept: Kept) -> Left
     let from = kept.from;
     let count = kept.end - from;
     let answer = kept.answer;
+    let follows = kept.follows;
     if 0 < from {
         move_down(held, from, count);
     }
-    Left { answer, count }
+    Left {
+        answer,
+        count,
+        follows,
+    }
 }
 
 // Moves `count` bytes of s from `from` on to its front.
@@ -126,102 +141,151 @@ fn move_down(s: &mut [u8], from: usize, count: usize)
 // Finds the next frame in a chunk, where none is held, `noise` bytes before the chunk were settled and its first `reach` bytes were judged. Held is what
 // held has in its front afterwards.
 fn feed_chunk(
-    framing: Framing,
+    format: Format,
     held: &mut [u8],
     chunk: &[u8],
     reach: usize,
     noise: usize,
     buf: &mut [u8],
 ) -> Left
-    requires { ⌜ ChunkFed framing (now held) (now chunk) reach noise (now buf) ⌝ }
-    ensures { λ r. ⌜ Leaves (scanWhole framing 0 noise reach (now (chunk .entry))) (now (buf .entry)) r (now (held .exit)) (now (buf .exit)) ⌝ }
+    requires { ⌜ ChunkFed format (now held) (now chunk) reach noise (now buf) ⌝ }
+    ensures { λ r. ⌜ Leaves (scanWhole format 0 noise reach (now (chunk .entry))) (now (buf .entry)) r (now (held .exit)) (now (buf .exit)) ⌝ }
 {
     let size = chunk.len();
-    let found = find(framing, chunk, 0, size, reach, false, buf);
+    let found = find(format, chunk, 0, size, reach, false, buf);
     let before = Before {
         base: 0,
         noise: noise,
         size: size,
     };
-    keep(held, chunk, answer(framing, chunk, found, before))
+    keep(held, chunk, answer(format, chunk, found, before))
 }
 
 // Finds the next frame where the first `count` bytes of held are held and the chunk does not fit behind them.
-fn feed_long(framing: Framing, held: &mut [u8], count: usize, chunk: &[u8], buf: &mut [u8]) -> Left
-    requires { ⌜ HeldFed framing (now held) count (now buf) ⌝ }
-    ensures { λ r. ⌜ LeavesLine framing (now (held .entry)) count (now (chunk .entry)) (now (buf .entry)) r (now (held .exit)) (now (buf .exit)) ⌝ }
+fn feed_long(format: Format, held: &mut [u8], count: usize, chunk: &[u8], buf: &mut [u8]) -> Left
+    requires { ⌜ HeldFed format (now held) count (now buf) ⌝ }
+    ensures { λ r. ⌜ LeavesHeld format (now (held .entry)) count (now (chunk .entry)) (now (buf .entry)) r (now (held .exit)) (now (buf .exit)) ⌝ }
 {
-    let joined = join(framing, &held[..count], chunk);
+    let joined = join(format, &held[..count], chunk);
     let size = joined.size;
     let bytes = joined.bytes;
     let whole = &bytes[..];
     let w = &whole[..size];
-    let found = find(framing, w, 0, count, count, false, buf);
+    let found = find(format, w, 0, count, count, false, buf);
     let far = found.reach;
     let end = found.end;
     if let ScanEnd::Passed = end {
-        return feed_chunk(framing, held, chunk, far - count, count, buf);
+        return feed_chunk(format, held, chunk, far - count, count, buf);
     }
     let before = Before {
         base: count,
         noise: 0,
         size: chunk.len(),
     };
-    keep(held, w, answer(framing, w, found, before))
+    keep(held, w, answer(format, w, found, before))
 }
 
 // Finds the next frame where the first `count` bytes of held are held and the chunk fits behind them: it is put there.
-fn feed_short(framing: Framing, held: &mut [u8], count: usize, chunk: &[u8], buf: &mut [u8]) -> Left
-    requires { ⌜ HeldFed framing (now held) count (now buf) ⌝ }
-    requires { ⌜ count + length (now chunk) ≤ limit framing ⌝ }
-    ensures { λ r. ⌜ LeavesLine framing (now (held .entry)) count (now (chunk .entry)) (now (buf .entry)) r (now (held .exit)) (now (buf .exit)) ⌝ }
+fn feed_short(format: Format, held: &mut [u8], count: usize, chunk: &[u8], buf: &mut [u8]) -> Left
+    requires { ⌜ HeldFed format (now held) count (now buf) ⌝ }
+    requires { ⌜ count + length (now chunk) ≤ limit format ⌝ }
+    ensures { λ r. ⌜ LeavesHeld format (now (held .entry)) count (now (chunk .entry)) (now (buf .entry)) r (now (held .exit)) (now (buf .exit)) ⌝ }
 {
     let size = count + chunk.len();
     bytes::copy(chunk, &mut held[count..]);
     let w = &held[..size];
-    let found = find(framing, w, 0, size, count, false, buf);
+    let found = find(format, w, 0, size, count, false, buf);
     let before = Before {
         base: count,
         noise: 0,
         size: chunk.len(),
     };
-    let kept = answer(framing, w, found, before);
+    let kept = answer(format, w, found, before);
     shift(held, kept)
 }
 
+// The same, whether the chunk fits behind the held bytes or not.
+fn feed_on(format: Format, held: &mut [u8], count: usize, chunk: &[u8], buf: &mut [u8]) -> Left
+    requires { ⌜ HeldFed format (now held) count (now buf) ⌝ }
+    ensures { λ r. ⌜ LeavesHeld format (now (held .entry)) count (now (chunk .entry)) (now (buf .entry)) r (now (held .exit)) (now (buf .exit)) ⌝ }
+{
+    if limit_of(format) - count < chunk.len() {
+        return feed_long(format, held, count, chunk, buf);
+    }
+    feed_short(format, held, count, chunk, buf)
+}
+
+// Finds the next frame where nothing is held: an optional byte that may follow the last one is taken first, at the chunk's front; with no byte offered it
+// may still follow.
+fn feed_next(format: Format, held: &mut [u8], follows: bool, chunk: &[u8], buf: &mut [u8]) -> Left
+    requires { ⌜ ChunkFed format (now held) (now chunk) 0 0 (now buf) ⌝ }
+    requires { ⌜ length (now chunk) ≤ 65536 ⌝ }
+    ensures { λ r. ⌜ Leaves (lineBehind format follows [] (now (chunk .entry))) (now (buf .entry)) r (now (held .exit)) (now (buf .exit)) ⌝ }
+{
+    if chunk.len() == 0 {
+        return Left {
+            answer: FeedAnswer::NeedsMore { taken: 0, noise: 0 },
+            count: 0,
+            follows: follows,
+        };
+    }
+    let first = absorbed(format, follows, chunk);
+    let left = feed_chunk(format, held, &chunk[first..], 0, 0, buf);
+    let answer = left.answer;
+    Left {
+        answer: took_first(answer, first),
+        count: left.count,
+        follows: left.follows,
+    }
+}
+
+// Drops an optional byte that may follow the last frame from the front of the `count` bytes that are held, and gives how many are left.
+fn drop_optional(format: Format, held: &mut [u8], count: usize, follows: bool) -> usize
+    requires { ⌜ count ≤ length (now held) ⌝ }
+    ensures { λ r. ⌜ r ≤ count ⌝ }
+    ensures { λ r. ⌜ take r (now (held .exit)) ≡ behindOptional format follows (take count (now (held .entry))) ⌝ }
+{
+    if absorbed(format, follows, &held[..count]) == 0 {
+        return count;
+    }
+    let rest = count - 1;
+    move_down(held, 1, rest);
+    rest
+}
+
 // Finds the next frame where the first `count` bytes of held are held, and has those that are held afterwards in its front.
-fn feed_on(
-    framing: Framing,
+fn feed_state(
+    format: Format,
     held: &mut [u8; 517],
     count: usize,
+    follows: bool,
     chunk: &[u8],
     buf: &mut [u8],
 ) -> Left
-    requires { ⌜ HeldFed framing (now held) count (now buf) ⌝ }
-    ensures { λ r. ⌜ LeavesLine framing (now (held .entry)) count (now (chunk .entry)) (now (buf .entry)) r (now (held .exit)) (now (buf .exit)) ⌝ }
+    requires { ⌜ HeldFed format (now held) count (now buf) ⌝ }
+    requires { ⌜ length (now chunk) ≤ 65536 ⌝ }
+    ensures { λ r. ⌜ LeavesLine format follows (now (held .entry)) count (now (chunk .entry)) (now (buf .entry)) r (now (held .exit)) (now (buf .exit)) ⌝ }
 {
     if count == 0 {
-        return feed_chunk(framing, held, chunk, 0, 0, buf);
+        return feed_next(format, held, follows, chunk, buf);
     }
-    if limit_of(framing) - count < chunk.len() {
-        return feed_long(framing, held, count, chunk, buf);
-    }
-    feed_short(framing, held, count, chunk, buf)
+    let rest = drop_optional(format, held, count, follows);
+    feed_on(format, held, rest, chunk, buf)
 }
 
 // The next frame in the bytes that end a segment.
-fn quiet_held(framing: Framing, s: &[u8], buf: &mut [u8]) -> Quieted
-    requires { ⌜ length (now s) ≤ limit framing ⌝ }
+fn quiet_held(format: Format, s: &[u8], buf: &mut [u8]) -> Quieted
+    requires { ⌜ length (now s) ≤ limit format ⌝ }
     requires { ⌜ 256 ≤ length (now buf) ⌝ }
-    ensures { λ r. ⌜ QuietAnswered (holding framing (now (s .entry))) (quiet (holding framing (now (s .entry)))) (now (buf .entry)) r (now (buf .exit)) ⌝ }
+    ensures { λ r. ⌜ QuietAnswered format (quietHeld format (now (s .entry))) (now (buf .entry)) r (now (buf .exit)) ⌝ }
 {
-    let found = find(framing, s, 0, s.len(), 0, true, buf);
+    let found = find(format, s, 0, s.len(), 0, true, buf);
     let place = found.place;
     let end = found.end;
     match end {
         ScanEnd::Frame { used, len } => {
             let next = place + used;
-            let reader = hold(framing, &s[next..]);
+            let reader = hold(format, &s[next..], may_follow(format));
             Quieted {
                 reader: reader,
                 answer: QuietAnswer::Frame {
@@ -231,11 +295,11 @@ fn quiet_held(framing: Framing, s: &[u8], buf: &mut [u8]) -> Quieted
             }
         }
         ScanEnd::Undecided => Quieted {
-            reader: Reader::new(framing),
+            reader: Reader::open(format),
             answer: QuietAnswer::Empty { noise: place },
         },
         ScanEnd::Passed => Quieted {
-            reader: Reader::new(framing),
+            reader: Reader::open(format),
             answer: QuietAnswer::Empty { noise: place },
         },
     }
@@ -244,32 +308,41 @@ fn quiet_held(framing: Framing, s: &[u8], buf: &mut [u8]) -> Quieted
 impl Reader {
     // The longest payload, the 256 of `writable` in specs/Single.antt.
     pub const MAX_PAYLOAD: usize = 256;
-    // The longest frame in binary framing, `limit Binary` of specs/Framing.antt.
+    // The longest frame in binary framing, `limit` of specs/Framing.antt for either footer.
     pub const MAX_BINARY: usize = 262;
     // The longest frame in ASCII framing, `limit Ascii`, which is also the length of a state's array.
     pub const MAX_ASCII: usize = 517;
 
-    // A new reader for a framing.
-    pub fn new(framing: Framing) -> Self
-        ensures { λ r. ⌜ r ≡ newReader framing ⌝ }
+    // A new reader for a format.
+    pub fn open(format: Format) -> Self
+        ensures { λ r. ⌜ r ≡ newReader format ⌝ }
     {
         Reader {
-            framing: framing,
+            format: format,
             held: [0u8; Reader::MAX_ASCII],
             count: 0,
+            follows: false,
         }
     }
 
-    // Takes bytes of a chunk until the next frame is settled, whose payload goes to the front of buf; the rest of buf stays. Bytes that were taken
-    // behind the frame, where an earlier start failed late, are held. Call it again with the chunk's rest, even an empty one, until more bytes are
+    // A new reader for a framing's default format: in binary framing the footer may be left out.
+    pub fn new(framing: Framing) -> Self
+        ensures { λ r. ⌜ r ≡ newReader (formatOf framing) ⌝ }
+    {
+        Reader::open(framing.format())
+    }
+
+    // Takes bytes of a chunk until the next frame is settled, whose payload goes to the front of buf; the rest of buf stays. A 04 that follows the last
+    // frame is taken first, and is no noise; that of the frame which this call hands out is left for the next. Bytes that were taken behind the frame,
+    // where an earlier start failed late, are held. Call it again with the chunk's rest, even an empty one, until more bytes are
     // needed. Refused with 16 where the state holds more bytes than a frame can have, 13 where buf has under 256 bytes, 15 where the chunk has over
     // 65,536; a refusal leaves state and buffer.
     pub fn feed(mut self, chunk: &[u8], buf: &mut [u8]) -> Fed
         ensures { λ r. ⌜ Feeds self (now (chunk .entry)) (now (buf .entry)) r (now (buf .exit)) ⌝ }
     {
-        let framing = self.framing;
+        let format = self.format;
         let count = self.count;
-        if limit_of(framing) < count {
+        if limit_of(format) < count {
             return Fed {
                 reader: self,
                 answer: FeedAnswer::Refused(Refusal::State),
@@ -287,23 +360,26 @@ impl Reader {
                 answer: FeedAnswer::Refused(Refusal::Chunk),
             };
         }
-        let left = feed_on(framing, &mut self.held, count, chunk, buf);
+        let follows = self.follows;
+        let left = feed_state(format, &mut self.held, count, follows, chunk, buf);
         let answer = left.answer;
         self.count = left.count;
+        self.follows = left.follows;
         Fed {
             reader: self,
             answer: answer,
         }
     }
 
-    // The line was quiet: the held bytes end their segment. Gives the next frame in them, as `feed` does, or a new reader's state. Call it
+    // The line was quiet: the held bytes end their segment. Gives the next frame in them, as `feed` does, without a 04 in front that follows the last frame,
+    // or a new reader's state, behind which a 04 is noise. Call it
     // again until it is empty. Refused with 16, 13 as `feed` is.
     pub fn quiet(self, buf: &mut [u8]) -> Quieted
         ensures { λ r. ⌜ Quiets self (now (buf .entry)) r (now (buf .exit)) ⌝ }
     {
-        let framing = self.framing;
+        let format = self.format;
         let count = self.count;
-        if limit_of(framing) < count {
+        if limit_of(format) < count {
             return Quieted {
                 reader: self,
                 answer: QuietAnswer::Refused(Refusal::State),
@@ -317,6 +393,7 @@ impl Reader {
         }
         let held = self.held;
         let whole = &held[..];
-        quiet_held(framing, &whole[..count], buf)
+        let first = absorbed(format, self.follows, &whole[..count]);
+        quiet_held(format, &whole[first..count], buf)
     }
 }

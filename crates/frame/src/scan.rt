@@ -1,5 +1,5 @@
 // Finding the first frame of a slice by the leftmost rule.
-use crate::framing::Framing;
+use crate::framing::Format;
 use crate::framing::Judged;
 use crate::framing::doubled_refusal;
 use crate::framing::extract;
@@ -110,17 +110,17 @@ fn is_doubled(s: &[u8], place: usize) -> bool
 }
 
 // Judges s from the start at `place` on.
-fn judge_place(framing: Framing, s: &[u8], place: usize) -> Judged
+fn judge_place(format: Format, s: &[u8], place: usize) -> Judged
     requires { ⌜ place < length (now s) ⌝ }
-    requires { ⌜ getD (now s) place 0 ≡ startOf framing ⌝ }
-    ensures { λ r. ⌜ judge framing (drop place (now (s .entry))) ≡ verdictOf framing (drop place (now (s .entry))) r ⌝ }
+    requires { ⌜ getD (now s) place 0 ≡ startOf format ⌝ }
+    ensures { λ r. ⌜ judge format (drop place (now (s .entry))) ≡ verdictOf format (drop place (now (s .entry))) r ⌝ }
 {
     if is_doubled(s, place) {
-        let refusal = doubled_refusal(framing);
+        let refusal = doubled_refusal(format);
         let judged = 2;
         return Judged::Failed { refusal, judged };
     }
-    judge(framing, &s[place..])
+    judge(format, &s[place..])
 }
 
 // A scan's result.
@@ -133,7 +133,7 @@ fn stopped(place: usize, reach: usize, end: ScanEnd) -> ScanResult
 // Judges the places of s from `from` to `stop` in order, up to the first that does not fail; bytes that start no frame are passed at once. Bytes up to
 // `reach` were judged before. Where `ended`, the bytes end the segment, and an undecided place fails too.
 pub(crate) fn scan(
-    framing: Framing,
+    format: Format,
     s: &[u8],
     from: usize,
     stop: usize,
@@ -143,9 +143,9 @@ pub(crate) fn scan(
     requires { ⌜ from ≤ stop ⌝ }
     requires { ⌜ stop ≤ length (now s) ⌝ }
     requires { ⌜ reach ≤ length (now s) ⌝ }
-    ensures { λ r. ⌜ scanned framing (now (s .entry)) r ≡ scanFrom (judging ended framing) (stop - from) from reach (drop from (now (s .entry))) ⌝ }
+    ensures { λ r. ⌜ scanned format (now (s .entry)) r ≡ scanFrom (judging ended format) (stop - from) from reach (drop from (now (s .entry))) ⌝ }
 {
-    let start = start_of(framing);
+    let start = start_of(format);
     let mut place = from;
     let mut far = reach;
     while place < stop {
@@ -154,7 +154,7 @@ pub(crate) fn scan(
             far = larger(far, place);
             continue;
         }
-        match judge_place(framing, s, place) {
+        match judge_place(format, s, place) {
             Judged::Undecided => {
                 if !ended {
                     return stopped(place, far, ScanEnd::Undecided);
@@ -164,7 +164,7 @@ pub(crate) fn scan(
             }
             Judged::Failed { refusal: _, judged } => {
                 far = larger(far, place + judged);
-                place = smaller(place + passed_by(framing, judged), stop);
+                place = smaller(place + passed_by(format, judged), stop);
             }
             Judged::Frame { used, len } => {
                 far = larger(far, place + used);
@@ -177,7 +177,7 @@ pub(crate) fn scan(
 
 // The same, and puts the payload of a frame into the front of buf.
 pub(crate) fn find(
-    framing: Framing,
+    format: Format,
     s: &[u8],
     from: usize,
     stop: usize,
@@ -189,38 +189,38 @@ pub(crate) fn find(
     requires { ⌜ stop ≤ length (now s) ⌝ }
     requires { ⌜ reach ≤ length (now s) ⌝ }
     requires { ⌜ 256 ≤ length (now buf) ⌝ }
-    ensures { λ r. ⌜ scanned framing (now (s .entry)) r ≡ scanFrom (judging ended framing) (stop - from) from reach (drop from (now (s .entry))) ⌝ }
-    ensures { λ r. ⌜ now (buf .exit) ≡ stopBuffer (scanned framing (now (s .entry)) r .stop) (now (buf .entry)) ⌝ }
+    ensures { λ r. ⌜ scanned format (now (s .entry)) r ≡ scanFrom (judging ended format) (stop - from) from reach (drop from (now (s .entry))) ⌝ }
+    ensures { λ r. ⌜ now (buf .exit) ≡ stopBuffer (scanned format (now (s .entry)) r .stop) (now (buf .entry)) ⌝ }
 {
-    let found = scan(framing, s, from, stop, reach, ended);
+    let found = scan(format, s, from, stop, reach, ended);
     let end = found.end;
     if let ScanEnd::Frame { used: _, len } = end {
         let place = found.place;
-        unpack(framing, &s[place..], len, buf);
+        unpack(format, &s[place..], len, buf);
     }
     found
 }
 
 // The same over all places of a segment that goes on. On a clean line each frame stands at the front, so that place is judged before the loop, whose
 // set-up then costs nothing, and judged and handed out at once.
-pub(crate) fn find_first(framing: Framing, s: &[u8], reach: usize, buf: &mut [u8]) -> ScanResult
+pub(crate) fn find_first(format: Format, s: &[u8], reach: usize, buf: &mut [u8]) -> ScanResult
     requires { ⌜ reach ≤ length (now s) ⌝ }
     requires { ⌜ 256 ≤ length (now buf) ⌝ }
-    ensures { λ r. ⌜ scanned framing (now (s .entry)) r ≡ scanFrom (judging false framing) (length (now (s .entry))) 0 reach (now (s .entry)) ⌝ }
-    ensures { λ r. ⌜ now (buf .exit) ≡ stopBuffer (scanned framing (now (s .entry)) r .stop) (now (buf .entry)) ⌝ }
+    ensures { λ r. ⌜ scanned format (now (s .entry)) r ≡ scanFrom (judging false format) (length (now (s .entry))) 0 reach (now (s .entry)) ⌝ }
+    ensures { λ r. ⌜ now (buf .exit) ≡ stopBuffer (scanned format (now (s .entry)) r .stop) (now (buf .entry)) ⌝ }
 {
     let size = s.len();
     if size == 0 {
         return stopped(0, reach, ScanEnd::Passed);
     }
-    if s[0] != start_of(framing) {
-        return find(framing, s, 0, size, reach, false, buf);
+    if s[0] != start_of(format) {
+        return find(format, s, 0, size, reach, false, buf);
     }
-    match extract(framing, s, buf) {
+    match extract(format, s, buf) {
         Judged::Undecided => stopped(0, reach, ScanEnd::Undecided),
         Judged::Failed { refusal: _, judged } => {
-            let next = smaller(passed_by(framing, judged), size);
-            find(framing, s, next, size, larger(reach, judged), false, buf)
+            let next = smaller(passed_by(format, judged), size);
+            find(format, s, next, size, larger(reach, judged), false, buf)
         }
         Judged::Frame { used, len } => stopped(
             0,

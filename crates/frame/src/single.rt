@@ -1,11 +1,15 @@
 // Reading and writing a single frame.
+use crate::framing::Format;
 use crate::framing::Framing;
 use crate::framing::Judged;
+use crate::framing::absorbed;
 use crate::framing::frame_len;
 use crate::framing::judge;
+use crate::framing::may_follow;
 use crate::framing::pack;
 use crate::framing::unpack;
 use crate::refusal::Refusal;
+ghost use Rattle.frame.specs.Framing.{formatOf};
 ghost use Rattle.frame.specs.Single.{Reads, Writes};
 
 pub enum ReadAnswer {
@@ -20,22 +24,31 @@ pub enum WriteAnswer {
     Refused(Refusal),
 }
 
-// Reads the frame at the front of s. Its payload goes to the front of buf, whose other bytes stay. A refusal leaves all of buf:
-// 1 to 6 where s does not begin with a frame, then 13 where buf is shorter than the payload.
-pub fn read_frame(framing: Framing, s: &[u8], buf: &mut [u8]) -> ReadAnswer
-    ensures { λ r. ⌜ Reads framing (now (s .entry)) (now (buf .entry)) r (now (buf .exit)) ⌝ }
+// Reads the frame at the front of s in this format. Its payload goes to the front of buf, whose other bytes stay; a footer that may be left out and is
+// there counts as used. A refusal leaves all of buf: 1 to 6 where s does not begin with a frame, then 13 where buf is shorter than the payload.
+pub fn read_frame_as(format: Format, s: &[u8], buf: &mut [u8]) -> ReadAnswer
+    ensures { λ r. ⌜ Reads format (now (s .entry)) (now (buf .entry)) r (now (buf .exit)) ⌝ }
 {
-    match judge(framing, s) {
+    match judge(format, s) {
         Judged::Undecided => ReadAnswer::Refused(Refusal::Cut),
         Judged::Failed { refusal, judged: _ } => ReadAnswer::Refused(refusal),
         Judged::Frame { used, len } => {
             if buf.len() < len {
                 return ReadAnswer::Refused(Refusal::Buffer);
             }
-            unpack(framing, s, len, buf);
+            unpack(format, s, len, buf);
+            let more = absorbed(format, may_follow(format), &s[used..]);
+            let used = used + more;
             ReadAnswer::Frame { used, len }
         }
     }
+}
+
+// The same in the framing's default format: in binary framing the footer may be left out.
+pub fn read_frame(framing: Framing, s: &[u8], buf: &mut [u8]) -> ReadAnswer
+    ensures { λ r. ⌜ Reads (formatOf framing) (now (s .entry)) (now (buf .entry)) r (now (buf .exit)) ⌝ }
+{
+    read_frame_as(framing.format(), s, buf)
 }
 
 // Writes a payload as a frame to the front of buf, whose other bytes stay. A refusal leaves all of buf: 14 where the payload is

@@ -3,24 +3,29 @@ use crate::answer::Before;
 use crate::answer::FeedAnswer;
 use crate::answer::Kept;
 use crate::answer::answer;
-use crate::framing::Framing;
+use crate::answer::took_first;
+use crate::framing::Format;
+use crate::framing::absorbed;
 use crate::framing::limit_of;
 use crate::reader::Reader;
 use crate::reader::hold;
 use crate::refusal::Refusal;
 use crate::scan::find_first;
+use crate::scan::smaller;
 ghost use mathlib.Core.Path.{_≡_};
 ghost use Prim.Native.Nat.{_≤_};
-ghost use lib.ListN.{length};
+ghost use lib.ListN.{length, take, drop};
 ghost use Rattle.frame.specs.Framing.{limit};
+ghost use Rattle.frame.specs.Reader.{lineBehind};
 ghost use Rattle.frame.specs.View.{inside, Views, Stands};
 ghost use Rattle.frame.specs.Feeding.{lineOver, KeepsCall};
 
-// A reader's state, by value, whose held bytes are those of a chunk from index `from` up to `end`, which is behind them.
+// A reader's state, by value, whose held bytes are those of a chunk from index `from` up to `end`, which is behind them; `follows` is the reader's.
 pub struct View {
-    pub framing: Framing,
+    pub format: Format,
     pub from: usize,
     pub end: usize,
+    pub follows: bool,
 }
 
 // The answer to a chunk, with the view that follows.
@@ -43,30 +48,59 @@ fn refused(view: View, refusal: Refusal) -> Viewed
 fn is_inside(view: View, size: usize) -> bool
     ensures { λ r. ⌜ r ≡ inside view size ⌝ }
 {
-    let framing = view.framing;
+    let format = view.format;
     if view.end < view.from {
         return false;
     }
     if size < view.end {
         return false;
     }
-    view.end - view.from <= limit_of(framing)
+    view.end - view.from <= limit_of(format)
 }
 
-// Finds the next frame where the first `count` bytes of w are held and the others are offered.
-fn feed_view(framing: Framing, w: &[u8], count: usize, buf: &mut [u8]) -> Kept
+// Finds the next frame where the first `count` bytes of w are held, the others are offered, and no optional byte follows the last frame.
+fn feed_part(format: Format, w: &[u8], count: usize, buf: &mut [u8]) -> Kept
     requires { ⌜ count ≤ length (now w) ⌝ }
-    requires { ⌜ count ≤ limit framing ⌝ }
+    requires { ⌜ count ≤ limit format ⌝ }
     requires { ⌜ 256 ≤ length (now buf) ⌝ }
-    ensures { λ r. ⌜ KeepsCall (lineOver framing count (now (w .entry))) count (now (w .entry)) r (now (buf .entry)) (now (buf .exit)) ⌝ }
+    ensures { λ r. ⌜ KeepsCall (lineOver format count (now (w .entry))) count (now (w .entry)) r (now (buf .entry)) (now (buf .exit)) ⌝ }
 {
-    let found = find_first(framing, w, count, buf);
+    let found = find_first(format, w, count, buf);
     let before = Before {
         base: count,
         noise: 0,
         size: w.len() - count,
     };
-    answer(framing, w, found, before)
+    answer(format, w, found, before)
+}
+
+// Finds the next frame where the first `count` bytes of w are held and the others are offered. An optional byte that may follow the last frame is passed
+// over at the front of w, and taken where it was not held. With no byte held or offered it may still follow.
+fn feed_view(format: Format, w: &[u8], count: usize, follows: bool, buf: &mut [u8]) -> Kept
+    requires { ⌜ count ≤ length (now w) ⌝ }
+    requires { ⌜ count ≤ limit format ⌝ }
+    requires { ⌜ length (now w) ≤ 65536 ⌝ }
+    requires { ⌜ 256 ≤ length (now buf) ⌝ }
+    ensures { λ r. ⌜ KeepsCall (lineBehind format follows (take count (now (w .entry))) (drop count (now (w .entry)))) count (now (w .entry)) r (now (buf .entry)) (now (buf .exit)) ⌝ }
+{
+    if w.len() == 0 {
+        return Kept {
+            answer: FeedAnswer::NeedsMore { taken: 0, noise: 0 },
+            from: 0,
+            end: 0,
+            follows: follows,
+        };
+    }
+    let first = absorbed(format, follows, w);
+    let held = smaller(first, count);
+    let kept = feed_part(format, &w[first..], count - held, buf);
+    let answer = kept.answer;
+    Kept {
+        answer: took_first(answer, first - held),
+        from: first + kept.from,
+        end: first + kept.end,
+        follows: kept.follows,
+    }
 }
 
 impl View {
@@ -76,7 +110,7 @@ impl View {
     pub fn feed(self, chunk: &[u8], buf: &mut [u8]) -> Viewed
         ensures { λ r. ⌜ Views self (now (chunk .entry)) (now (buf .entry)) r (now (buf .exit)) ⌝ }
     {
-        let framing = self.framing;
+        let format = self.format;
         let from = self.from;
         let end = self.end;
         let sound = is_inside(self, chunk.len());
@@ -89,13 +123,14 @@ impl View {
         if 65536 < chunk.len() {
             return refused(self, Refusal::Chunk);
         }
-        let kept = feed_view(framing, &chunk[from..], end - from, buf);
+        let kept = feed_view(format, &chunk[from..], end - from, self.follows, buf);
         let answer = kept.answer;
         Viewed {
             view: View {
-                framing: framing,
+                format: format,
                 from: from + kept.from,
                 end: from + kept.end,
+                follows: kept.follows,
             },
             answer: answer,
         }
@@ -105,12 +140,12 @@ impl View {
     pub fn reader(self, chunk: &[u8]) -> Reader
         ensures { λ r. ⌜ Stands self (now (chunk .entry)) r ⌝ }
     {
-        let framing = self.framing;
+        let format = self.format;
         let from = self.from;
         let end = self.end;
         if !is_inside(self, chunk.len()) {
-            return Reader::new(framing);
+            return Reader::open(format);
         }
-        hold(framing, &chunk[from..end])
+        hold(format, &chunk[from..end], self.follows)
     }
 }

@@ -4,22 +4,21 @@ use Prim.Native.Nat.{ℕ, _+_, _*_, _≤_, _<_, zero-le}
 use native.Mathlib.Nat.{add-zero, zero-add, le-refl, sub-self}
 use native.Mathlib.Omega.{arith}
 use mathlib.Core.Path.{_≡_, refl, sym, ap, ap₂, _∙_, subst, subst₂}
-use mathlib.Core.List.{List, [], _∷_, _++_, append-nil, map}
+use mathlib.Core.List.{List, [], _∷_, _++_, append-nil}
 use mathlib.Core.Bool.{Bool, true, false, cond, true≢false}
 use borrow.Author.Tests.{le-leb, lt-leb, leb-true}
 use lib.Dec.{eqb}
-use lib.ListN.{length, take, drop, length-take}
+use lib.ListN.{length, take, drop, length-take, length-drop}
 use lib.Seq.{take-length, drop-length, drop-drop}
-use Rattle.frame.specs.Framing.{limit, inFront}
-use Rattle.frame.specs.Rule.{Output, output, join, places, outFrom, rule}
+use Rattle.frame.specs.Framing.{limit, absorbed, inFront, behindOptional}
+use Rattle.frame.specs.Rule.{Output, output, nothing, join, places, outFrom, rule}
 use Rattle.frame.specs.Reader.{State, holding, Settled, settled, Called, line, quiet, after, stateOf, Holds, newReader, Values, frameValues}
 use Rattle.frame.specs.Reader.{noFrameValues, refusalValues, feedRefusal, quietRefusal, sound, AfterQuiet}
 use Rattle.frame.specs.Calls.{Answered, outOf}
 use Rattle.frame.specs.View.{inside, viewed, viewCall, Follows, viewRefusal, Stands}
-use Rattle.frame.specs.Hex.{sumOf}
-use Rattle.frame.specs.Draining.{Reports}
-use Rattle.frame.specs.declared.framing.Framing.{Framing}
-use Rattle.frame.specs.declared.framing.Framing.the-variants.{Binary, Ascii}
+use Rattle.frame.specs.Draining.{Reports, sizeOf}
+use Rattle.frame.specs.declared.framing.Format.{Format}
+use Rattle.frame.specs.declared.framing.Format.the-variants.{Binary, Ascii}
 use Rattle.frame.specs.declared.reader.Reader.{Reader}
 use Rattle.frame.specs.declared.view.View.{View}
 use Rattle.frame.specs.Refusal.{numberOf}
@@ -88,45 +87,52 @@ puts-front out text after end p =
     (p .ends ∙ zero-add (length text), p .bytes ∙ rw (take-length text, zero-add (length text)))
 
 -- What is listed fits its buffer.
-pub room-for : (o : Output (List ℕ)) (size most room : ℕ) → sumOf (map (λ p. length p + 6) (o .frames)) + o .noise ≤ size → size ≤ most → 2 * most ≤ room →
+pub room-for : (m : Format) (o : Output (List ℕ)) (size most room : ℕ) → sizeOf m o ≤ size → size ≤ most → 3 * most ≤ room →
     0 + length (linesOf (o .frames)) ≤ room
-room-for o size most room s l h = omega (arith, lines-short (o .frames))
+room-for m o size most room s l h = omega (arith, lines-short m (o .frames))
 
 -- No frame is longer than 517 bytes.
-pub limit-most : (f : Framing) → limit f ≤ 517
-limit-most Binary = omega arith
+pub limit-most : (m : Format) → limit m ≤ 517
+limit-most (Binary footer) = omega arith
 limit-most Ascii = omega arith
 
 -- A reader whose state is sound holds no more bytes than a frame can have.
-pub sound-count : (r : Reader) → sound r ≡ true → r .count ≤ limit (r .framing)
-sound-count r e = leb-true (r .count) (limit (r .framing)) e
+pub sound-count : (r : Reader) → sound r ≡ true → r .count ≤ limit (r .format)
+sound-count r e = leb-true (r .count) (limit (r .format)) e
 
 -- A state holds no more bytes than its reader counts.
 pub held-few : (r : Reader) → length (stateOf r .held) ≤ r .count
 held-few r = omega (arith, length-take (r .count) (r .held))
 
 -- What a chunk gives has room, and little noise.
-pub chunk-room : (r : Reader) (chunk out : List ℕ) → r .count ≤ limit (r .framing) → length chunk ≤ 65536 → 132106 ≤ length out →
+pub chunk-room : (r : Reader) (chunk out : List ℕ) → r .count ≤ limit (r .format) → length chunk ≤ 65536 → 198159 ≤ length out →
     Room (drain (stateOf r) chunk) 0 0 out
 chunk-room r chunk out l m h =
     let size = drain-is-sized (stateOf r) chunk in
-    let few : length (stateOf r .held) + length chunk ≤ 66053 = omega (arith, held-few r, limit-most (r .framing)) in
+    let few : length (stateOf r .held) + length chunk ≤ 66053 = omega (arith, held-few r, limit-most (r .format)) in
     record {
-      room = room-for (drain (stateOf r) chunk .out) (length (stateOf r .held) + length chunk) 66053 (length out) (omega arith) few (omega arith);
+      room = room-for (r .format) (drain (stateOf r) chunk .out) (length (stateOf r .held) + length chunk) 66053 (length out) (omega arith) few (omega arith);
       few = omega arith;
     }
 
 -- So has what the rule gives at a quiet.
-pub quiet-room : (r : Reader) (out : List ℕ) → r .count ≤ limit (r .framing) → 1034 ≤ length out →
+pub quiet-room : (r : Reader) (out : List ℕ) → r .count ≤ limit (r .format) → 1551 ≤ length out →
     (0 + length (linesOf (ruleAfter (stateOf r) [] .frames)) ≤ length out) × (ruleAfter (stateOf r) [] .noise ≤ 517)
 quiet-room r out l h =
-    let size = rule-is-sized (r .framing) (stateOf r .held ++ []) in
-    let few : length (stateOf r .held ++ []) ≤ 517 = rw append-nil (omega (arith, held-few r, limit-most (r .framing))) in
-    (room-for (ruleAfter (stateOf r) []) (length (stateOf r .held ++ [])) 517 (length out) size few h, omega arith)
+    let held : List ℕ = stateOf r .held ++ [] in
+    let rest : List ℕ = behindOptional (r .format) (r .follows) held in
+    let size = rule-is-sized (r .format) rest in
+    let all : length held ≤ 517 = rw append-nil (omega (arith, held-few r, limit-most (r .format))) in
+    let few : length rest ≤ 517 = omega (arith, length-drop (absorbed (r .format) (r .follows) held) held) in
+    (room-for (r .format) (ruleAfter (stateOf r) []) (length rest) 517 (length out) size few h, omega arith)
 
 -- The first call is still to come.
 pub partly-drained : (s : State) (chunk out : List ℕ) (at base : ℕ) → PartlyDrained (drain s chunk) s chunk out at base at base out
-partly-drained s chunk out at base = record { same = refl; progress = progress (drain s chunk .out) out at base }
+partly-drained s chunk out at base = record { same = refl; mark = refl; progress = progress (drain s chunk .out) out at base }
+
+-- States with equal parts.
+state-is : {m m′ : Format} {h h′ : List ℕ} {q q′ : Bool} → m ≡ m′ → h ≡ h′ → q ≡ q′ → holding m h q ≡ holding m′ h′ q′
+state-is em eh eq = λ i. holding (em i) (eh i) (eq i)
 
 module _ {whole : Settled} {s : State} {rest out₀ : List ℕ} {at base end noise : ℕ} {out : List ℕ} (g : PartlyDrained whole s rest out₀ at base end noise out)
     (fits : Room whole at base out₀) where
@@ -154,6 +160,7 @@ module _ {whole : Settled} {s : State} {rest out₀ : List ℕ} {at base end noi
     frame-step q =
         record {
           same = sym (ap (λ (st : Settled). st .rest) (line-drains s rest)) ∙ g .same;
+          mark = sym (ap (λ (st : Settled). st .follows) (line-drains s rest)) ∙ g .mark;
           progress = progress-frame (g .progress) (fits .room) p more _ (left-is (one p more) e) q;
         }
 
@@ -168,14 +175,14 @@ module _ {whole : Settled} {s : State} {rest out₀ : List ℕ} {at base end noi
     none-frames : line s rest .out .frames ≡ []
     none-frames = ap (λ (o : Output (List ℕ)). o .frames) e
 
-    drained : drain s rest ≡ settled (none more) (line s rest .held)
+    drained : drain s rest ≡ settled (none more) (line s rest .held) (line s rest .follows)
     unfolding join
     drained =
         let c : Called = line s rest in
         let over : drop (c .taken) rest ≡ [] = ap (λ (n : ℕ). drop n rest) (needs-more-is-true s rest none-frames .0) ∙ drop-length rest in
         line-drains s rest
         ∙ ap₂ before e (ap (drain (after s c)) over ∙ needs-more-is-drained s rest none-frames)
-        ∙ (λ i. settled (output [] (add-zero more i)) (c .held))
+        ∙ (λ i. settled (output [] (add-zero more i)) (c .held) (c .follows))
 
     pub none-noise : noise + more ≤ 66053
     none-noise =
@@ -183,14 +190,15 @@ module _ {whole : Settled} {s : State} {rest out₀ : List ℕ} {at base end noi
         omega (arith, progress-noise (g .progress) more l, fits .few)
 
     -- All is listed.
-    pub none-lists : (s₀ : State) (r : Reader) (a : Listed) → s .framing ≡ s₀ .framing → Holds (after s (line s rest)) r →
+    pub none-lists : (s₀ : State) (r : Reader) (a : Listed) → s .format ≡ s₀ .format → Holds (after s (line s rest)) r →
         a .reader ≡ r → a .answer ≡ Lines end (noise + more) → ListsRest s₀ whole out₀ at base a out
     none-lists s₀ r a ef h er ea =
         let all = progress-end (g .progress) (fits .room) more (ap (λ (st : Settled). st .out) drained) in
         let left : line s rest .held ≡ whole .rest = sym (ap (λ (st : Settled). st .rest) drained) ∙ g .same in
+        let mark : line s rest .follows ≡ whole .follows = sym (ap (λ (st : Settled). st .follows) drained) ∙ g .mark in
         record {
           values = ap valuesOf ea ∙ ap₂ textValues (all .0 .ends) (all .1);
-          state = subst (Holds (afterDrain s₀ whole)) (sym er) (subst (λ (x : State). Holds x r) (ap₂ holding ef left) h);
+          state = subst (Holds (afterDrain s₀ whole)) (sym er) (subst (λ (x : State). Holds x r) (state-is ef left mark) h);
           puts = subst (λ (n : ℕ). Puts out₀ at (linesOf (whole .out .frames)) n out) (all .0 .ends) (all .0);
         }
 
@@ -268,15 +276,15 @@ view-left v chunk v′ f = ap₂ drain (f .state) (view-rest v chunk v′ f)
 pub view-holds : (v : View) (chunk : List ℕ) (v′ : View) (r : Reader) → Follows v chunk (viewCall v chunk) v′ → inside v′ (length chunk) ≡ true →
     Stands v′ chunk r → Holds (after (viewed v chunk) (viewCall v chunk)) r
 view-holds v chunk v′ r f e h =
-    subst (λ (s : State). Holds s r) (f .state) (subst (λ (q : Bool). Holds (cond q (viewed v′ chunk) (holding (v′ .framing) [])) r) e h)
+    subst (λ (s : State). Holds s r) (f .state) (subst (λ (q : Bool). Holds (cond q (viewed v′ chunk) (holding (v′ .format) [] false)) r) e h)
 
 -- Neither is a line call, or a quiet call.
-pub feed-free : (r : Reader) (rest buf : List ℕ) → r .count ≤ limit (r .framing) → length buf ≡ 256 → length rest ≤ 65536 →
+pub feed-free : (r : Reader) (rest buf : List ℕ) → r .count ≤ limit (r .format) → length buf ≡ 256 → length rest ≤ 65536 →
     feedRefusal r (length buf) (length rest) ≡ 0
-feed-free r rest buf l full small = rw (le-leb (r .count) (limit (r .framing)) l, full, le-leb (length rest) 65536 small)
+feed-free r rest buf l full small = rw (le-leb (r .count) (limit (r .format)) l, full, le-leb (length rest) 65536 small)
 
-pub quiet-free : (r : Reader) (buf : List ℕ) → r .count ≤ limit (r .framing) → length buf ≡ 256 → quietRefusal r (length buf) ≡ 0
-quiet-free r buf l full = rw (le-leb (r .count) (limit (r .framing)) l, full)
+pub quiet-free : (r : Reader) (buf : List ℕ) → r .count ≤ limit (r .format) → length buf ≡ 256 → quietRefusal r (length buf) ≡ 0
+quiet-free r buf l full = rw (le-leb (r .count) (limit (r .format)) l, full)
 
 -- The reader that follows a line call goes on with the chunk's rest.
 module _ (r : Reader) (chunk : List ℕ) (done taken : ℕ) (r′ : Reader) (h : Holds (after (stateOf r) (line (stateOf r) (drop done chunk))) r′)
@@ -295,24 +303,31 @@ module _ (r : Reader) (chunk : List ℕ) (done taken : ℕ) (r′ : Reader) (h :
       ≡ drain (after (stateOf r) (line (stateOf r) (drop done chunk))) (drop (line (stateOf r) (drop done chunk) .taken) (drop done chunk))
   feed-left = ap₂ drain (h .state) feed-rest
 
+-- Where nothing is held and nothing comes, the rule gives nothing.
+nothing-after : (m : Format) (follows : Bool) → ruleAfter (holding m [] follows) [] ≡ nothing
+unfolding rule places outFrom
+nothing-after m false = refl
+nothing-after m true = refl
+
 -- A quiet call with a frame gives the first part of what the rule gives, and the reader that follows the rest; an empty one gives all.
-module _ (r : Reader) (r′ : Reader) (h : AfterQuiet (stateOf r) (quiet (stateOf r)) (quiet (stateOf r) .out .frames) r′) where
+module _ (r : Reader) (r′ : Reader) (h : AfterQuiet (r .format) (quiet (stateOf r)) (quiet (stateOf r) .out .frames) r′) where
   pub quiet-next : (p : List ℕ) (more : ℕ) → quiet (stateOf r) .out ≡ one p more → ruleAfter (stateOf r) [] ≡ join (one p more) (ruleAfter (stateOf r′) [])
   quiet-next p more e =
       let c : Called = quiet (stateOf r) in
       let held : Holds (after (stateOf r) c) r′ =
-      subst (λ (fs : List (List ℕ)). AfterQuiet (stateOf r) c fs r′) (ap (λ (o : Output (List ℕ)). o .frames) e) h in
+      subst (λ (fs : List (List ℕ)). AfterQuiet (r .format) c fs r′) (ap (λ (o : Output (List ℕ)). o .frames) e) h in
       quiet-follows-rule (stateOf r) ∙ ap₂ join e (ap (λ (s : State). ruleAfter s []) (sym (held .state)))
 
-  pub quiet-end : (more : ℕ) → quiet (stateOf r) .out ≡ none more → (ruleAfter (stateOf r) [] ≡ none more) × (r′ ≡ newReader (r .framing))
-  unfolding join rule places outFrom
+  pub quiet-end : (more : ℕ) → quiet (stateOf r) .out ≡ none more → (ruleAfter (stateOf r) [] ≡ none more) × (r′ ≡ newReader (r .format))
+  unfolding join
   quiet-end more e =
       let c : Called = quiet (stateOf r) in
       let frames : c .out .frames ≡ [] = ap (λ (o : Output (List ℕ)). o .frames) e in (
         quiet-follows-rule (stateOf r)
-            ∙ ap₂ join e (ap (λ (l : List ℕ). ruleAfter (holding (r .framing) l) []) (empty-is-drained (stateOf r) frames))
+            ∙ ap₂ join e (ap (λ (l : List ℕ). ruleAfter (holding (r .format) l (c .follows)) []) (empty-is-drained (stateOf r) frames)
+            ∙ nothing-after (r .format) (c .follows))
             ∙ (λ i. output [] (add-zero more i)),
-        subst (λ (fs : List (List ℕ)). AfterQuiet (stateOf r) c fs r′) frames h,
+        subst (λ (fs : List (List ℕ)). AfterQuiet (r .format) c fs r′) frames h,
       )
 
 -- The refusals of a chunk, in their order.
@@ -320,25 +335,25 @@ module _ (r : Reader) (room size : ℕ) where
   pub chunk-state : sound r ≡ false → chunkRefusal r room size ≡ 16
   chunk-state e = rw e
 
-  pub chunk-buffer : sound r ≡ true → room < 132106 → chunkRefusal r room size ≡ 13
-  chunk-buffer e h = rw (e, lt-leb 132106 room h)
+  pub chunk-buffer : sound r ≡ true → room < 198159 → chunkRefusal r room size ≡ 13
+  chunk-buffer e h = rw (e, lt-leb 198159 room h)
 
-  pub chunk-long : sound r ≡ true → 132106 ≤ room → 65536 < size → chunkRefusal r room size ≡ 15
-  chunk-long e h k = rw (e, le-leb 132106 room h, lt-leb size 65536 k)
+  pub chunk-long : sound r ≡ true → 198159 ≤ room → 65536 < size → chunkRefusal r room size ≡ 15
+  chunk-long e h k = rw (e, le-leb 198159 room h, lt-leb size 65536 k)
 
-  pub chunk-free : sound r ≡ true → 132106 ≤ room → size ≤ 65536 → chunkRefusal r room size ≡ 0
-  chunk-free e h k = rw (e, le-leb 132106 room h, le-leb size 65536 k)
+  pub chunk-free : sound r ≡ true → 198159 ≤ room → size ≤ 65536 → chunkRefusal r room size ≡ 0
+  chunk-free e h k = rw (e, le-leb 198159 room h, le-leb size 65536 k)
 
 -- Those of a quiet.
 module _ (r : Reader) (room : ℕ) where
   pub end-state : sound r ≡ false → endRefusal r room ≡ 16
   end-state e = rw e
 
-  pub end-buffer : sound r ≡ true → room < 1034 → endRefusal r room ≡ 13
-  end-buffer e h = rw (e, lt-leb 1034 room h)
+  pub end-buffer : sound r ≡ true → room < 1551 → endRefusal r room ≡ 13
+  end-buffer e h = rw (e, lt-leb 1551 room h)
 
-  pub end-free : sound r ≡ true → 1034 ≤ room → endRefusal r room ≡ 0
-  end-free e h = rw (e, le-leb 1034 room h)
+  pub end-free : sound r ≡ true → 1551 ≤ room → endRefusal r room ≡ 0
+  end-free e h = rw (e, le-leb 1551 room h)
 
 -- A refused call.
 pub refused-lists :
@@ -377,37 +392,38 @@ partly-drained-room g fits =
 -- What is left is listed, and so all is.
 pub partly-drained-lists :
     {whole : Settled} {s : State} {rest out₀ : List ℕ} {at base end noise : ℕ} {out : List ℕ} (s₀ : State) (a : Listed) (out′ : List ℕ) →
-    PartlyDrained whole s rest out₀ at base end noise out → Room whole at base out₀ → s .framing ≡ s₀ .framing → ListsRest s (drain s rest) out end noise a out′ →
+    PartlyDrained whole s rest out₀ at base end noise out → Room whole at base out₀ → s .format ≡ s₀ .format → ListsRest s (drain s rest) out end noise a out′ →
     ListsRest s₀ whole out₀ at base a out′
 partly-drained-lists {whole} {s} {rest} {out₀} {at} {base} {end} {noise} {out} s₀ a out′ g fits ef h =
     let text : List ℕ = linesOf (drain s rest .out .frames) in
     let all : Puts out₀ at (linesOf (whole .out .frames)) (end + length text) out′ = partly-put-last (fits .room) (g .progress .text) (h .puts) in
     record {
       values = h .values ∙ ap₂ textValues (all .ends) (g .progress .noises);
-      state = subst (λ (x : State). Holds x (a .reader)) (ap₂ holding ef (g .same)) (h .state);
+      state = subst (λ (x : State). Holds x (a .reader)) (state-is ef (g .same) (g .mark)) (h .state);
       puts = subst (λ (n : ℕ). Puts out₀ at (linesOf (whole .out .frames)) n out′) (all .ends) all;
     }
 
 -- A quiet is listed.
 pub quiet-lists :
     (r : Reader) (out₀ : List ℕ) {left : Output (List ℕ)} {end noise : ℕ} {out : List ℕ} (a : Listed) (more : ℕ) →
-    Progress (ruleAfter (stateOf r) []) left out₀ 0 0 end noise out → r .count ≤ limit (r .framing) → 1034 ≤ length out₀ → left ≡ none more →
-    a .reader ≡ newReader (r .framing) → a .answer ≡ Lines end (noise + more) → ListsQuiet r out₀ a out
+    Progress (ruleAfter (stateOf r) []) left out₀ 0 0 end noise out → r .count ≤ limit (r .format) → 1551 ≤ length out₀ → left ≡ none more →
+    a .reader ≡ newReader (r .format) → a .answer ≡ Lines end (noise + more) → ListsQuiet r out₀ a out
 quiet-lists r out₀ {left} {end} {noise} {out} a more g l h e er ea =
     let all = progress-end g (quiet-room r out₀ l h .0) more e in
     let front = puts-front out₀ (linesOf (ruleAfter (stateOf r) [] .frames)) out end (all .0) in
-    answered-lists (ruleAfter (stateOf r) []) r out₀ a (end-free r (length out₀) (le-leb (r .count) (limit (r .framing)) l) h)
+    answered-lists (ruleAfter (stateOf r) []) r out₀ a (end-free r (length out₀) (le-leb (r .count) (limit (r .format)) l) h)
     (ap valuesOf ea ∙ ap₂ textValues (front .0) (all .1 ∙ zero-add (ruleAfter (stateOf r) [] .noise)))
     er
     (front .1)
 
--- A reader that holds nothing is a view of no bytes.
+-- A reader that holds nothing is a view of no bytes, with its mark.
 pub none-viewed : (r : Reader) (chunk : List ℕ) (done : ℕ) → r .count ≡ 0 →
-    viewed (record { framing = r .framing; from = done; end = done }) chunk ≡ stateOf r
+    viewed (record { format = r .format; from = done; end = done; follows = r .follows }) chunk ≡ stateOf r
 none-viewed r chunk done e =
-    ap (holding (r .framing)) (ap (λ (n : ℕ). take n (drop done chunk)) (sub-self done) ∙ sym (ap (λ (n : ℕ). take n (r .held)) e))
+    ap (λ (l : List ℕ). holding (r .format) l (r .follows))
+    (ap (λ (n : ℕ). take n (drop done chunk)) (sub-self done) ∙ sym (ap (λ (n : ℕ). take n (r .held)) e))
 
 pub none-inside : (r : Reader) (chunk : List ℕ) (done : ℕ) → done ≤ length chunk →
-    inside (record { framing = r .framing; from = done; end = done }) (length chunk) ≡ true
+    inside (record { format = r .format; from = done; end = done; follows = r .follows }) (length chunk) ≡ true
 none-inside r chunk done l =
-    simp (le-leb done done (le-refl done), le-leb done (length chunk) l, sub-self done, le-leb 0 (limit (r .framing)) zero-le)
+    simp (le-leb done done (le-refl done), le-leb done (length chunk) l, sub-self done, le-leb 0 (limit (r .format)) zero-le)

@@ -11,6 +11,10 @@ use lib.ListN.{length, take, drop, length-append, length-drop}
 use lib.Seq.{take-length}
 use Rattle.frame.specs.Hex.{hex, sumOf}
 use Rattle.frame.specs.Ascii.{lineFeed}
+use Rattle.frame.specs.Draining.{overhead}
+use Rattle.frame.specs.declared.framing.Footer.the-variants.{Optional, Required}
+use Rattle.frame.specs.declared.framing.Format.{Format}
+use Rattle.frame.specs.declared.framing.Format.the-variants.{Binary, Ascii}
 use Rattle.message.specs.Address.{isPlain}
 use Rattle.message.specs.Number.{byteAt, wordAt}
 use Rattle.settings.specs.List.{isList}
@@ -208,10 +212,16 @@ pub line-short : (p : List ℕ) → length (lineOf p) ≤ 2 * length p + 12
 unfolding lineOf
 line-short p = simp length-append (omega (arith, fits p .short))
 
--- So have all lines together.
-pub lines-short : (ps : List (List ℕ)) → length (linesOf ps) ≤ 2 * sumOf (map (λ p. length p + 6) ps)
-lines-short [] = omega arith
-lines-short (p ∷ ps) = simp length-append (omega (arith, line-short p, lines-short ps))
+-- A frame has at least 5 bytes besides its payload.
+overhead-least : (m : Format) → 5 ≤ overhead m
+overhead-least (Binary Optional) = omega arith
+overhead-least (Binary Required) = omega arith
+overhead-least Ascii = omega arith
+
+-- So all lines together have no more than three bytes for each of their frames'.
+pub lines-short : (m : Format) (ps : List (List ℕ)) → length (linesOf ps) ≤ 3 * sumOf (map (λ p. length p + overhead m) ps)
+lines-short m [] = omega arith
+lines-short m (p ∷ ps) = simp length-append (omega (arith, overhead-least m, line-short p, lines-short m ps))
 
 -- The line of what a payload was found to mean is the payload's line.
 pub line-by : (p : List ℕ) {m : Meaning Delivery Notice} → m ≡ readFromModule p → meaningLine p m ++ (lineFeed ∷ []) ≡ lineOf p

@@ -18,7 +18,7 @@ use Rattle.frame.specs.Reader.{State, holding, Settled, Called, line, after, st
 use Rattle.frame.specs.Single.{Writing, writingOf}
 use Rattle.frame.specs.Drain.{drain, afterDrain, ruleAfter}
 use Rattle.frame.specs.Elements.{All}
-use Rattle.frame.specs.declared.framing.Framing.{Framing}
+use Rattle.frame.specs.declared.framing.Format.{Format}
 use Rattle.frame.specs.declared.reader.Reader.{Reader}
 use Rattle.frame.specs.declared.single.WriteAnswer.the-variants.{Written}
 use Rattle.frame.proofs.Theorems.{line-drains, needs-more-is-drained, needs-more-is-true, undecided-is-short}
@@ -40,7 +40,7 @@ given-is s (chunk ∷ chunks) =
     ap (join (d .out)) (given-is (afterDrain s d) chunks) ∙ sym (drain-follows-rule s chunk (flatten chunks))
 
 pub any-cut-is-listed : AnyCutIsListed
-any-cut-is-listed f chunks = ap printed (given-is (holding f []) chunks)
+any-cut-is-listed m chunks = ap printed (given-is (holding m [] false) chunks)
 
 -- A call that is not refused keeps the promise of an answer: its text, its noise, and the state that follows.
 kept :
@@ -103,18 +103,19 @@ run-is (quietListed {r} {noise} out out′ a p h t) =
     ap₂ _++_ (k .0) (total-is t ∙ ap (λ (n : ℕ). noiseLine (noise + n)) (k .1))
 
 pub run-is-listing : RunIsListing
-run-is-listing f chunks shown run =
+run-is-listing m chunks shown run =
+    let g : Output (List ℕ) = given (holding m [] false) chunks in
     run-is run
-    ∙ ap (λ (n : ℕ). linesOf (given (holding f []) chunks .frames) ++ noiseLine n) (zero-add (given (holding f []) chunks .noise))
-    ∙ any-cut-is-listed f chunks
+    ∙ ap (λ (n : ℕ). linesOf (g .frames) ++ noiseLine n) (zero-add (g .noise))
+    ∙ any-cut-is-listed m chunks
 
 -- What a line call leaves of its bytes is drained where no frame came out; otherwise fewer frames are left.
-abbrev Left : Framing → List ℕ → Type 0
-Left f rest = (rest ≡ []) ⊎ (judge f rest ≡ cut)
+abbrev Left : Format → List ℕ → Type 0
+Left m rest = (rest ≡ []) ⊎ (judge m rest ≡ cut)
 
 left-by : (n : ℕ) (s : State) (chunk : List ℕ) → length (drain s chunk .out .frames) ≤ n → (fs : List (List ℕ)) → line s chunk .out .frames ≡ fs →
-    ((s′ : State) (t : List ℕ) → s′ .framing ≡ s .framing → length (drain s′ t .out .frames) < n → Left (s .framing) (drain s′ t .rest)) →
-    Left (s .framing) (drain s chunk .rest)
+    ((s′ : State) (t : List ℕ) → s′ .format ≡ s .format → length (drain s′ t .out .frames) < n → Left (s .format) (drain s′ t .rest)) →
+    Left (s .format) (drain s chunk .rest)
 unfolding join
 left-by n s chunk l [] e more =
     let c : Called = line s chunk in
@@ -124,46 +125,56 @@ left-by n s chunk l [] e more =
     ap (λ (st : Settled). st .rest) (line-drains s chunk)
     ∙ ap (λ (x : List ℕ). drain (after s c) x .rest) over
     ∙ ap (λ (st : Settled). st .rest) (needs-more-is-drained s chunk e) in
-    subst (Left (s .framing)) (sym rest) (t .1)
+    subst (Left (s .format)) (sym rest) (t .1)
 left-by n s chunk l (p ∷ ps) e more =
     let c : Called = line s chunk in
     let later : Settled = drain (after s c) (drop (c .taken) chunk) in
     let count : length (drain s chunk .out .frames) ≡ length (c .out .frames) + length (later .out .frames) =
     ap (λ (st : Settled). length (st .out .frames)) (line-drains s chunk) ∙ length-append (c .out .frames) (later .out .frames) in
     let some : length (c .out .frames) ≡ suc (length ps) = ap length e in
-    subst (Left (s .framing)) (sym (ap (λ (st : Settled). st .rest) (line-drains s chunk)))
+    subst (Left (s .format)) (sym (ap (λ (st : Settled). st .rest) (line-drains s chunk)))
     (more (after s c) (drop (c .taken) chunk) refl (omega arith))
 
 -- Bytes that are left are undecided, or none.
-left : (n : ℕ) (s : State) (chunk : List ℕ) → length (drain s chunk .out .frames) ≤ n → Left (s .framing) (drain s chunk .rest)
+left : (n : ℕ) (s : State) (chunk : List ℕ) → length (drain s chunk .out .frames) ≤ n → Left (s .format) (drain s chunk .rest)
 left zero s chunk l = left-by zero s chunk l (line s chunk .out .frames) refl (λ s′ t e h. absurd (not-suc-le-zero h))
 left (suc n) s chunk l =
     left-by (suc n) s chunk l (line s chunk .out .frames) refl
-    (λ s′ t e h. subst (λ (f : Framing). Left f (drain s′ t .rest)) e (left n s′ t (le-of-suc-le-suc h)))
+    (λ s′ t e h. subst (λ (m : Format). Left m (drain s′ t .rest)) e (left n s′ t (le-of-suc-le-suc h)))
 
 -- They are within the limit.
-left-short : (s : State) (chunk : List ℕ) → length (drain s chunk .rest) ≤ limit (s .framing)
+left-short : (s : State) (chunk : List ℕ) → length (drain s chunk .rest) ≤ limit (s .format)
 left-short s chunk =
     ⊎-elim
     (λ (h : drain s chunk .rest ≡ []). rw h zero-le)
-    (λ (h : judge (s .framing) (drain s chunk .rest) ≡ cut). omega (arith, undecided-is-short (s .framing) (drain s chunk .rest) h))
+    (λ (h : judge (s .format) (drain s chunk .rest) ≡ cut). omega (arith, undecided-is-short (s .format) (drain s chunk .rest) h))
     (left (length (drain s chunk .out .frames)) s chunk (le-refl _))
 
 pub chunk-stays-in-limit : ChunkStaysInLimit
 chunk-stays-in-limit r chunk out a out′ p l = by (eqb (chunkRefusal r (length out) (length chunk)) 0) refl
   where
-    by : (q : Bool) → eqb (chunkRefusal r (length out) (length chunk)) 0 ≡ q → (a .reader .framing ≡ r .framing) × (a .reader .count ≤ limit (r .framing))
+    by : (q : Bool) → eqb (chunkRefusal r (length out) (length chunk)) 0 ≡ q → (a .reader .format ≡ r .format) × (a .reader .count ≤ limit (r .format))
     by true e =
         let h = p .answers e .1 in
-        (ap (λ (s : State). s .framing) (h .state), omega (arith, h .count, left-short (stateOf r) chunk))
-    by false e = let h = p .refuses e .1 in (ap (λ (x : Reader). x .framing) h, rw h l)
+        (ap (λ (s : State). s .format) (h .state), omega (arith, h .count, left-short (stateOf r) chunk))
+    by false e = let h = p .refuses e .1 in (ap (λ (x : Reader). x .format) h, rw h l)
 
 -- A reader with this state.
 abbrev readerOf : State → Reader
-readerOf s = record { framing = s .framing; held = s .held ++ replicate (517 - length (s .held)) 0; count = length (s .held) }
+readerOf s =
+    record {
+      format = s .format;
+      held = s .held ++ replicate (517 - length (s .held)) 0;
+      count = length (s .held);
+      follows = s .follows;
+    }
 
 reader-holds : (s : State) → Holds s (readerOf s)
-reader-holds s = record { state = ap (holding (s .framing)) (take-append-seam (s .held) (replicate (517 - length (s .held)) 0)); count = refl }
+reader-holds s =
+    record {
+      state = ap (λ (l : List ℕ). holding (s .format) l (s .follows)) (take-append-seam (s .held) (replicate (517 - length (s .held)) 0));
+      count = refl;
+    }
 
 -- A buffer of this length.
 buffer : ℕ → List ℕ
@@ -178,12 +189,12 @@ abbrev linesAnswer : Output (List ℕ) → Reader → Listed
 linesAnswer o r = record { reader = r; answer = Lines (length (linesOf (o .frames))) (o .noise) }
 
 -- From a sound state a chunk can be listed, and a quiet: there are answers that keep the promises.
-module _ (r : Reader) (l : r .count ≤ limit (r .framing)) where
+module _ (r : Reader) (l : r .count ≤ limit (r .format)) where
   is-sound : sound r ≡ true
-  is-sound = le-leb (r .count) (limit (r .framing)) l
+  is-sound = le-leb (r .count) (limit (r .format)) l
 
   abbrev chunkBuffer : List ℕ
-  chunkBuffer = buffer 132106
+  chunkBuffer = buffer 198159
 
   abbrev afterChunk : List ℕ → Listed
   afterChunk chunk = let d : Settled = drain (stateOf r) chunk in linesAnswer (d .out) (readerOf (afterDrain (stateOf r) d))
@@ -192,15 +203,15 @@ module _ (r : Reader) (l : r .count ≤ limit (r .framing)) where
       ListsChunk r chunk chunkBuffer (afterChunk chunk) (inFront (linesOf (drain (stateOf r) chunk .out .frames)) chunkBuffer)
   chunk-listed chunk short =
       let d : Settled = drain (stateOf r) chunk in
-      answered-lists (d .out) r chunkBuffer (afterChunk chunk) (chunk-free r (length chunkBuffer) (length chunk) is-sound (buffer-room 132106) short) refl
+      answered-lists (d .out) r chunkBuffer (afterChunk chunk) (chunk-free r (length chunkBuffer) (length chunk) is-sound (buffer-room 198159) short) refl
       (reader-holds (afterDrain (stateOf r) d)) refl
 
   quiet-listed :
-      ListsQuiet r (buffer 1034) (linesAnswer (ruleAfter (stateOf r) []) (newReader (r .framing)))
-      (inFront (linesOf (ruleAfter (stateOf r) [] .frames)) (buffer 1034))
+      ListsQuiet r (buffer 1551) (linesAnswer (ruleAfter (stateOf r) []) (newReader (r .format)))
+      (inFront (linesOf (ruleAfter (stateOf r) [] .frames)) (buffer 1551))
   quiet-listed =
-      answered-lists (ruleAfter (stateOf r) []) r (buffer 1034) (linesAnswer (ruleAfter (stateOf r) []) (newReader (r .framing)))
-      (end-free r (length (buffer 1034)) is-sound (buffer-room 1034)) refl refl refl
+      answered-lists (ruleAfter (stateOf r) []) r (buffer 1551) (linesAnswer (ruleAfter (stateOf r) []) (newReader (r .format)))
+      (end-free r (length (buffer 1551)) is-sound (buffer-room 1551)) refl refl refl
 
 -- The total can be listed.
 total-listed : (noise : ℕ) → Totals noise (noiseLine noise)
@@ -216,10 +227,10 @@ total-listed noise =
     }
 
 -- A run from any sound state on.
-has-run : (r : Reader) (noise : ℕ) (chunks : List (List ℕ)) → r .count ≤ limit (r .framing) → All (λ chunk. length chunk ≤ 65536) chunks → HasRun r noise chunks
+has-run : (r : Reader) (noise : ℕ) (chunks : List (List ℕ)) → r .count ≤ limit (r .format) → All (λ chunk. length chunk ≤ 65536) chunks → HasRun r noise chunks
 has-run r noise [] l short =
     let o : Output (List ℕ) = ruleAfter (stateOf r) [] in
-    record { shown = _; run = quietListed (buffer 1034) _ (linesAnswer o (newReader (r .framing))) (quiet-listed r l) refl (total-listed (noise + o .noise)) }
+    record { shown = _; run = quietListed (buffer 1551) _ (linesAnswer o (newReader (r .format))) (quiet-listed r l) refl (total-listed (noise + o .noise)) }
 has-run r noise (chunk ∷ chunks) l short =
     let a : Listed = afterChunk r l chunk in
     let p = chunk-listed r l chunk (short .0) in
@@ -228,4 +239,4 @@ has-run r noise (chunk ∷ chunks) l short =
     record { shown = _; run = chunkListed chunk (chunkBuffer r l) _ a p refl (later .run) }
 
 pub run-exists : RunExists
-run-exists f chunks short = has-run (newReader f) 0 chunks zero-le short
+run-exists m chunks short = has-run (newReader m) 0 chunks zero-le short

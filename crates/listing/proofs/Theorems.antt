@@ -10,7 +10,8 @@ use lib.Dec.{leb, eqb}
 use lib.ListN.{length, length-append, length-drop}
 use Rattle.frame.specs.Digit.{isDigit, digitValue, digitOf}
 use Rattle.frame.specs.Ascii.{hexDigits, lineEnd, crLf, afterDigits, ascii}
-use Rattle.frame.specs.Checks.{byte, test}
+use Rattle.frame.specs.Checks.{byte, test, word, bytes}
+use Rattle.frame.specs.Binary.{binary, body}
 use Rattle.frame.specs.Framing.{inFront}
 use Rattle.frame.specs.Rule.{Output, join, places, outFrom, rule}
 use Rattle.frame.specs.Reader.{stateOf, sound}
@@ -25,7 +26,7 @@ use Rattle.listing.specs.Line.{linesOf, noiseLine, decimal, lineOf, simp
 use Rattle.listing.specs.Line.{receptionLine, standardLine, remoteLine, settingsLine, refusalLine}
 use Rattle.listing.specs.Listing.{ListValues, valuesOf, Lists, chunkRefusal, endRefusal}
 use Rattle.listing.specs.Claims.{RunIsListing, RunExists, ChunkStaysInLimit, ChunkIsSmall, QuietIsSmall, TotalIsSmall, AnyCutIsListed}
-use Rattle.listing.specs.Claims.{ExampleIsListed, KindsAreListed}
+use Rattle.listing.specs.Claims.{ExampleIsListed, FooterlessIsListed, KindsAreListed}
 use Rattle.listing.specs.declared.list.Listed.{Listed}
 use Rattle.listing.proofs.Lines.{noise-room}
 use Rattle.listing.proofs.Chunks.{sound-count, chunk-room, quiet-room}
@@ -89,7 +90,7 @@ chunk-is-small r chunk out a out′ p =
     few : chunkRefusal r (length out) (length chunk) ≡ 0 →
         (length (linesOf (drain (stateOf r) chunk .out .frames)) ≤ length out) × (drain (stateOf r) chunk .out .noise ≤ 66053)
     few e =
-        let q = passed (sound r) (length out) 132106 (cond (leb (length chunk) 65536) 0 15) e in
+        let q = passed (sound r) (length out) 198159 (cond (leb (length chunk) 65536) 0 15) e in
         let h = chunk-room r chunk out (sound-count r (q .0)) (short (length chunk) (q .2)) (q .1) in
         (omega (arith, h .room), omega (arith, h .few))
 
@@ -99,7 +100,7 @@ quiet-is-small r out a out′ p = small (ruleAfter (stateOf r) []) out a p (eqb 
     few : endRefusal r (length out) ≡ 0 →
         (length (linesOf (ruleAfter (stateOf r) [] .frames)) ≤ length out) × (ruleAfter (stateOf r) [] .noise ≤ 517)
     few e =
-        let q = passed (sound r) (length out) 1034 0 e in
+        let q = passed (sound r) (length out) 1551 0 e in
         let h = quiet-room r out (sound-count r (q .0)) (q .1) in
         (omega (arith, h .0), h .1)
 
@@ -122,3 +123,7 @@ kinds-are-listed = refl
 pub example-is-listed : ExampleIsListed
 unfolding byte test isDigit digitValue digitOf hexDigits lineEnd crLf afterDigits ascii join rule places outFrom isPlain readFromModule fromItself responseMeaning senderMeaning simpleLine responseLine decimal lineOf noiseLine
 example-is-listed = refl
+
+pub footerless-is-listed : FooterlessIsListed
+unfolding byte test word bytes digitOf binary body join rule places outFrom isPlain readFromModule senderMeaning simpleLine decimal lineOf noiseLine
+footerless-is-listed = refl

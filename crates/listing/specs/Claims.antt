@@ -1,9 +1,9 @@
 -- What follows from the promises: the calls over a segment print its listing, however it is cut into chunks. Document 01, end of "Frames to check
--- against", with its example; document 02, CR 1, for the lines of settings.
+-- against", with its example; document 02, CR 1, for the lines of settings, and CR 2, for a frame without its footer.
 use Prim.Native.Nat.{ℕ, _+_, _≤_}
 use mathlib.Core.Path.{_≡_}
 use mathlib.Core.List.{List, [], _∷_, _++_, flatten}
-use mathlib.Core.Bool.{true}
+use mathlib.Core.Bool.{true, false}
 use lib.Dec.{eqb}
 use lib.ListN.{length, take}
 use Rattle.frame.specs.Ascii.{carriageReturn, lineFeed}
@@ -13,8 +13,9 @@ use Rattle.frame.specs.Reader.{State, holding, Settled, newReader}
 use Rattle.frame.specs.Single.{writingOf}
 use Rattle.frame.specs.Drain.{drain, afterDrain, ruleAfter}
 use Rattle.frame.specs.Elements.{All}
-use Rattle.frame.specs.declared.framing.Framing.{Framing}
-use Rattle.frame.specs.declared.framing.Framing.the-variants.{Ascii}
+use Rattle.frame.specs.declared.framing.Footer.the-variants.{Optional}
+use Rattle.frame.specs.declared.framing.Format.{Format}
+use Rattle.frame.specs.declared.framing.Format.the-variants.{Binary, Ascii}
 use Rattle.frame.specs.declared.reader.Reader.{Reader}
 use Rattle.frame.specs.declared.single.WriteAnswer.{WriteAnswer}
 use Rattle.message.specs.Text.{text}
@@ -48,12 +49,12 @@ abbrev pub printed : Output (List ℕ) → List ℕ
 printed o = linesOf (o .frames) ++ noiseLine (o .noise)
 
 -- The listing of a segment: the frames that the leftmost rule hands out, and its noise.
-abbrev pub listing : Framing → List ℕ → List ℕ
-listing f segment = printed (payloads (rule f segment))
+abbrev pub listing : Format → List ℕ → List ℕ
+listing m segment = printed (payloads (rule m segment))
 
 -- However a segment is cut into chunks, the lines of all of them and of the quiet, and then the total of their noise, are the segment's listing.
 abbrev pub AnyCutIsListed : Type 0
-AnyCutIsListed = (f : Framing) (chunks : List (List ℕ)) → printed (given (holding f []) chunks) ≡ listing f (flatten chunks)
+AnyCutIsListed = (m : Format) (chunks : List (List ℕ)) → printed (given (holding m [] false) chunks) ≡ listing m (flatten chunks)
 
 -- A call was not refused.
 abbrev pub NotRefused : ListValues → Type 0
@@ -81,7 +82,7 @@ pub data Run : Reader → ℕ → List (List ℕ) → List ℕ → Type 0 where
 
 -- Whatever its chunks, a run from a new reader prints the segment's listing, with the line of its noise last.
 abbrev pub RunIsListing : Type 0
-RunIsListing = (f : Framing) (chunks : List (List ℕ)) (shown : List ℕ) → Run (newReader f) 0 chunks shown → shown ≡ listing f (flatten chunks)
+RunIsListing = (m : Format) (chunks : List (List ℕ)) (shown : List ℕ) → Run (newReader m) 0 chunks shown → shown ≡ listing m (flatten chunks)
 
 -- A run over these chunks, and what it prints.
 pub record HasRun (r : Reader) (noise : ℕ) (chunks : List (List ℕ)) : Type 0 where
@@ -90,19 +91,25 @@ pub record HasRun (r : Reader) (noise : ℕ) (chunks : List (List ℕ)) : Type 0
 
 -- However a segment is cut into chunks of at most 65,536 bytes, there is a run over them from a new reader.
 abbrev pub RunExists : Type 0
-RunExists = (f : Framing) (chunks : List (List ℕ)) → All (λ chunk. length chunk ≤ 65536) chunks → HasRun (newReader f) 0 chunks
+RunExists = (m : Format) (chunks : List (List ℕ)) → All (λ chunk. length chunk ≤ 65536) chunks → HasRun (newReader m) 0 chunks
 
--- Whatever state a chunk is listed with, held bytes within the limit stay within it, and the framing stays: no later call refuses the state.
+-- Whatever state a chunk is listed with, held bytes within the limit stay within it, and the format stays: no later call refuses the state.
 abbrev pub ChunkStaysInLimit : Type 0
 ChunkStaysInLimit =
-    (r : Reader) (chunk out : List ℕ) (a : Listed) (out′ : List ℕ) → ListsChunk r chunk out a out′ → r .count ≤ limit (r .framing) →
-    (a .reader .framing ≡ r .framing) × (a .reader .count ≤ limit (r .framing))
+    (r : Reader) (chunk out : List ℕ) (a : Listed) (out′ : List ℕ) → ListsChunk r chunk out a out′ → r .count ≤ limit (r .format) →
+    (a .reader .format ≡ r .format) × (a .reader .count ≤ limit (r .format))
 
 -- Document 01's example, byte for byte.
 abbrev pub ExampleIsListed : Type 0
 ExampleIsListed =
     listing Ascii (text "ab:00010203FA" ++ (carriageReturn ∷ lineFeed ∷ (text ":DBA1120171" ++ (carriageReturn ∷ lineFeed ∷ []))))
     ≡ text "simple 00 01 0203" ++ (lineFeed ∷ (text "response 12 ok" ++ (lineFeed ∷ (text "noise 2" ++ (lineFeed ∷ [])))))
+
+-- A frame of 7 bytes, without its footer: its line has 15, more than two for each byte.
+abbrev pub FooterlessIsListed : Type 0
+FooterlessIsListed =
+    listing (Binary Optional) (0xA5 ∷ 0x5A ∷ 0x80 ∷ 0x02 ∷ 0x78 ∷ 0x00 ∷ 0x78 ∷ [])
+    ≡ text "simple 78 00 -" ++ (lineFeed ∷ (text "noise 0" ++ (lineFeed ∷ [])))
 
 -- A line of each kind, from frames of these payloads.
 abbrev pub payloadsShown : List (List ℕ)

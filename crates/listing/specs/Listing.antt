@@ -40,9 +40,12 @@ Lists number o Next r out a out′ =
     Promise number (noTextValues number) (textValues (length (linesOf (o .frames))) (o .noise)) Next (inFront (linesOf (o .frames)) out)
     r out (valuesOf (a .answer)) (a .reader) out′
 
--- The refusals of a chunk, in the line call's order: 16; 13 for a buffer under 132,106 bytes, twice the sum of 65,536 and 517; 15.
+-- The room of a text is three bytes for each byte that is held or offered: in every format a frame has at least 5 bytes besides its payload, and its line
+-- has at most 12 and two for each byte of the payload.
+--
+-- The refusals of a chunk, in the line call's order: 16; 13 for a buffer under 198,159 bytes, three times the sum of 65,536 and 517; 15.
 abbrev pub chunkRefusal : Reader → ℕ → ℕ → ℕ
-chunkRefusal r room size = cond (sound r) (cond (leb 132106 room) (cond (leb size 65536) 0 15) 13) 16
+chunkRefusal r room size = cond (sound r) (cond (leb 198159 room) (cond (leb size 65536) 0 15) 13) 16
 
 -- What a chunk settles of the bytes held and its own is listed; what is undecided stays held.
 abbrev pub ListsChunk : Reader → List ℕ → List ℕ → Listed → List ℕ → Type 0
@@ -50,13 +53,13 @@ ListsChunk r chunk out a out′ =
     let d : Settled = drain (stateOf r) chunk in
     Lists (chunkRefusal r (length out) (length chunk)) (d .out) (Holds (afterDrain (stateOf r) d)) r out a out′
 
--- The refusals of a quiet: 16; 13 for a buffer under 1,034 bytes, twice 517.
+-- The refusals of a quiet: 16; 13 for a buffer under 1,551 bytes, three times 517.
 abbrev pub endRefusal : Reader → ℕ → ℕ
-endRefusal r room = cond (sound r) (cond (leb 1034 room) 0 13) 16
+endRefusal r room = cond (sound r) (cond (leb 1551 room) 0 13) 16
 
 -- At a quiet what the rule gives over the bytes held is listed, and the reader is a new one.
 abbrev pub ListsQuiet : Reader → List ℕ → Listed → List ℕ → Type 0
-ListsQuiet r out a out′ = Lists (endRefusal r (length out)) (ruleAfter (stateOf r) []) (λ r′. r′ ≡ newReader (r .framing)) r out a out′
+ListsQuiet r out a out′ = Lists (endRefusal r (length out)) (ruleAfter (stateOf r) []) (λ r′. r′ ≡ newReader (r .format)) r out a out′
 
 -- The total of noise: 13 for a buffer under 27 bytes, which any 64-bit number's line fits in.
 pub record ListsTotal (noise : ℕ) (out : List ℕ) (a : WriteAnswer) (out′ : List ℕ) : Type 0 where

@@ -50,6 +50,7 @@ pub record Progress (whole left : Output (List ℕ)) (out₀ : List ℕ) (at bas
 -- Some of the calls over a chunk are made: from the state s on, `rest` is still to be offered, and what the other calls give is what is left of `whole`.
 pub record PartlyDrained (whole : Settled) (s : State) (rest out₀ : List ℕ) (at base end noise : ℕ) (out : List ℕ) : Type 0 where
   pub same : drain s rest .rest ≡ whole .rest
+  pub mark : drain s rest .follows ≡ whole .follows
   pub progress : Progress (whole .out) (drain s rest .out) out₀ at base end noise out
 
 -- All of `whole` can be listed: there is room for its lines, and its noise is small.
@@ -80,14 +81,14 @@ partOf reader done end noise over = record { reader = reader; done = done; end =
 
 -- What `list_held` is called with.
 pub record CanFeed (r : Reader) (chunk out : List ℕ) : Type 0 where
-  pub within : r .count ≤ limit (r .framing)
+  pub within : r .count ≤ limit (r .format)
   pub small : length chunk ≤ 65536
   pub fits : Room (drain (stateOf r) chunk) 0 0 out
 
 -- Its result: all is listed, or nothing is held and the rest of the chunk is still to be listed.
 pub record HeldListed (r : Reader) (chunk out : List ℕ) (p : Part) (out′ : List ℕ) : Type 0 where
   pub inside : p .done ≤ length chunk
-  pub framing : p .reader .framing ≡ r .framing
+  pub format : p .reader .format ≡ r .format
   pub all :
       (p .over ≡ true) →
       ListsRest (stateOf r) (drain (stateOf r) chunk) out 0 0 (record { reader = p .reader; answer = Lines (p .end) (p .noise) }) out′

@@ -3,7 +3,7 @@ use crate::line::put_line;
 use crate::put::put_decimal;
 use crate::put::put_text;
 use frame::FeedAnswer;
-use frame::Framing;
+use frame::Format;
 use frame::QuietAnswer;
 use frame::Reader;
 use frame::Refusal;
@@ -14,10 +14,10 @@ ghost use Rattle.frame.specs.Reader.{sound};
 ghost use Rattle.listing.specs.Parts.{partOf, CanView, ListsView, CanFeed, HeldListed};
 ghost use Rattle.listing.specs.Listing.{ListsChunk, ListsQuiet, ListsTotal};
 
-// The room that the text of any chunk, of any quiet, and of any total fits in.
-pub const CHUNK_ROOM: usize = 132106;
+// The room that the text of any chunk, of any quiet, and of any total fits in, whatever the reader's format.
+pub const CHUNK_ROOM: usize = 198159;
 
-pub const QUIET_ROOM: usize = 1034;
+pub const QUIET_ROOM: usize = 1551;
 
 pub const TOTAL_ROOM: usize = 27;
 
@@ -78,10 +78,10 @@ fn part_at(reader: Reader, done: usize, end: usize, noise: usize, over: bool) ->
 fn is_sound(reader: Reader) -> bool
     ensures { λ r. ⌜ r ≡ sound reader ⌝ }
 {
-    let framing = reader.framing;
-    match framing {
-        Framing::Binary => reader.count <= Reader::MAX_BINARY,
-        Framing::Ascii => reader.count <= Reader::MAX_ASCII,
+    let format = reader.format;
+    match format {
+        Format::Binary(_) => reader.count <= Reader::MAX_BINARY,
+        Format::Ascii => reader.count <= Reader::MAX_ASCII,
     }
 }
 
@@ -169,12 +169,13 @@ pub fn list_chunk(reader: Reader, chunk: &[u8], out: &mut [u8]) -> Listed
     if part.over {
         return lines(state, part.end, part.noise);
     }
-    let framing = state.framing;
+    let format = state.format;
     let done = part.done;
     let view = View {
-        framing: framing,
+        format: format,
         from: done,
         end: done,
+        follows: state.follows,
     };
     list_view(view, chunk, part.end, part.noise, out)
 }

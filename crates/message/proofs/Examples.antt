@@ -6,7 +6,7 @@ use Rattle.frame.specs.Binary.{binaryFront, footer, body, binary}
 use Rattle.frame.specs.Digit.{isDigit, digitValue}
 use Rattle.frame.specs.Ascii.{asciiFront, hexDigits, lineEnd, crLf, afterDigits, ascii}
 use Rattle.frame.specs.Rule.{join}
-use Rattle.frame.specs.Reader.{settle, lineFrom, line, quiet}
+use Rattle.frame.specs.Reader.{settle, lineFrom, lineOn, quietHeld}
 use Rattle.message.specs.Address.{isPlain, isExtended}
 use Rattle.message.specs.Options.{hasOption, giveFlag, wordOr, isRetry, isOption, expectedAfter, givenAfter, optionsFrom, optionBytes}
 use Rattle.settings.specs.List.{isList, listFrom, widthOf}
@@ -17,7 +17,7 @@ use Rattle.message.specs.FromModule.{senderMeaning, receptionMeaning, st
 use Rattle.message.specs.Examples.{Examples, ChannelsAreRead}
 
 pub examples : Examples
-unfolding byte test word bytes binaryFront asciiFront footer body binary isDigit digitValue hexDigits lineEnd crLf afterDigits ascii join settle lineFrom line quiet isPlain isExtended hasOption giveFlag wordOr isRetry isOption expectedAfter givenAfter optionsFrom optionBytes isList listFrom widthOf commandOf readToModule toItself toAddress toPlainAddress toExtendedAddress requestAt outputChangeAt readFromModule fromItself senderMeaning responseMeaning ackMeaning informationMeaning settingsMeaning controlMeaning receptionMeaning statusMeaning standardMeaning remoteMeaning
+unfolding byte test word bytes binaryFront asciiFront footer body binary isDigit digitValue hexDigits lineEnd crLf afterDigits ascii join settle lineFrom lineOn quietHeld isPlain isExtended hasOption giveFlag wordOr isRetry isOption expectedAfter givenAfter optionsFrom optionBytes isList listFrom widthOf commandOf readToModule toItself toAddress toPlainAddress toExtendedAddress requestAt outputChangeAt readFromModule fromItself senderMeaning responseMeaning ackMeaning informationMeaning settingsMeaning controlMeaning receptionMeaning statusMeaning standardMeaning remoteMeaning
 examples = refl
 
 pub channels-are-read : ChannelsAreRead

@@ -1,18 +1,19 @@
--- The frame of every message reads back as the message's payload, in either framing.
+-- The frame of every message reads back as the message's payload, in every format of its framing.
 -- Assumes nothing.
 use Prim.Native.Nat.{ℕ, zero, suc, _/_, _%_, _≤_, _<_}
-use mathlib.Core.Path.{_≡_, ap, _∙_}
+use mathlib.Core.Path.{_≡_, ap, subst, _∙_}
 use mathlib.Core.List.{List, [], _∷_, _++_, append-nil, flatten}
 use mathlib.Core.Bool.{Bool, true, false}
 use native.Mathlib.Omega.{arith}
 use lib.Dec.{lit<, lit≤}
 use lib.ListN.{length, replicate}
 use Rattle.frame.specs.Checks.{frame}
-use Rattle.frame.specs.Framing.{read, layout}
+use Rattle.frame.specs.Framing.{read, layout, framingOf}
 use Rattle.frame.specs.Elements.{Bytes}
 use Rattle.frame.specs.Claims.{Payload}
 use Rattle.frame.specs.Recovery.{none, another, payloadIn}
 use Rattle.frame.specs.declared.framing.Framing.{Framing}
+use Rattle.frame.specs.declared.framing.Format.{Format}
 use Rattle.frame.proofs.Theorems.{layout-reads, clean-calls}
 use Rattle.message.specs.Number.{bytes2, bytes4}
 use Rattle.message.specs.Simple.{simpleLayout}
@@ -109,20 +110,24 @@ address-fits (Plain a) id fits h = byte fits (byte (lit< tt) (byte h end))
 address-fits (ExtendedAddress w) id fits h = byte (lit< tt) (byte (lit< tt) (byte h (long w end)))
 
 -- The frame of a payload reads back as that payload.
-module _ (p : List ℕ) (fits : Fits p) (some : 1 ≤ length p) (most : length p ≤ 256) (f : Framing) where
+module _ (p : List ℕ) (fits : Fits p) (some : 1 ≤ length p) (most : length p ≤ 256) where
   payload : Payload p
   payload = record { bytes = all-bytes fits; some = some; most = most }
 
-  frame-back : FrameReadsBack f p
+  back-in : (format : Format) → FrameReadsBack (framingOf format) format p
   unfolding flatten
-  frame-back =
-      let alone : read f (layout f p) ≡ frame (length (layout f p)) p = rw append-nil at (layout-reads f p [] payload) in
+  back-in format =
+      let f : Framing = framingOf format in
+      let alone : read format (layout f p) ≡ frame (length (layout f p)) p = rw append-nil at (layout-reads format p [] payload) in
       record {
-        single = λ more. layout-reads f p more payload;
+        single = λ more. layout-reads format p more payload;
         calls = λ out c.
-            clean-calls f (layout f p ∷ []) out (another (record { payload = p; reads = alone }) none) (rw append-nil c)
+            clean-calls format (layout f p ∷ []) out (another (record { payload = p; reads = alone }) none) (rw append-nil c)
             ∙ ap (λ v. record { frames = payloadIn v ∷ []; noise = 0 }) alone;
       }
+
+  frame-back : (f : Framing) (format : Format) → framingOf format ≡ f → FrameReadsBack f format p
+  frame-back f format e = subst (λ (f : Framing). FrameReadsBack f format p) e (back-in format)
 
 -- The layout of each message is a list of bytes.
 simple-fits : (m : Simple) (dat : List ℕ) → SimpleFits m → Bytes dat → Fits (simpleLayout m dat)
@@ -227,6 +232,6 @@ layout-fits orders m fits = order-fits m fits
 layout-fits deliveries m fits = delivery-fits (m .0) (m .1) (fits .0) (fits .1)
 layout-fits notices m fits = notice-fits m fits
 
-pub layout-frame : (k : Kind) (m : family k .Message) → family k .Representable m → length (family k .layoutOf m) ≤ 256 → (f : Framing) →
-    FrameReadsBack f (family k .layoutOf m)
+pub layout-frame : (k : Kind) (m : family k .Message) → family k .Representable m → length (family k .layoutOf m) ≤ 256 →
+    (f : Framing) (format : Format) → framingOf format ≡ f → FrameReadsBack f format (family k .layoutOf m)
 layout-frame k m fits = frame-back (family k .layoutOf m) (layout-fits k m fits) (layout-some k m)

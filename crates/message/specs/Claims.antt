@@ -1,17 +1,18 @@
 -- What is claimed of messages: that they read back as they were written. Document 00, demand 2, and document 01, "Payloads" and "Refusal numbers"; document
--- 02, CR 1, for those that set up the module.
+-- 02, CR 1, for those that set up the module, and CR 2: in every format of the framing in which they are written.
 -- proofs/Theorems.antt proves each claim.
 use Prim.Native.Nat.{ℕ, _≤_, _<_}
 use mathlib.Core.Path.{_≡_}
 use mathlib.Core.List.{List, [], _∷_, _++_, List·Permᴰ as Permutation}
 use lib.ListN.{length, take, drop}
 use Rattle.frame.specs.Checks.{frame}
-use Rattle.frame.specs.Framing.{read, layout, inFront}
+use Rattle.frame.specs.Framing.{read, layout, framingOf, inFront}
 use Rattle.frame.specs.Rule.{Output}
 use Rattle.frame.specs.Reader.{newReader}
 use Rattle.frame.specs.Elements.{Bytes}
 use Rattle.frame.specs.Calls.{Calls, offering}
 use Rattle.frame.specs.declared.framing.Framing.{Framing}
+use Rattle.frame.specs.declared.framing.Format.{Format}
 use Rattle.message.specs.Meaning.{Meaning, carrying, bare}
 use Rattle.message.specs.Options.{optionGroups, optionString}
 use Rattle.message.specs.ToModule.{Order, change, setup, readToModule, requestLayout, requestRefusal, addressBytes, orderLayout, orderRefusal}
@@ -172,17 +173,17 @@ family notices =
       Spells = λ p m. p ≡ noticeLayout m;
     }
 
--- The frame with the payload p reads back as p in this framing: by a single read, whatever follows, and as the one frame that any list of
+-- The frame with the payload p in this framing reads back as p in a format: by a single read, whatever follows, and as the one frame that any list of
 -- calls over it hands out.
-pub record FrameReadsBack (f : Framing) (p : List ℕ) : Type 0 where
-  pub single : (more : List ℕ) → read f (layout f p ++ more) ≡ frame (length (layout f p)) p
-  pub calls : (out : Output (List ℕ)) → Calls offering (newReader f) (layout f p) out → out ≡ record { frames = p ∷ []; noise = 0 }
+pub record FrameReadsBack (f : Framing) (format : Format) (p : List ℕ) : Type 0 where
+  pub single : (more : List ℕ) → read format (layout f p ++ more) ≡ frame (length (layout f p)) p
+  pub calls : (out : Output (List ℕ)) → Calls offering (newReader format) (layout f p) out → out ≡ record { frames = p ∷ []; noise = 0 }
 
--- What a write left: the frame with the payload p in the front of the buffer; it reads back.
+-- What a write left: the frame with the payload p in the front of the buffer; it reads back under every format of its framing.
 pub record FrameStands (f : Framing) (p : List ℕ) (len : ℕ) (after : List ℕ) : Type 0 where
   pub count : len ≡ length (layout f p)
   pub front : take len after ≡ layout f p
-  pub back : FrameReadsBack f p
+  pub back : (format : Format) → framingOf format ≡ f → FrameReadsBack f format p
 
 -- Every message that is written reads back: where the promise of its write holds and the answer is a length, the message's frame stands in
 -- the buffer, and the frame's payload is read, in the message's own direction, as the same message with the same data.

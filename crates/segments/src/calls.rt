@@ -4,6 +4,7 @@ use crate::show::print_line;
 use crate::show::show_end;
 use crate::show::show_frame;
 use crate::show::show_refusal;
+use crate::show::show_state;
 use crate::state::UNTOUCHED;
 use crate::state::is_new;
 use crate::state::is_untouched;
@@ -55,15 +56,32 @@ pub fn refused_calls(reader: Reader) {
     feed_call(run, &long, &mut short);
 }
 
-// Offers a segment in chunks, then makes quiet calls, and prints the totals.
-pub fn run_calls(reader: Reader, segment: &[u8], size: usize) {
-    let fed = feed_all(new_run(reader), segment, size);
-    let last = quiet_all(fed);
+// Offers a segment in chunks, then makes quiet calls, prints the totals and gives the state that is left.
+pub fn run_calls(reader: Reader, segment: &[u8], size: usize) -> Reader {
+    finish(feed_all(new_run(reader), segment, size))
+}
+
+// The same, where bytes are offered in one line call, if there are any.
+pub fn once_calls(reader: Reader, chunk: &[u8]) -> Reader {
+    let run = new_run(reader);
+    if chunk.len() == 0 {
+        return finish(run);
+    }
+    let mut buf = [UNTOUCHED; 256];
+    let step = feed_call(run, chunk, &mut buf);
+    show_state(step.run.reader);
+    finish(step.run)
+}
+
+// Makes quiet calls, prints the totals and gives the state that is left.
+fn finish(run: Run) -> Reader {
+    let last = quiet_all(run);
     io::write_all(STDOUT_FILENO, b"total ");
     io::print_decimal(STDOUT_FILENO, last.frames);
     io::write_all(STDOUT_FILENO, b" ");
     io::print_decimal(STDOUT_FILENO, last.noise);
     print_line(b"");
+    last.reader
 }
 
 // Offers a segment in chunks of `size` bytes, or as a whole where that is 0. An empty segment is one empty chunk.
@@ -97,7 +115,7 @@ fn chunk_end(at: usize, size: usize, len: usize) -> usize
 }
 
 // Offers a chunk, and what is left of it again, until more bytes are needed. At most 1,000 calls are made, and a line says so where they were
-// not enough: each but the last gives a frame, and the longest row has 146.
+// not enough: each but the last gives a frame, and a row of 1,024 bytes has no more than 170.
 fn feed_chunk(start: Run, chunk: &[u8]) -> Run {
     let mut run = start;
     let mut at: usize = 0;

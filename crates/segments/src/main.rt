@@ -2,16 +2,19 @@
 //
 // Standard input, of which 65,536 bytes are read, has a row to a line, and empty lines are passed over:
 // - `# ..`: a heading, printed as it is.
-// - `ascii SIZE BYTES`, `binary SIZE BYTES`: a segment for a new reader, offered in chunks of SIZE bytes, or as a whole where SIZE is 0.
-//   BYTES are up to 1,024 hex pairs with a space between.
-// - `held ascii COUNT SIZE BYTES`, `held binary COUNT SIZE BYTES`: a state made by hand. The first 517 bytes are its array and COUNT is its
-//   count; the bytes behind the first COUNT are offered. Before that come calls that are refused for their buffer or chunk.
+// - `FORMAT SIZE BYTES`: a segment for a new reader, offered in chunks of SIZE bytes, or as a whole where SIZE is 0. FORMAT is `ascii`, `binary`, in which
+//   the footer is optional, or `required`, binary with the footer required. BYTES are up to 1,024 hex pairs with a space between.
+// - `then SIZE BYTES`: a further segment for the reader as the row before left it.
+// - `held FORMAT COUNT MARK SIZE BYTES`: a state made by hand. The first 517 bytes are its array and COUNT is its count; MARK is 1 where an optional byte may
+//   follow the last frame, else 0. The bytes behind the first COUNT are offered. Before that come calls that are refused for their buffer or chunk.
+// - `quiet FORMAT COUNT MARK BYTES`: such a state, and the quiet at once; where bytes stand behind the first COUNT, behind one line call with all of them.
 //
 // A row is printed with the count of its bytes in their place. Each call then prints a line:
 // - `feed TAKEN NOISE frame PAYLOAD`, `feed TAKEN NOISE more`;
 // - `quiet NOISE frame PAYLOAD`, `quiet NOISE empty`;
 // - `feed refused NUMBER state kept buffer kept` and the same of `quiet`, behind `short` for a buffer of 255 bytes and `long` for a chunk of
-//   65,537.
+//   65,537;
+// - `state MARK HELD` behind the line call of a row `quiet`: the mark and the bytes held, or `-`.
 //
 // `changed` stands for `kept` where that is not so. The other lines end in `buffer wrong` where more of the buffer was written than the
 // payload, and in `state wrong` where the state after `empty` is not a new reader's, in every byte. A row ends with `total FRAMES NOISE`.
@@ -19,11 +22,14 @@ mod calls;
 mod show;
 mod state;
 
+use crate::calls::once_calls;
 use crate::calls::refused_calls;
 use crate::calls::run_calls;
 use crate::show::print_line;
 use crate::show::show_held;
+use crate::show::show_once;
 use crate::show::show_segment;
+use crate::show::show_then;
 use console::append;
 use console::front;
 use console::hex_bytes;
@@ -31,6 +37,8 @@ use console::line_at;
 use console::next_word;
 use console::number;
 use console::rest;
+use frame::Footer;
+use frame::Format;
 use frame::Framing;
 use frame::Reader;
 use libc::STDIN_FILENO;
@@ -44,71 +52,114 @@ fn main() {
 
 // Runs every line of the text.
 fn run_rows(text: &[u8]) {
+    let mut reader = Reader::new(Framing::Binary);
     let mut at: usize = 0;
     while at < text.len() {
         let line = line_at(text, at);
-        run_row(line);
+        reader = run_row(line, reader);
         at += line.len() + 1;
     }
 }
 
-// Runs one line.
-fn run_row(line: &[u8]) {
+// Runs one line behind a row that left this reader, and gives the reader that it leaves.
+fn run_row(line: &[u8], reader: Reader) -> Reader {
     if line.len() == 0 {
-        return;
+        return reader;
     }
     let first = line[0];
     match first {
-        b'#' => print_line(line),
+        b'#' => {
+            print_line(line);
+            reader
+        }
+        b't' => run_then(line, reader),
         b'h' => run_held(line),
+        b'q' => run_once(line),
         _ => run_segment(line),
     }
 }
 
 // Runs a row with a new reader.
-fn run_segment(line: &[u8]) {
+fn run_segment(line: &[u8]) -> Reader {
     let size_text = next_word(line);
-    let framing = framing_named(line);
+    let format = format_named(line);
     let size = number(size_text);
     let mut bytes = [0u8; 1024];
     let n = hex_bytes(next_word(size_text), &mut bytes);
-    show_segment(framing, size, n);
-    run_calls(Reader::new(framing), &bytes[..n], size);
+    show_segment(format, size, n);
+    run_calls(new_reader(format), &bytes[..n], size)
+}
+
+// Runs a row with the reader that the one before it left.
+fn run_then(line: &[u8], reader: Reader) -> Reader {
+    let size_text = next_word(line);
+    let size = number(size_text);
+    let mut bytes = [0u8; 1024];
+    let n = hex_bytes(next_word(size_text), &mut bytes);
+    show_then(size, n);
+    run_calls(reader, &bytes[..n], size)
 }
 
 // Runs a row with a state made by hand.
-fn run_held(line: &[u8]) {
-    let framing_text = next_word(line);
-    let count_text = next_word(framing_text);
-    let size_text = next_word(count_text);
-    let framing = framing_named(framing_text);
-    let count = number(count_text);
+fn run_held(line: &[u8]) -> Reader {
+    let words = next_word(line);
+    let size_text = next_word(next_word(next_word(words)));
     let size = number(size_text);
     let mut bytes = [0u8; 1024];
     let n = hex_bytes(next_word(size_text), &mut bytes);
-    show_held(framing, count, size, n);
-    let reader = state_of(framing, &bytes, count);
+    let reader = state_of(words, &bytes);
+    show_held(reader, size, n);
     refused_calls(reader);
-    run_calls(reader, rest(front(&bytes, n), count), size);
+    run_calls(reader, rest(front(&bytes, n), reader.count), size)
 }
 
-// The state with this count whose array is the first of these bytes.
-fn state_of(framing: Framing, bytes: &[u8], count: usize) -> Reader {
+// Runs a row with a state made by hand and the quiet at once.
+fn run_once(line: &[u8]) -> Reader {
+    let words = next_word(line);
+    let bytes_text = next_word(next_word(next_word(words)));
+    let mut bytes = [0u8; 1024];
+    let n = hex_bytes(bytes_text, &mut bytes);
+    let reader = state_of(words, &bytes);
+    show_once(reader, n);
+    once_calls(reader, rest(front(&bytes, n), reader.count))
+}
+
+// The state whose format, count and mark stand at the front of these words, and whose array is the first of these bytes.
+fn state_of(words: &[u8], bytes: &[u8]) -> Reader {
+    let count_text = next_word(words);
+    let format = format_named(words);
+    let count = number(count_text);
+    let follows = number(next_word(count_text)) == 1;
     let mut held = [0u8; 517];
     append(&mut held, 0, bytes);
     Reader {
-        framing,
+        format,
         held,
         count,
+        follows,
     }
 }
 
-// The framing that a word names by its first letter.
-fn framing_named(word: &[u8]) -> Framing {
-    if 0 < word.len() {
-        if word[0] == b'a' {
-            return Framing::Ascii;
-        }
+// A new reader: where the format is the default of its framing, the one that the framing gives.
+fn new_reader(format: Format) -> Reader {
+    match format {
+        Format::Binary(footer) => match footer {
+            Footer::Optional => Reader::new(Framing::Binary),
+            Footer::Required => Reader::open(format),
+        },
+        Format::Ascii => Reader::new(Framing::Ascii),
     }
-    Framing::Binary
+}
+
+// The format that a word names by its first letter.
+fn format_named(word: &[u8]) -> Format {
+    if word.len() == 0 {
+        return Format::Binary(Footer::Optional);
+    }
+    let first = word[0];
+    match first {
+        b'a' => Format::Ascii,
+        b'r' => Format::Binary(Footer::Required),
+        _ => Format::Binary(Footer::Optional),
+    }
 }

@@ -1,9 +1,12 @@
 // What the program prints: lines and numbers, rows, and the ends of the lines of calls.
 use crate::state::is_untouched;
+use crate::state::mark_number;
 use console::front;
 use console::put_hex;
 use console::rest;
-use frame::Framing;
+use frame::Footer;
+use frame::Format;
+use frame::Reader;
 use frame::Refusal;
 use libc::STDOUT_FILENO;
 
@@ -20,33 +23,76 @@ pub fn print_field(n: usize) {
 }
 
 // Prints a row with a new reader, which has n bytes.
-pub fn show_segment(framing: Framing, size: usize, n: usize) {
-    show_framing(framing);
+pub fn show_segment(format: Format, size: usize, n: usize) {
+    show_format(format);
+    print_field(size);
+    print_field(n);
+    print_line(b"");
+}
+
+// Prints a row with the reader of the row before.
+pub fn show_then(size: usize, n: usize) {
+    io::write_all(STDOUT_FILENO, b"then");
     print_field(size);
     print_field(n);
     print_line(b"");
 }
 
 // Prints a row with a state made by hand.
-pub fn show_held(framing: Framing, count: usize, size: usize, n: usize) {
+pub fn show_held(reader: Reader, size: usize, n: usize) {
     io::write_all(STDOUT_FILENO, b"held ");
-    show_framing(framing);
-    print_field(count);
+    show_made(reader);
     print_field(size);
     print_field(n);
     print_line(b"");
 }
 
-// Prints the word of a framing.
-fn show_framing(framing: Framing) {
-    match framing {
-        Framing::Binary => {
-            io::write_all(STDOUT_FILENO, b"binary");
-        }
-        Framing::Ascii => {
+// Prints a row with a state made by hand and the quiet at once.
+pub fn show_once(reader: Reader, n: usize) {
+    io::write_all(STDOUT_FILENO, b"quiet ");
+    show_made(reader);
+    print_field(n);
+    print_line(b"");
+}
+
+// Prints the format, the count and the mark of a state.
+fn show_made(reader: Reader) {
+    let format = reader.format;
+    show_format(format);
+    print_field(reader.count);
+    print_field(mark_number(reader.follows));
+}
+
+// Prints the word of a format.
+fn show_format(format: Format) {
+    match format {
+        Format::Binary(footer) => match footer {
+            Footer::Optional => {
+                io::write_all(STDOUT_FILENO, b"binary");
+            }
+            Footer::Required => {
+                io::write_all(STDOUT_FILENO, b"required");
+            }
+        },
+        Format::Ascii => {
             io::write_all(STDOUT_FILENO, b"ascii");
         }
     }
+}
+
+// Prints the mark and the held bytes of a state.
+pub fn show_state(reader: Reader) {
+    io::write_all(STDOUT_FILENO, b"state");
+    print_field(mark_number(reader.follows));
+    io::write_all(STDOUT_FILENO, b" ");
+    if reader.count == 0 {
+        print_line(b"-");
+        return;
+    }
+    let held = reader.held;
+    let mut digits = [0u8; 1034];
+    let n = put_hex(front(&held, reader.count), &mut digits);
+    print_line(&digits[..n]);
 }
 
 // Prints `frame` and the payload, which is in the front of a buffer of 256 bytes.

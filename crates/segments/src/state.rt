@@ -1,24 +1,28 @@
 // What a call may leave changed: the reader's state, and the buffer that it was lent.
-use frame::Framing;
+use frame::Footer;
+use frame::Format;
 use frame::Reader;
 
 // Every byte of a buffer before a call.
 pub const UNTOUCHED: u8 = 0xEE;
 
-// Whether a state is that of a new reader for the framing of an earlier one.
+// Whether a state is that of a new reader for the format of an earlier one.
 pub fn is_new(reader: Reader, before: Reader) -> bool {
-    let framing = before.framing;
-    same_state(reader, Reader::new(framing))
+    let format = before.format;
+    same_state(reader, Reader::open(format))
 }
 
 // Whether two states are the same, in every byte.
 pub fn same_state(a: Reader, b: Reader) -> bool {
-    let ours = a.framing;
-    let theirs = b.framing;
-    if framing_number(ours) != framing_number(theirs) {
+    let ours = a.format;
+    let theirs = b.format;
+    if format_number(ours) != format_number(theirs) {
         return false;
     }
     if a.count != b.count {
+        return false;
+    }
+    if mark_number(a.follows) != mark_number(b.follows) {
         return false;
     }
     let held = a.held;
@@ -26,12 +30,20 @@ pub fn same_state(a: Reader, b: Reader) -> bool {
     check::same(&held, &other)
 }
 
-// A number for each framing.
-fn framing_number(framing: Framing) -> u8 {
-    match framing {
-        Framing::Binary => 0,
-        Framing::Ascii => 1,
+// A number for each format.
+fn format_number(format: Format) -> u8 {
+    match format {
+        Format::Binary(footer) => match footer {
+            Footer::Optional => 0,
+            Footer::Required => 1,
+        },
+        Format::Ascii => 2,
     }
+}
+
+// The number of the mark: 1 where an optional byte may follow the last frame, else 0.
+pub fn mark_number(follows: bool) -> usize {
+    if follows { 1 } else { 0 }
 }
 
 // Whether no byte of a buffer, or of its part, was written.

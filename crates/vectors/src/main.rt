@@ -4,13 +4,17 @@
 // - `# ..`: a heading, printed as it is. The rows under one that ends in `not counted` stay out of the totals.
 // - `:..`: an ASCII frame without its CR LF, which is added.
 // - `ascii ..`: bytes in ASCII framing, as hex pairs with a space between; `ascii` alone is the empty slice.
-// - `binary ..`, or the pairs alone: bytes in binary framing.
+// - `binary ..`, or the pairs alone: bytes in binary framing, read with the footer optional, which is the default, and with it required.
 // - `payload ..`: a payload, as hex pairs.
 // - `list ..`: a settings list, as hex pairs.
 //
-// A frame's row prints `frame`, the bytes used, the payload and whether it is written back as the bytes that were read, and what
-// the payload means to the module and from it; or `refused` and the number. A payload's row prints itself and both meanings. A list's
-// row prints itself, then `walk` and its settings, or `refused` and the number. The last line has the totals of the frames' rows.
+// A frame's row prints `frame`, the bytes used, the payload and whether it is written back as the bytes that were read, which one without its
+// footer is not, and what the payload means to the module and from it; or `refused` and the number. In binary framing a further line
+// has the reading with the footer required: `required frame` and the bytes used, or `required refused` and the number. A payload's row
+// prints itself and both meanings. A list's row prints itself, then `walk` and its settings, or `refused` and the number.
+//
+// The last lines have the totals of the frames' rows: those of the default, and those with the footer required, which document 01's list rests on.
+// ASCII rows have one reading, which counts in both.
 mod meaning;
 mod show;
 
@@ -26,12 +30,13 @@ use console::front;
 use console::hex_bytes;
 use console::line_at;
 use console::rest;
+use frame::Footer;
+use frame::Format;
 use frame::Framing;
 use frame::ReadAnswer;
 use frame::WriteAnswer;
 use libc::STDIN_FILENO;
 use libc::STDOUT_FILENO;
-ghost use Prim.Native.Nat.{_+_, _≤_, _<_};
 ghost use Rattle.io.specs.Counts.{Counts};
 
 // What became of a line.
@@ -39,14 +44,20 @@ enum Row {
     // An empty line, a payload or a list.
     Uncounted,
     Heading { counted: bool },
-    Frame,
-    Refused,
+    // Whether a frame was read by default, and with the footer required.
+    Read { optional: bool, required: bool },
 }
 
-// The totals so far, and whether the rows that follow count.
-struct Totals {
+// How many rows were read as a frame, and how many were refused.
+struct Count {
     frames: u64,
     refused: u64,
+}
+
+// The totals so far by default and with the footer required, and whether the rows that follow count.
+struct Totals {
+    optional: Count,
+    required: Count,
     counted: bool,
 }
 
@@ -55,54 +66,76 @@ fn main() {
     let mut text = io::large_buffer();
     let n = io::read_full(STDIN_FILENO, &mut text);
     let totals = run_rows(&text[..n]);
-    io::print_decimal(STDOUT_FILENO, totals.frames);
+    show_count(totals.optional);
+    io::write_all(STDOUT_FILENO, b"required ");
+    show_count(totals.required);
+}
+
+// Prints a count.
+fn show_count(count: Count) {
+    io::print_decimal(STDOUT_FILENO, count.frames);
     io::write_all(STDOUT_FILENO, b" frames, ");
-    io::print_decimal(STDOUT_FILENO, totals.refused);
+    io::print_decimal(STDOUT_FILENO, count.refused);
     io::write_all(STDOUT_FILENO, b" refused\n");
 }
 
 // Runs every line of the text.
 fn run_rows(text: &[u8]) -> Totals {
-    let mut totals = Totals {
+    let none = Count {
         frames: 0,
         refused: 0,
+    };
+    let mut totals = Totals {
+        optional: none,
+        required: none,
         counted: true,
     };
     let mut at: usize = 0;
     while at < text.len() {
         let line = line_at(text, at);
         let row = run_row(line);
-        totals = count(totals, row);
+        totals = with_row(totals, row);
         at += line.len() + 1;
     }
     totals
 }
 
 // The totals after one more line.
-fn count(totals: Totals, row: Row) -> Totals
-    requires { ⌜ totals .frames < 18446744073709551615 ⌝ }
-    requires { ⌜ totals .refused < 18446744073709551615 ⌝ }
-    ensures { λ r. ⌜ r .frames ≤ totals .frames + 1 ⌝ }
-    ensures { λ r. ⌜ r .refused ≤ totals .refused + 1 ⌝ }
-{
-    let mut after = totals;
+fn with_row(totals: Totals, row: Row) -> Totals {
     match row {
-        Row::Uncounted => {}
+        Row::Uncounted => totals,
         Row::Heading { counted } => {
+            let mut after = totals;
             after.counted = counted;
+            after
         }
-        Row::Frame => {
-            if totals.counted {
-                after.frames = totals.frames + 1;
+        Row::Read { optional, required } => {
+            if !totals.counted {
+                return totals;
             }
-        }
-        Row::Refused => {
-            if totals.counted {
-                after.refused = totals.refused + 1;
+            let by_default = totals.optional;
+            let by_choice = totals.required;
+            Totals {
+                optional: with_reading(by_default, optional),
+                required: with_reading(by_choice, required),
+                counted: true,
             }
         }
     }
-    after
+}
+
+// The count after one more reading, of a frame or refused. No text has so many lines that it wraps.
+fn with_reading(count: Count, is_frame: bool) -> Count {
+    if is_frame {
+        return Count {
+            frames: std::num::wrapping_add_u64(count.frames, 1),
+            refused: count.refused,
+        };
+    }
+    Count {
+        frames: count.frames,
+        refused: std::num::wrapping_add_u64(count.refused, 1),
+    }
 }
 
 // Runs one line.
@@ -117,7 +150,7 @@ fn run_row(line: &[u8]) -> Row {
     let mut bytes = [0u8; 1024];
     if first == b':' {
         let n = text_bytes(line, &mut bytes);
-        return run_frame(Framing::Ascii, &bytes[..n]);
+        return run_ascii(&bytes[..n]);
     }
     let n = hex_bytes(rest(line, pairs_from(first)), &mut bytes);
     if first == b'p' {
@@ -127,9 +160,9 @@ fn run_row(line: &[u8]) -> Row {
         return run_list(line, &bytes[..n]);
     }
     if first == b'a' {
-        return run_frame(Framing::Ascii, &bytes[..n]);
+        return run_ascii(&bytes[..n]);
     }
-    run_frame(Framing::Binary, &bytes[..n])
+    run_binary(&bytes[..n])
 }
 
 // Prints a heading.
@@ -190,8 +223,44 @@ fn run_list(line: &[u8], list: &[u8]) -> Row {
     Row::Uncounted
 }
 
-// Reads a frame from the front of s, writes its payload again and prints what both gave.
-fn run_frame(framing: Framing, s: &[u8]) -> Row {
+// Runs bytes in ASCII framing.
+fn run_ascii(s: &[u8]) -> Row {
+    let is_frame = run_frame(Framing::Ascii, s);
+    Row::Read {
+        optional: is_frame,
+        required: is_frame,
+    }
+}
+
+// Runs bytes in binary framing, by default and with the footer required.
+fn run_binary(s: &[u8]) -> Row {
+    let optional = run_frame(Framing::Binary, s);
+    let required = run_required(s);
+    Row::Read { optional, required }
+}
+
+// Reads a frame from the front of s with the footer required and prints what that gave; answers whether it is one.
+fn run_required(s: &[u8]) -> bool {
+    let mut buf = [0u8; 256];
+    let format = Format::Binary(Footer::Required);
+    let answer = frame::read_frame_as(format, s, &mut buf);
+    io::write_all(STDOUT_FILENO, b"  required ");
+    match answer {
+        ReadAnswer::Frame { used, len: _ } => {
+            io::write_all(STDOUT_FILENO, b"frame");
+            print_field(used);
+            print_line(b"");
+            true
+        }
+        ReadAnswer::Refused(refusal) => {
+            show_refusal(refusal.number());
+            false
+        }
+    }
+}
+
+// Reads a frame from the front of s, writes its payload again and prints what both gave; answers whether it is one.
+fn run_frame(framing: Framing, s: &[u8]) -> bool {
     let mut buf = [0u8; 256];
     let answer = frame::read_frame(framing, s, &mut buf);
     match answer {
@@ -205,11 +274,11 @@ fn run_frame(framing: Framing, s: &[u8]) -> Row {
                 b" differs\n",
             );
             show_meanings(framing, payload, whole);
-            Row::Frame
+            true
         }
         ReadAnswer::Refused(refusal) => {
             show_refusal(refusal.number());
-            Row::Refused
+            false
         }
     }
 }

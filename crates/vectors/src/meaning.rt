@@ -20,7 +20,8 @@
 // - `control 0` or `control 1`
 //
 // Such a line ends in `same` where the message, written with its data by the crate message, is the frame that was read, and in
-// `other` where it is not, as with options that do not stand in ascending order. Behind either: `refused` and the number.
+// `other` where it is not, as with options that do not stand in ascending order, or a frame without its footer. Behind either: `refused` and
+// the number.
 use crate::show::byte_field;
 use crate::show::data_field;
 use crate::show::long_field;

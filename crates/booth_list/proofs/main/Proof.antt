@@ -12,7 +12,7 @@ use Rattle.booth_list.proofs.main.Statement.{statement}
 use Rattle.booth_list.proofs.main.Tie as tie
 
 abbrev Inv-loop : tie.InvT-loop
-Inv-loop chunk₀ out₀ reader₀ noise₀ reads₀ chunk out reader noise reads = (length chunk ≡ 65536) × (length out ≡ 132106) × (noise + reads * 66053 ≤ 0x400000000000 * 66053)
+Inv-loop chunk₀ out₀ reader₀ noise₀ reads₀ chunk out reader noise reads = (length chunk ≡ 65536) × (length out ≡ 198159) × (noise + reads * 66053 ≤ 0x400000000000 * 66053)
 
 abbrev μ-loop : tie.MeasureT-loop
 μ-loop chunk₀ out₀ reader₀ noise₀ reads₀ chunk out reader noise reads = reads
@@ -43,7 +43,7 @@ small x =
     chunk-is-small (l .reader) _ (l .out) (x .list-chunk .result) _ (x .list-chunk .ensures)
 
 -- The text's buffer has its length when a chunk is listed.
-out-kept : (x : tie.After-list-chunk Inv-loop μ-loop) → length (x .list-chunk .last .1 .1 .0) ≡ 132106
+out-kept : (x : tie.After-list-chunk Inv-loop μ-loop) → length (x .list-chunk .last .1 .1 .0) ≡ 198159
 out-kept x = small x .1 ∙ turn (counted x) .before .loop .inv .1
 
 -- A chunk adds no more noise than the invariant counts for a read.

@@ -12,10 +12,10 @@ use Rattle.digest.proofs.drive.Statement.{statement}
 use Rattle.digest.proofs.drive.Tie as tie
 
 abbrev Inv-loop : tie.InvT-loop
-Inv-loop s size buf₀ tally₀ span₀ end framing fed₀ turns₀ buf tally span fed turns = (length buf ≡ 256) × (span .at ≤ span .end) × (span .end ≤ length s)
+Inv-loop s size buf₀ tally₀ span₀ end format fed₀ turns₀ buf tally span fed turns = (length buf ≡ 256) × (span .at ≤ span .end) × (span .end ≤ length s)
 
 abbrev μ-loop : tie.MeasureT-loop
-μ-loop s size buf₀ tally₀ span₀ end framing fed₀ turns₀ buf tally span fed turns = turns
+μ-loop s size buf₀ tally₀ span₀ end format fed₀ turns₀ buf tally span fed turns = turns
 
 -- Where the turn began, from where it is known how the chunk is fed.
 abbrev turn : tie.After-is-viewed Inv-loop μ-loop → tie.At-loop Inv-loop μ-loop
@@ -96,7 +96,7 @@ loop-less c = search needs
 loop-again : tie.Need-loop-again Inv-loop μ-loop
 loop-again c = (
   ⊎-elim
-      (λ w. ap length (w .7) ∙ (w .3 .kept .1 .1 .1 .0 ∙ turn (c .before) .loop .inv .0))
+      (λ w. ap length (w .7) ∙ (w .3 .kept .1 .1 .1 .1 .0 ∙ turn (c .before) .loop .inv .0))
       (λ w. ap length (w .5) ∙ (w .3 .kept .1 .1 .0 ∙ turn (c .before) .loop .inv .0))
       (c .if2 .came),
   c .before .before .next-span .ensures .0,

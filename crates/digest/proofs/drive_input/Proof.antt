@@ -23,8 +23,8 @@ read-at c = c .before .before .before
 large-buffer-requires : tie.Need-large-buffer-requires Inv-loop μ-loop
 large-buffer-requires c κs = search needs
 
-new-requires : tie.Need-new-requires Inv-loop μ-loop
-new-requires c κs = search needs
+open-requires : tie.Need-open-requires Inv-loop μ-loop
+open-requires c κs = search needs
 
 loop-holds : tie.Need-loop-holds Inv-loop μ-loop
 loop-holds c = sym (c .before .large-buffer .ensures)
@@ -78,7 +78,7 @@ drive-input-spec =
     Inv-loop
     μ-loop
     large-buffer-requires
-    new-requires
+    open-requires
     loop-holds
     slice-aggregate-read
     read-requires

@@ -8,10 +8,10 @@ use Rattle.digest.proofs.drive_view.Statement.{statement}
 use Rattle.digest.proofs.drive_view.Tie as tie
 
 abbrev Inv-loop : tie.InvT-loop
-Inv-loop chunk buf₀ tally₀ view₀ turns₀ buf tally view turns = length buf ≡ length buf₀
+Inv-loop follows chunk buf₀ tally₀ view₀ turns₀ buf tally view turns = length buf ≡ length buf₀
 
 abbrev μ-loop : tie.MeasureT-loop
-μ-loop chunk buf₀ tally₀ view₀ turns₀ buf tally view turns = turns
+μ-loop follows chunk buf₀ tally₀ view₀ turns₀ buf tally view turns = turns
 
 loop-holds : tie.Need-loop-holds Inv-loop μ-loop
 loop-holds c = refl

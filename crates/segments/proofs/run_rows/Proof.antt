@@ -6,10 +6,13 @@ use Rattle.segments.proofs.run_rows.Statement.{statement}
 use Rattle.segments.proofs.run_rows.Tie as tie
 
 abbrev Inv-loop : tie.InvT-loop
-Inv-loop text at₀ at = Unit {0}
+Inv-loop text reader₀ at₀ reader at = Unit {0}
 
 abbrev μ-loop : tie.MeasureT-loop
-μ-loop text at₀ at = length text - at
+μ-loop text reader₀ at₀ reader at = length text - at
+
+new-requires : tie.Need-new-requires Inv-loop μ-loop
+new-requires c κs = search needs
 
 loop-holds : tie.Need-loop-holds Inv-loop μ-loop
 loop-holds c = search needs
@@ -41,6 +44,7 @@ run-rows-spec =
     (tie.spec
     Inv-loop
     μ-loop
+    new-requires
     loop-holds
     line-at-requires
     run-row-requires

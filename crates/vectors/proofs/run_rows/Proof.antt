@@ -1,12 +1,12 @@
--- `vectors::run_rows` is safe and ends. The invariant: neither total is above `at`, since each line takes a byte at least. Assumes nothing.
-use Prim.Native.Nat.{_≤_, _-_}
+-- `vectors::run_rows` is safe and ends. The measure is what is left of the text. Assumes nothing.
+use Prim.Native.Nat.{_-_}
 use borrow.Author.Needs.{needs}
 use lib.ListN.{length}
 use Rattle.vectors.proofs.run_rows.Statement.{statement}
 use Rattle.vectors.proofs.run_rows.Tie as tie
 
 abbrev Inv-loop : tie.InvT-loop
-Inv-loop text totals₀ at₀ totals at = (totals .frames ≤ at) × (totals .refused ≤ at)
+Inv-loop text totals₀ at₀ totals at = Unit {0}
 
 abbrev μ-loop : tie.MeasureT-loop
 μ-loop text totals₀ at₀ totals at = length text - at
@@ -20,8 +20,8 @@ line-at-requires c κs = search needs
 run-row-requires : tie.Need-run-row-requires Inv-loop μ-loop
 run-row-requires c κs = search needs
 
-count-requires : tie.Need-count-requires Inv-loop μ-loop
-count-requires c κs = search needs
+with-row-requires : tie.Need-with-row-requires Inv-loop μ-loop
+with-row-requires c κs = search needs
 
 add-at : tie.Need-add-at Inv-loop μ-loop
 add-at c = search needs
@@ -47,7 +47,7 @@ run-rows-spec =
     loop-holds
     line-at-requires
     run-row-requires
-    count-requires
+    with-row-requires
     add-at
     add-at-2
     loop-less

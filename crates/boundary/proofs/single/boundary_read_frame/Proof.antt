@@ -1,4 +1,4 @@
--- `boundary::single::boundary_read_frame` meets its contract: the frame crate's promise, or the refusal of an unknown framing.
+-- `boundary::single::boundary_read_frame` meets its contract: the frame crate's promise, or the refusal of an unknown format.
 -- Assumes nothing.
 use borrow.Author.Needs.{needs}
 use mathlib.Core.Path.{refl, sym, _∙_}
@@ -6,14 +6,14 @@ use Rattle.boundary.proofs.Crossing.{read-crosses, read-unnamed}
 use Rattle.boundary.proofs.single.boundary_read_frame.Statement.{statement}
 use Rattle.boundary.proofs.single.boundary_read_frame.Tie as tie
 
-framing-of-requires : tie.Need-framing-of-requires
-framing-of-requires c κs = search needs
+format-of-requires : tie.Need-format-of-requires
+format-of-requires c κs = search needs
 
 enum-known-f : tie.Need-enum-known-f
 enum-known-f c = search needs
 
-read-frame-requires : tie.Need-read-frame-requires
-read-frame-requires c κs = search needs
+read-frame-as-requires : tie.Need-read-frame-as-requires
+read-frame-as-requires c κs = search needs
 
 reading-of-requires : tie.Need-reading-of-requires
 reading-of-requires c κs = search needs
@@ -27,19 +27,19 @@ same-length c = search needs
 returns : tie.Need-returns
 returns c =
     let d = c .before .before .before in
-    read-crosses (sym (d .before .before .before .before .before .framing-of .ensures) ∙ d .before .before .before .f .given .1)
-    (d .read-frame .ensures) (c .reading-of .ensures)
+    read-crosses (sym (d .before .before .before .before .before .format-of .ensures) ∙ d .before .before .before .f .given .1)
+    (d .read-frame-as .ensures) (c .reading-of .ensures)
 
 returns-2 : tie.Need-returns-2
-returns-2 c = read-unnamed (sym (c .before .before .framing-of .ensures) ∙ c .enum-told .given .1) refl
+returns-2 c = read-unnamed (sym (c .before .before .format-of .ensures) ∙ c .enum-told .given .1) refl
 
 pub boundary-read-frame-spec : {M : Type 1} → statement M
 boundary-read-frame-spec =
     tie.close
     (tie.spec
-    framing-of-requires
+    format-of-requires
     enum-known-f
-    read-frame-requires
+    read-frame-as-requires
     reading-of-requires
     enum-told
     same-length

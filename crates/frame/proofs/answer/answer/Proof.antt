@@ -18,17 +18,17 @@ use Rattle.frame.proofs.answer.answer.Tie as tie
 
 -- What is known at a frame.
 at-frame : (k : tie.After-known-told) →
-    let r = k .before .before .before .before .args .found in
-    let a = k .before .before .before .before .args in
+    let r = k .before .before .before .before .before .args .found in
+    let a = k .before .before .before .before .before .args in
     let at = drop (r .place) (a .w .now) in
-    (judge (a .framing) at ≡ frame (k .before .end .given .0 .0) (payloadAt (a .framing) at (k .before .end .given .0 .1 .0)))
+    (judge (a .format) at ≡ frame (k .before .end .given .0 .0) (payloadAt (a .format) at (k .before .end .given .0 .1 .0)))
     × (r .place + k .before .end .given .0 .0 ≤ r .reach)
     × (r .reach ≤ r .place + 517)
 at-frame k =
-    let a = k .before .before .before .before .args in
+    let a = k .before .before .before .before .before .args in
     let r = a .found in
-    subst (λ (e : ScanEnd). Usable (stopOf (a .framing) (drop (r .place) (a .w .now)) e) (a .framing) (a .w .now) (r .place) (r .reach))
-    (k .before .end .given .1) (k .before .before .before .before .pre .usable)
+    subst (λ (e : ScanEnd). Usable (stopOf (a .format) (drop (r .place) (a .w .now)) e) (a .format) (a .w .now) (r .place) (r .reach))
+    (k .before .end .given .1) (k .before .before .before .before .before .pre .usable)
 
 add-noise : tie.Need-add-noise
 add-noise c = search needs
@@ -42,6 +42,9 @@ sub-taken c = search needs
 add-t15 : tie.Need-add-t15
 add-t15 c = omega (arith, at-frame (c .before) .1)
 
+may-follow-requires : tie.Need-may-follow-requires
+may-follow-requires c κs = search needs
+
 enum-told : tie.Need-enum-told
 enum-told c = search needs
 
@@ -50,31 +53,32 @@ enum-told-2 c = search needs
 
 returns : tie.Need-returns
 returns c =
-    let d = c .before .before .before .before .before in
+    let d = c .before .before .before .before .before .before .before in
     let a = d .args in
     let r = a .found in
-    let used = c .before .before .end .given .0 .0 in
-    let len = c .before .before .end .given .0 .1 .0 in
-    let f = at-frame (c .before) in
-    kept-frame (a .framing) (a .w .now) (a .before) (r .place) (r .reach) (r .end) used len (c .before .before .end .given .1)
-    (payload-there (a .framing) (drop (r .place) (a .w .now)) used len (f .0) .1) (f .1) (d .pre .there) (f .2)
+    let end = c .before .before .before .end in
+    let used = end .given .0 .0 in
+    let len = end .given .0 .1 .0 in
+    let f = at-frame (c .before .before) in
+    kept-frame (a .format) (a .w .now) (a .before) (r .place) (r .reach) (r .end) used len (c .may-follow .result) (c .may-follow .ensures) (end .given .1)
+    (payload-there (a .format) (drop (r .place) (a .w .now)) used len (f .0) .1) (f .1) (d .pre .there) (f .2)
 
 returns-2 : tie.Need-returns-2
 returns-2 c =
-    let d = c .before .before .before in
+    let d = c .before .before .before .before in
     let a = d .args in
     let r = a .found in
     let at = drop (r .place) (a .w .now) in
-    let e : judge (a .framing) at ≡ cut =
-    subst (λ (e : ScanEnd). Usable (stopOf (a .framing) at e) (a .framing) (a .w .now) (r .place) (r .reach)) (c .enum-told .given .1) (d .pre .usable)
+    let e : judge (a .format) at ≡ cut =
+    subst (λ (e : ScanEnd). Usable (stopOf (a .format) at e) (a .format) (a .w .now) (r .place) (r .reach)) (c .enum-told .given .1) (d .pre .usable)
     in
-    kept-undecided (a .framing) (a .w .now) (a .before) (r .place) (r .reach) (r .end) (c .enum-told .given .1) (d .pre .inside)
-    (omega (arith, undecided-short (a .framing) at e, limit-most (a .framing), length-drop (r .place) (a .w .now)))
+    kept-undecided (a .format) (a .w .now) (a .before) (r .place) (r .reach) (r .end) (c .enum-told .given .1) (d .pre .inside)
+    (omega (arith, undecided-short (a .format) at e, limit-most (a .format), length-drop (r .place) (a .w .now)))
 
 returns-3 : tie.Need-returns-3
 returns-3 c =
-    let a = c .before .before .before .args in
-    kept-passed (a .framing) (a .w .now) (a .before) (a .found .place) (a .found .reach) (a .found .end) (c .enum-told2 .given .1)
+    let a = c .before .before .before .before .args in
+    kept-passed (a .format) (a .w .now) (a .before) (a .found .place) (a .found .reach) (a .found .end) (c .enum-told2 .given .1)
 
 pub answer-spec : {M : Type 1} → statement M
 answer-spec =
@@ -84,6 +88,7 @@ answer-spec =
     enum-known-end
     sub-taken
     add-t15
+    may-follow-requires
     enum-told
     enum-told-2
     returns

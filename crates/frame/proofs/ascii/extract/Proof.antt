@@ -8,7 +8,7 @@ use borrow.Author.Needs.{needs}
 use Rattle.frame.specs.Checks.{Verdict}
 use Rattle.frame.specs.Framing.{judge}
 use Rattle.frame.specs.Judged.{verdictOf, handedOut}
-use Rattle.frame.specs.declared.framing.Framing.the-variants.{Ascii}
+use Rattle.frame.specs.declared.framing.Format.the-variants.{Ascii}
 use Rattle.frame.specs.declared.framing.Judged.the-variants.{Frame}
 use Rattle.frame.proofs.Framings.{payload-named, stays}
 use Rattle.frame.proofs.ascii.extract.Statement.{statement}

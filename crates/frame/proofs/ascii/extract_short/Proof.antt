@@ -15,7 +15,7 @@ use Rattle.frame.specs.Ascii.{lineEnd, crLf}
 use Rattle.frame.specs.Framing.{judge}
 use Rattle.frame.specs.DigitRuns.{decoded}
 use Rattle.frame.specs.Judged.{verdictOf, handedOut}
-use Rattle.frame.specs.declared.framing.Framing.the-variants.{Ascii}
+use Rattle.frame.specs.declared.framing.Format.the-variants.{Ascii}
 use Rattle.frame.proofs.AsciiJudge.{line-all-digits, line-payload, line-return, judge-line}
 use Rattle.frame.proofs.AsciiLaws.{line-end-keeps}
 use Rattle.frame.proofs.AsciiShort.{short-long, short-sum, short-put, short-summed}

@@ -2,7 +2,7 @@
 -- Assumes nothing.
 use mathlib.Core.Path.{refl, _∙_}
 use borrow.Author.Needs.{needs}
-use Rattle.frame.specs.declared.framing.Framing.the-variants.{Ascii}
+use Rattle.frame.specs.declared.framing.Format.the-variants.{Ascii}
 use Rattle.frame.proofs.AsciiJudge.{Summed, line-return}
 use Rattle.frame.proofs.Endings.{line-ending}
 use Rattle.frame.proofs.ascii.judge_end.Statement.{statement}

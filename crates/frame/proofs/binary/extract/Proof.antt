@@ -8,7 +8,7 @@ use borrow.Author.Needs.{needs}
 use Rattle.frame.specs.Checks.{Verdict}
 use Rattle.frame.specs.Framing.{judge}
 use Rattle.frame.specs.Judged.{verdictOf, handedOut}
-use Rattle.frame.specs.declared.framing.Framing.the-variants.{Binary}
+use Rattle.frame.specs.declared.framing.Format.the-variants.{Binary}
 use Rattle.frame.specs.declared.framing.Judged.the-variants.{Frame}
 use Rattle.frame.proofs.Framings.{payload-named, stays}
 use Rattle.frame.proofs.binary.extract.Statement.{statement}
@@ -19,9 +19,11 @@ abbrev start : tie.After-unpack-arg → tie.Start
 start c = c .before .before .before .before .before .before .before
 
 -- The answer is a frame.
-named : (c : tie.After-verdict) → let s = c .before .before .before .before .before .args .s .now in
-    judge Binary s ≡ verdictOf Binary s (Frame (c .verdict .given .0 .0) (c .verdict .given .0 .1 .0))
-named c = c .before .before .judge .ensures ∙ ap (verdictOf Binary (c .before .before .before .before .before .args .s .now)) (c .verdict .given .1)
+named : (c : tie.After-verdict) → let a = c .before .before .before .before .before .args in
+    judge (Binary (a .footer)) (a .s .now) ≡ verdictOf (Binary (a .footer)) (a .s .now) (Frame (c .verdict .given .0 .0) (c .verdict .given .0 .1 .0))
+named c =
+    let a = c .before .before .before .before .before .args in
+    c .before .before .judge .ensures ∙ ap (verdictOf (Binary (a .footer)) (a .s .now)) (c .verdict .given .1)
 
 judge-requires : tie.Need-judge-requires
 judge-requires c κs = search needs
@@ -32,7 +34,8 @@ enum-known-verdict c = search needs
 unpack-requires : tie.Need-unpack-requires
 unpack-requires c κs =
     let v = c .before .before in
-    let h = payload-named Binary (start c .args .s .now) (v .verdict .given .0 .0) (v .verdict .given .0 .1 .0) (named v) in
+    let a = start c .args in
+    let h = payload-named (Binary (a .footer)) (a .s .now) (v .verdict .given .0 .0) (v .verdict .given .0 .1 .0) (named v) in
     (h .packed, omega (arith, h .most))
 
 same-length : tie.Need-same-length
@@ -48,7 +51,7 @@ returns-2 : tie.Need-returns-2
 returns-2 c =
     let a = c .before .before .before .before .args in (
       c .before .judge .ensures,
-      sym (ap (λ (v : Verdict). handedOut v (a .buf .now)) (c .before .judge .ensures) ∙ stays Binary (a .s .now) (a .buf .now) (c .before .judge .result)
+      sym (ap (λ (v : Verdict). handedOut v (a .buf .now)) (c .before .judge .ensures) ∙ stays (Binary (a .footer)) (a .s .now) (a .buf .now) (c .before .judge .result)
           (λ used len e. ⊎-elim (λ (q : _). let z : _≡_ {A = ℕ} 2 0 = cc in omega arith) (λ q. let z : _≡_ {A = ℕ} 2 1 = cc in omega arith) (c .match .keys2))),
     )
 

@@ -1,4 +1,4 @@
--- `frame::binary::judge_body` meets its contract: the payload is cut, or the ending is left.
+-- `frame::binary::judge_body` meets its contract: the payload is cut, or the ending is left, by the footer.
 -- Assumes nothing.
 use Prim.Native.Nat.{ℕ, _+_}
 use native.Mathlib.Nat.{add-sub-cancel-left}
@@ -7,10 +7,12 @@ use mathlib.Core.Path.{_≡_, sym, ap, _∙_}
 use borrow.Author.Needs.{needs}
 use lib.Dec.{eqb}
 use lib.ListN.{getD, take, drop}
-use Rattle.frame.specs.Binary.{xorOf, footer}
-use Rattle.frame.specs.declared.framing.Framing.the-variants.{Binary}
+use Rattle.frame.specs.Checks.{Verdict, behind, run}
+use Rattle.frame.specs.Binary.{xorOf, body, footer, ending}
+use Rattle.frame.specs.declared.framing.Footer.{Footer}
+use Rattle.frame.specs.declared.framing.Format.the-variants.{Binary}
 use Rattle.frame.proofs.BinaryJudge.{body-short}
-use Rattle.frame.proofs.Endings.{body-ending}
+use Rattle.frame.proofs.Endings.{endingAt, body-ending}
 use Rattle.frame.proofs.binary.judge_body.Statement.{statement}
 use Rattle.frame.proofs.binary.judge_body.Tie as tie
 
@@ -24,13 +26,26 @@ summed c =
     let a = start c .args in
     c .xor-of .ensures ∙ ap (λ (k : ℕ). xorOf (take k (drop 4 (a .s .now)))) (add-sub-cancel-left 4 (a .len))
 
+-- What the ending decides where the footer is this.
+abbrev ended : tie.After-xor-of → Footer → Verdict
+ended c footer =
+    let a = start c .args in
+    endingAt (ending footer) (take (a .len) (drop 4 (a .s .now))) (a .s .now) (4 + a .len) (eqb (c .xor-of .result) (getD (a .s .now) (4 + a .len) 0))
+
+-- The ending is left.
+left : (c : tie.After-xor-of) → let a = start c .args in
+    behind 4 (run (body (ending (a .footer)) (a .len)) (drop 4 (a .s .now))) ≡ ended c (a .footer)
+left c =
+    let a = start c .args in
+    body-ending (ending (a .footer)) (a .s .now) (a .len) (omega arith) _ (ap (λ (n : ℕ). eqb n (getD (a .s .now) (4 + a .len) 0)) (sym (summed c)))
+
 add-end : tie.Need-add-end
 add-end c = search needs
 
 returns : tie.Need-returns
 returns c =
     let a = c .before .before .args in
-    body-short footer (a .s .now) (a .len) (c .before .before .pre .0) (c .if1 .taken)
+    body-short (ending (a .footer)) (a .s .now) (a .len) (c .before .before .pre .0) (c .if1 .taken)
 
 sub-xor-of : tie.Need-sub-xor-of
 sub-xor-of c = search needs
@@ -44,18 +59,32 @@ part-xor-of-end c = search needs
 xor-of-requires : tie.Need-xor-of-requires
 xor-of-requires c κs = search needs
 
-shared-slice-read-judge-ending : tie.Need-shared-slice-read-judge-ending
-shared-slice-read-judge-ending c = search needs
+shared-slice-read-right : tie.Need-shared-slice-read-right
+shared-slice-read-right c = search needs
+
+enum-told : tie.Need-enum-told
+enum-told c = search needs
+
+judge-complete-requires : tie.Need-judge-complete-requires
+judge-complete-requires c κs = search needs
+
+enum-told-2 : tie.Need-enum-told-2
+enum-told-2 c = search needs
 
 judge-ending-requires : tie.Need-judge-ending-requires
 judge-ending-requires c κs = search needs
 
 returns-2 : tie.Need-returns-2
 returns-2 c =
-    let x = c .before .before in
+    let x = c .before .before .before .before in
     let a = start x .args in
-    body-ending (a .s .now) (a .len) (omega arith) _ (ap (λ (n : ℕ). eqb n (getD (a .s .now) (4 + a .len) 0)) (sym (summed x)))
-    ∙ c .judge-ending .ensures Binary
+    left x ∙ ap (ended x) (c .before .enum-told .given .1) ∙ c .judge-complete .ensures (a .s .now) (Binary (a .footer))
+
+returns-3 : tie.Need-returns-3
+unfolding footer
+returns-3 c =
+    let x = c .before .before .before .before in
+    left x ∙ ap (ended x) (c .before .enum-told2 .given .1) ∙ c .judge-ending .ensures (Binary (start x .args .footer))
 
 pub judge-body-spec : {M : Type 1} → statement M
 judge-body-spec =
@@ -67,6 +96,10 @@ judge-body-spec =
     part-xor-of-start
     part-xor-of-end
     xor-of-requires
-    shared-slice-read-judge-ending
+    shared-slice-read-right
+    enum-told
+    judge-complete-requires
+    enum-told-2
     judge-ending-requires
-    returns-2)
+    returns-2
+    returns-3)

@@ -5,36 +5,36 @@ use mathlib.Core.Path.{_≡_, ap, _∙_}
 use borrow.Author.Needs.{needs}
 use borrow.Author.Tests.{not-true, not-false}
 use Rattle.frame.specs.Judged.{payloadAt}
-use Rattle.frame.specs.declared.framing.Framing.{Framing}
-use Rattle.frame.proofs.Endings.{endingAt, ending-wrong, ending-cut, ending-other, ending-frame}
+use Rattle.frame.specs.declared.framing.Format.{Format}
+use Rattle.frame.proofs.Endings.{lastByte, endingAt, ending-wrong, ending-cut, ending-other, ending-frame}
 use Rattle.frame.proofs.framing.judge_ending.Statement.{statement}
 use Rattle.frame.proofs.framing.judge_ending.Tie as tie
 
 -- The checksum is right.
-right : (c : tie.Else1) (f : Framing) →
+right : (c : tie.Else1) (m : Format) →
     let a = c .before .args in
-    let p = payloadAt f (a .s .now) (a .len) in
-    endingAt (a .last) p (a .s .now) (a .end) (a .right) ≡ endingAt (a .last) p (a .s .now) (a .end) true
-right c f =
+    let p = payloadAt m (a .s .now) (a .len) in
+    endingAt (lastByte (a .last)) p (a .s .now) (a .end) (a .right) ≡ endingAt (lastByte (a .last)) p (a .s .now) (a .end) true
+right c m =
     let a = c .before .args in
-    ap (endingAt (a .last) (payloadAt f (a .s .now) (a .len)) (a .s .now) (a .end)) (not-false (a .right) (c .if1 .left))
+    ap (endingAt (lastByte (a .last)) (payloadAt m (a .s .now) (a .len)) (a .s .now) (a .end)) (not-false (a .right) (c .if1 .left))
 
 add-t8 : tie.Need-add-t8
 add-t8 c = search needs
 
 returns : tie.Need-returns
-returns c = λ f.
+returns c = λ m.
     let a = c .before .args in
-    let p = payloadAt f (a .s .now) (a .len) in
-    ap (endingAt (a .last) p (a .s .now) (a .end)) (not-true (a .right) (c .if1 .taken)) ∙ ending-wrong (a .last) p (a .s .now) (a .end)
+    let p = payloadAt m (a .s .now) (a .len) in
+    ap (endingAt (lastByte (a .last)) p (a .s .now) (a .end)) (not-true (a .right) (c .if1 .taken)) ∙ ending-wrong (lastByte (a .last)) p (a .s .now) (a .end)
 
 add-if2 : tie.Need-add-if2
 add-if2 c = search needs
 
 returns-2 : tie.Need-returns-2
-returns-2 c = λ f.
+returns-2 c = λ m.
     let a = c .before .before .args in
-    right (c .before) f ∙ ending-cut (a .last) (payloadAt f (a .s .now) (a .len)) (a .s .now) (a .end) (c .if2 .taken)
+    right (c .before) m ∙ ending-cut (a .last) (payloadAt m (a .s .now) (a .len)) (a .s .now) (a .end) (c .if2 .taken)
 
 add-if3 : tie.Need-add-if3
 add-if3 c = search needs
@@ -46,19 +46,19 @@ add-t14 : tie.Need-add-t14
 add-t14 c = search needs
 
 returns-3 : tie.Need-returns-3
-returns-3 c = λ f.
+returns-3 c = λ m.
     let e = c .before .before .before in
     let a = e .before .args in
-    right e f ∙ ending-other (a .last) (payloadAt f (a .s .now) (a .len)) (a .s .now) (a .end) (c .before .before .if2 .left) (c .if3 .taken)
+    right e m ∙ ending-other (a .last) (payloadAt m (a .s .now) (a .len)) (a .s .now) (a .end) (c .before .before .if2 .left) (c .if3 .taken)
 
 add-t10 : tie.Need-add-t10
 add-t10 c = search needs
 
 returns-4 : tie.Need-returns-4
-returns-4 c = λ f.
+returns-4 c = λ m.
     let e = c .before .before .before in
     let a = e .before .args in
-    right e f ∙ ending-frame (a .last) (payloadAt f (a .s .now) (a .len)) (a .s .now) (a .end) (c .before .before .if2 .left) (c .if3 .left)
+    right e m ∙ ending-frame (a .last) (payloadAt m (a .s .now) (a .len)) (a .s .now) (a .end) (c .before .before .if2 .left) (c .if3 .left)
 
 pub judge-ending-spec : {M : Type 1} → statement M
 judge-ending-spec =

@@ -22,8 +22,8 @@ scan-at c = c .before .before .before .before .before .before .before
 
 -- All places of the chunk were scanned.
 is : (x : tie.After-find) → let a = start x .args in
-    scanned (a .framing) (a .chunk .now) (x .find .result) ≡ scanFrom (judging false (a .framing)) (length (a .chunk .now)) 0 (a .reach) (a .chunk .now)
-is x = let a = start x .args in from-first false (a .framing) (length (a .chunk .now)) (a .reach) (a .chunk .now) _ (x .find .ensures .0)
+    scanned (a .format) (a .chunk .now) (x .find .result) ≡ scanFrom (judging false (a .format)) (length (a .chunk .now)) 0 (a .reach) (a .chunk .now)
+is x = let a = start x .args in from-first false (a .format) (length (a .chunk .now)) (a .reach) (a .chunk .now) _ (x .find .ensures .0)
 
 find-requires : tie.Need-find-requires
 find-requires c κs = search needs
@@ -34,7 +34,7 @@ answer-requires c κs =
     let a = start x .args in
     let s = a .chunk .now in
     let p = start x .pre in
-    answerable (a .framing) s (length s) (a .reach) (scanned (a .framing) s (x .find .result)) _ (le-refl (length s)) (p .reached) (p .near)
+    answerable (a .format) s (length s) (a .reach) (scanned (a .format) s (x .find .result)) _ (le-refl (length s)) (p .reached) (p .near)
     (is x) zero-le (p .small)
 
 keep-requires : tie.Need-keep-requires
@@ -53,7 +53,7 @@ returns c =
     let a = start x .args in
     let s = a .chunk .now in
     let answered = c .before .before .before .answer in
-    chunk-leaves (a .framing) s (a .noise) (a .reach) (scanned (a .framing) s (x .find .result)) (answered .result) (a .buf .now) _ _ _
+    chunk-leaves (a .format) s (a .noise) (a .reach) (scanned (a .format) s (x .find .result)) (answered .result) (a .buf .now) _ _ _
     (is x) (answered .ensures) (x .find .ensures .1) (c .before .before .keep .ensures)
 
 pub feed-chunk-spec : {M : Type 1} → statement M

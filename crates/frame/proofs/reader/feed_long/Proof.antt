@@ -42,36 +42,36 @@ fed-at c = c .before .before .before .before .before
 
 -- The held bytes are there.
 count-there : (c : tie.Start) → c .args .count ≤ length (c .args .held .now)
-count-there c = omega (arith, c .pre .long, c .pre .fits, limit-most (c .args .framing))
+count-there c = omega (arith, c .pre .long, c .pre .fits, limit-most (c .args .format))
 
 held-size : (c : tie.Start) → length (take (c .args .count) (c .args .held .now)) ≡ c .args .count
 held-size c = length-take-le (c .args .count) (c .args .held .now) (count-there c)
 
 -- The joined bytes are those held and as many of the chunk as a frame can have.
 joined-size : (j : tie.After-join) → let a = start j .args in
-    length (take (j .join .result .size) (j .join .result .bytes)) ≡ a .count + min (limit (a .framing)) (length (a .chunk .now))
+    length (take (j .join .result .size) (j .join .result .bytes)) ≡ a .count + min (limit (a .format)) (length (a .chunk .now))
 joined-size j = let a = start j .args in
     ap length (j .join .ensures .bytes)
-    ∙ length-append (take (a .count) (a .held .now)) (take (limit (a .framing)) (a .chunk .now))
-    ∙ (λ i. held-size (start j) i + length-take (limit (a .framing)) (a .chunk .now) i)
+    ∙ length-append (take (a .count) (a .held .now)) (take (limit (a .format)) (a .chunk .now))
+    ∙ (λ i. held-size (start j) i + length-take (limit (a .format)) (a .chunk .now) i)
 
 -- The held bytes' places were scanned.
 is : (x : tie.After-find) →
     let a = start (joined-at x) .args in
     let j = joined-at x .join in
     let w = take (j .result .size) (j .result .bytes) in
-    scanned (a .framing) w (x .find .result) ≡ scanFrom (judging false (a .framing)) (a .count) 0 (a .count) w
-is x = let a = start (joined-at x) .args in from-first false (a .framing) (a .count) (a .count) _ _ (x .find .ensures .0)
+    scanned (a .format) w (x .find .result) ≡ scanFrom (judging false (a .format)) (a .count) 0 (a .count) w
+is x = let a = start (joined-at x) .args in from-first false (a .format) (a .count) (a .count) _ _ (x .find .ensures .0)
 
 facts : (x : tie.After-find) →
     let a = start (joined-at x) .args in
     let j = joined-at x .join in
     let w = take (j .result .size) (j .result .bytes) in
-    ScanFacts false (a .framing) w (a .count) (a .count) (scanned (a .framing) w (x .find .result))
+    ScanFacts false (a .format) w (a .count) (a .count) (scanned (a .format) w (x .find .result))
 facts x =
     let a = start (joined-at x) .args in
     let long = joined-size (joined-at x) in
-    scan-facts false (a .framing) _ (a .count) (a .count) (omega (arith, long)) (omega (arith, long)) _ (is x)
+    scan-facts false (a .format) _ (a .count) (a .count) (omega (arith, long)) (omega (arith, long)) _ (is x)
 
 -- Where the scan did not pass, its end says so.
 not-passed : (m : tie.At-match-keys2) → m .before .before .before .find .result .end ≡ Passed → ⊥
@@ -119,7 +119,7 @@ feed-chunk-requires c κs =
       long = p .long;
       reached = omega (arith, h .there, long);
       near = omega (arith, h .there, long);
-      small = omega (arith, p .fits, limit-most (s .args .framing));
+      small = omega (arith, p .fits, limit-most (s .args .format));
       room = omega (arith, p .room, x .find .kept .1 .1 .1 .1 .1 .1 .0);
     }
 
@@ -137,13 +137,13 @@ returns c =
     let j = joined-at x .join in
     let w = take (j .result .size) (j .result .bytes) in
     let fed = c .before .before .before .before .feed-chunk in
-    let passes = ap (stopOf (a .framing) (drop (x .find .result .place) w)) (fed-at c .before .before .enum-told .given .1) in
+    let passes = ap (stopOf (a .format) (drop (x .find .result .place) w)) (fed-at c .before .before .enum-told .given .1) in
     let same = x .find .ensures .1 ∙ ap (λ (t : Stop). stopBuffer t (a .buf .now)) passes in
     leaves-same _ _ (a .buf .now) _ _ _
-    (long-passed (a .framing) (take (a .count) (a .held .now)) (a .chunk .now) w (a .count) (held-size s) (j .ensures .bytes)
-    (scanned (a .framing) w (x .find .result)) (is x) passes)
+    (long-passed (a .format) (take (a .count) (a .held .now)) (a .chunk .now) w (a .count) (held-size s) (j .ensures .bytes)
+    (scanned (a .format) w (x .find .result)) (is x) passes)
     (subst
-    (λ (b : List ℕ). Leaves (scanWhole (a .framing) 0 (a .count) (x .find .result .reach - a .count) (a .chunk .now)) b (fed .result) (fed .last .1 .0)
+    (λ (b : List ℕ). Leaves (scanWhole (a .format) 0 (a .count) (x .find .result .reach - a .count) (a .chunk .now)) b (fed .result) (fed .last .1 .0)
     (fed .last .1 .1 .1 .1 .1 .0))
     same (fed .ensures))
 
@@ -155,7 +155,7 @@ answer-requires c κs =
     let j = joined-at x .join in
     let w = take (j .result .size) (j .result .bytes) in
     let long = joined-size (joined-at x) in
-    answerable (a .framing) w (a .count) (a .count) (scanned (a .framing) w (x .find .result)) _ (omega (arith, long)) (omega (arith, long)) (s .pre .fits)
+    answerable (a .format) w (a .count) (a .count) (scanned (a .format) w (x .find .result)) _ (omega (arith, long)) (omega (arith, long)) (s .pre .fits)
     (is x) (le-refl (a .count)) zero-le
 
 keep-requires : tie.Need-keep-requires
@@ -176,9 +176,9 @@ returns-2 c =
     let j = joined-at x .join in
     let w = take (j .result .size) (j .result .bytes) in
     let answered = c .before .before .before .answer in
-    long-leaves (a .framing) (take (a .count) (a .held .now)) (a .chunk .now) w (a .count) (held-size s) (j .ensures .bytes)
-    (scanned (a .framing) w (x .find .result)) (is x) (answered .result) (a .buf .now) _ _ _
-    (λ q. not-passed (c .before .before .before .before .before) (passed-end (a .framing) _ (x .find .result .end) q))
+    long-leaves (a .format) (take (a .count) (a .held .now)) (a .chunk .now) w (a .count) (held-size s) (j .ensures .bytes)
+    (scanned (a .format) w (x .find .result)) (is x) (answered .result) (a .buf .now) _ _ _
+    (λ q. not-passed (c .before .before .before .before .before) (passed-end (a .format) _ (x .find .result .end) q))
     (answered .ensures) (x .find .ensures .1) (c .before .before .keep .ensures)
 
 pub feed-long-spec : {M : Type 1} → statement M

@@ -31,7 +31,7 @@ scan-at c = c .before .before .before .before .before .before .before
 
 -- The held bytes are there.
 count-there : (c : tie.Start) → c .args .count ≤ length (c .args .held .now)
-count-there c = omega (arith, c .pre .0 .long, c .pre .0 .fits, limit-most (c .args .framing))
+count-there c = omega (arith, c .pre .0 .long, c .pre .0 .fits, limit-most (c .args .format))
 
 -- The array with the chunk behind the held bytes.
 abbrev array : tie.After-copy → List ℕ
@@ -54,19 +54,19 @@ array-room : (p : tie.After-copy) → let a = start p .args in a .count + length
 array-room p =
     let s = start p in
     let a = s .args in
-    omega (arith, same-len-mid (a .count) (length (a .held .now) - a .count) (a .held .now) (p .copy .last .1 .0) (p .copy .kept .1 .0), s .pre .0 .long, s .pre .1, limit-most (a .framing))
+    omega (arith, same-len-mid (a .count) (length (a .held .now) - a .count) (a .held .now) (p .copy .last .1 .0) (p .copy .kept .1 .0), s .pre .0 .long, s .pre .1, limit-most (a .format))
 
 -- All of its places were scanned.
 is : (x : tie.After-find) →
     let a = start (copy-at x) .args in
     let size = a .count + length (a .chunk .now) in
     let w = take size (array (copy-at x)) in
-    scanned (a .framing) w (x .find .result) ≡ scanFrom (judging false (a .framing)) size 0 (a .count) w
-is x = let a = start (copy-at x) .args in from-first false (a .framing) (a .count + length (a .chunk .now)) (a .count) _ _ (x .find .ensures .0)
+    scanned (a .format) w (x .find .result) ≡ scanFrom (judging false (a .format)) size 0 (a .count) w
+is x = let a = start (copy-at x) .args in from-first false (a .format) (a .count + length (a .chunk .now)) (a .count) _ _ (x .find .ensures .0)
 
 add-size : tie.Need-add-size
 add-size c =
-    omega (arith, c .before .before .before .pre .1, limit-most (c .before .before .before .args .framing))
+    omega (arith, c .before .before .before .pre .1, limit-most (c .before .before .before .args .format))
 
 sub-copy : tie.Need-sub-copy
 sub-copy c = count-there (c .before .before .before)
@@ -80,7 +80,7 @@ part-copy-end c = search needs
 copy-requires : tie.Need-copy-requires
 copy-requires c κs =
     let s = c .before .before .before .before in
-    omega (arith, s .pre .0 .long, s .pre .1, limit-most (s .args .framing))
+    omega (arith, s .pre .0 .long, s .pre .1, limit-most (s .args .format))
 
 slice-reshare-prefix-w : tie.Need-slice-reshare-prefix-w
 slice-reshare-prefix-w c = array-room (c .before .before)
@@ -102,7 +102,7 @@ answer-requires c κs =
     let size = a .count + length (a .chunk .now) in
     let w = take size (array p) in
     let long = whole-size p in
-    answerable (a .framing) w size (a .count) (scanned (a .framing) w (x .find .result)) _ (omega (arith, long)) (omega (arith, long)) (start p .pre .0 .fits)
+    answerable (a .format) w size (a .count) (scanned (a .format) w (x .find .result)) _ (omega (arith, long)) (omega (arith, long)) (start p .pre .0 .fits)
     (is x) (le-refl (a .count)) zero-le
 
 shift-requires : tie.Need-shift-requires
@@ -125,7 +125,7 @@ returns c =
     let h = take (a .count) (a .held .now) in
     let w = take (a .count + length (a .chunk .now)) (array p) in
     let answered = c .before .before .before .before .answer in
-    short-leaves (a .framing) h (a .chunk .now) (array p) (a .count) (scanned (a .framing) w (x .find .result)) (answered .result) (a .buf .now) _ _ _
+    short-leaves (a .format) h (a .chunk .now) (array p) (a .count) (scanned (a .format) w (x .find .result)) (answered .result) (a .buf .now) _ _ _
     (length-take-le (a .count) (a .held .now) (count-there (start p))) (whole-is p) (is x) (answered .ensures) (x .find .ensures .1) (c .before .before .shift .ensures)
 
 pub feed-short-spec : {M : Type 1} → statement M

@@ -3,6 +3,8 @@
 use mathlib.Core.Path.{refl, ap, _∙_}
 use borrow.Author.Needs.{needs}
 use lib.ListN.{length, take, replicate}
+use Prim.Native.Nat.{ℕ}
+use mathlib.Core.List.{List}
 use Rattle.frame.specs.Reader.{holding}
 use Rattle.frame.proofs.Copying.{copied}
 use Rattle.frame.proofs.Lists.{front-of-paste}
@@ -20,7 +22,7 @@ returns c =
     let a = c .before .before .before .before .args in
     let s = a .s .now in
     record {
-      state = ap (holding (a .framing)) (ap (take (length s)) (copied (replicate 517 0) s _ (c .before .copy .ensures .1)) ∙ front-of-paste (replicate 517 0) s);
+      state = ap (λ (h : List ℕ). holding (a .format) h (a .follows)) (ap (take (length s)) (copied (replicate 517 0) s _ (c .before .copy .ensures .1)) ∙ front-of-paste (replicate 517 0) s);
       count = refl;
     }
 

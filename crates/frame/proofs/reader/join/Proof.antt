@@ -55,16 +55,16 @@ slice-aggregate-copy c = search needs
 
 copy-requires : tie.Need-copy-requires
 copy-requires c κs =
-    omega (arith, limit-most (start (c .before) .args .framing), length-replicate {A = ℕ} 1034 0)
+    omega (arith, limit-most (start (c .before) .args .format), length-replicate {A = ℕ} 1034 0)
 
 slice-aggregate-copy-2 : tie.Need-slice-aggregate-copy-2
 slice-aggregate-copy-2 c = sym (length-take-le _ (start (sized (c .before .before)) .args .chunk .now) (omega (arith, sized (c .before .before) .smaller .ensures)))
 
 sub-copy : tie.Need-sub-copy
-sub-copy c = omega (arith, limit-most (start (sized (c .before .before)) .args .framing))
+sub-copy c = omega (arith, limit-most (start (sized (c .before .before)) .args .format))
 
 part-bytes-start : tie.Need-part-bytes-start
-part-bytes-start c = omega (arith, limit-most (start (sized (c .before .before)) .args .framing))
+part-bytes-start c = omega (arith, limit-most (start (sized (c .before .before)) .args .format))
 
 part-bytes-end : tie.Need-part-bytes-end
 part-bytes-end c = search needs
@@ -74,7 +74,7 @@ copy-requires-2 c κs =
     let p = c .before .before .before in
     let m = sized p in
     let a = start m .args in
-    omega (arith, limit-most (a .framing), m .smaller .ensures, m .before .limit-of .ensures, length-take (m .smaller .result) (a .chunk .now), zeros p)
+    omega (arith, limit-most (a .format), m .smaller .ensures, m .before .limit-of .ensures, length-take (m .smaller .result) (a .chunk .now), zeros p)
 
 add-size : tie.Need-add-size
 add-size c = search needs
@@ -84,7 +84,7 @@ returns c =
     let p = first-copy c in
     let m = sized p in
     let a = start m .args in
-    let f = a .framing in
+    let f = a .format in
     let h = a .held .now in
     let more = m .smaller .result in
     let least : more ≡ min (length (a .chunk .now)) (limit f) = m .smaller .ensures ∙ ap (min (length (a .chunk .now))) (m .before .limit-of .ensures) in

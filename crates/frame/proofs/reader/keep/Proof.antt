@@ -45,6 +45,7 @@ returns c =
       count = sym long;
       bytes = ap (take (a .kept .end - a .kept .from)) (copied (a .held .now) s _ (c .before .before .copy .ensures .1))
           ∙ ap (λ (n : ℕ). take n (paste (a .held .now) 0 s (length s))) (sym long) ∙ front-of-paste (a .held .now) s;
+      follows = refl;
     }
 
 pub keep-spec : {M : Type 1} → statement M

@@ -3,13 +3,14 @@
 use Prim.Native.Nat.{ℕ, _+_, _≤_, zero-le}
 use native.Mathlib.Nat.{le-refl}
 use native.Mathlib.Omega.{arith}
-use mathlib.Core.Bool.{true, true≢false}
+use mathlib.Core.Bool.{Bool, true, false, true≢false}
 use mathlib.Core.List.{List, [], _∷_}
 use mathlib.Core.Path.{_≡_, refl, sym, ap, _∙_, subst}
 use lib.ListN.{length, drop, length-drop}
+use Rattle.frame.specs.Framing.{mayFollow}
 use Rattle.frame.specs.Judged.{payloadAt}
 use Rattle.frame.specs.Rule.{output}
-use Rattle.frame.specs.Reader.{holding, called, quiet, Holds, frameValues}
+use Rattle.frame.specs.Reader.{holding, called, quietHeld, Holds, frameValues}
 use Rattle.frame.specs.Scan.{judging, Stop, scanned, stopOf, stopBuffer, scanFrom}
 use Rattle.frame.proofs.Lists.{take-rest}
 use Rattle.frame.proofs.Framings.{payload-there, limit-most}
@@ -31,28 +32,28 @@ frame-at c = c .before .before .before .before .before
 -- All places were scanned.
 is : (x : tie.After-find) →
     let a = start x .args in
-    scanned (a .framing) (a .s .now) (x .find .result) ≡ scanFrom (judging true (a .framing)) (length (a .s .now)) 0 0 (a .s .now)
-is x = let a = start x .args in from-first true (a .framing) (length (a .s .now)) 0 (a .s .now) _ (x .find .ensures .0)
+    scanned (a .format) (a .s .now) (x .find .result) ≡ scanFrom (judging true (a .format)) (length (a .s .now)) 0 0 (a .s .now)
+is x = let a = start x .args in from-first true (a .format) (length (a .s .now)) 0 (a .s .now) _ (x .find .ensures .0)
 
 -- What is known where the scan stopped at a frame.
 at-frame : (k : tie.After-known-told) →
     let x = frame-at k in
     let a = start x .args in
     let r = x .find .result in
-    AtFrame (a .framing) (a .s .now) (length (a .s .now)) (r .place) (r .reach) (k .before .end .given .0 .0)
-    (payloadAt (a .framing) (drop (r .place) (a .s .now)) (k .before .end .given .0 .1 .0))
+    AtFrame (a .format) (a .s .now) (length (a .s .now)) (r .place) (r .reach) (k .before .end .given .0 .0)
+    (payloadAt (a .format) (drop (r .place) (a .s .now)) (k .before .end .given .0 .1 .0))
 at-frame k =
     let x = frame-at k in
     let a = start x .args in
     let r = x .find .result in
-    scan-found true (a .framing) (a .s .now) (length (a .s .now)) 0 (le-refl (length (a .s .now))) zero-le
-    (scanned (a .framing) (a .s .now) r) (is x) _ _ (ap (stopOf (a .framing) (drop (r .place) (a .s .now))) (k .before .end .given .1))
+    scan-found true (a .format) (a .s .now) (length (a .s .now)) 0 (le-refl (length (a .s .now))) zero-le
+    (scanned (a .format) (a .s .now) r) (is x) _ _ (ap (stopOf (a .format) (drop (r .place) (a .s .now))) (k .before .end .given .1))
 
 -- The frame's bytes are there.
 inside : (k : tie.After-known-told) → frame-at k .find .result .place + k .before .end .given .0 .0 ≤ length (start (frame-at k) .args .s .now)
 inside k =
     let a = start (frame-at k) .args in
-    let h = scan-facts true (a .framing) (a .s .now) (length (a .s .now)) 0 (le-refl (length (a .s .now))) zero-le _ (is (frame-at k)) in
+    let h = scan-facts true (a .format) (a .s .now) (length (a .s .now)) 0 (le-refl (length (a .s .now))) zero-le _ (is (frame-at k)) in
     omega (arith, at-frame k .inside, h .there)
 
 find-requires : tie.Need-find-requires
@@ -75,44 +76,49 @@ part-hold-end c = search needs
 
 hold-requires : tie.Need-hold-requires
 hold-requires c κs =
-    let x = frame-at (c .before) in
+    let x = frame-at (c .before .before) in
     let a = start x .args in
-    let next = x .find .result .place + c .before .before .end .given .0 .0 in
-    subst (λ (l : List ℕ). length l ≤ 517) (sym (take-rest (a .s .now) next)) (omega (arith, length-drop next (a .s .now), limit-most (a .framing)))
+    let next = x .find .result .place + c .before .before .before .end .given .0 .0 in
+    subst (λ (l : List ℕ). length l ≤ 517) (sym (take-rest (a .s .now) next)) (omega (arith, length-drop next (a .s .now), limit-most (a .format)))
+
+may-follow-requires : tie.Need-may-follow-requires
+may-follow-requires c κs = search needs
 
 enum-told : tie.Need-enum-told
 enum-told c = search needs
 
-new-requires : tie.Need-new-requires
-new-requires c κs = search needs
+open-requires : tie.Need-open-requires
+open-requires c κs = search needs
 
 enum-told-2 : tie.Need-enum-told-2
 enum-told-2 c = search needs
 
-new-requires-2 : tie.Need-new-requires-2
-new-requires-2 c κs = search needs
+open-requires-2 : tie.Need-open-requires-2
+open-requires-2 c κs = search needs
 
 same-length : tie.Need-same-length
 same-length c = search needs
 
 returns : tie.Need-returns
 returns c =
-    let x = frame-at (c .before .before) in
+    let x = frame-at (c .before .before .before) in
     let a = start x .args in
     let r = x .find .result in
     let at = drop (r .place) (a .s .now) in
-    let end = c .before .before .before .end in
+    let end = c .before .before .before .before .end in
     let used = end .given .0 .0 in
     let len = end .given .0 .1 .0 in
-    let p = payloadAt (a .framing) at len in
+    let p = payloadAt (a .format) at len in
     let next = drop (r .place + used) (a .s .now) in
-    let h = payload-there (a .framing) at used len (at-frame (c .before .before) .is-frame) in
-    let stops = ap (stopOf (a .framing) at) (end .given .1) in
-    quiet-right (holding (a .framing) (a .s .now)) (quiet (holding (a .framing) (a .s .now))) (called 0 (output (p ∷ []) (r .place)) next) (a .buf .now) _ _
-    (scan-quiet-found (a .framing) (a .s .now) (scanned (a .framing) (a .s .now) r) used p (is x) stops)
+    let h = payload-there (a .format) at used len (at-frame (c .before .before .before) .is-frame) in
+    let stops = ap (stopOf (a .format) at) (end .given .1) in
+    quiet-right (a .format) (quietHeld (a .format) (a .s .now)) (called 0 (output (p ∷ []) (r .place)) next (mayFollow (a .format))) (a .buf .now) _ _
+    (scan-quiet-found (a .format) (a .s .now) (scanned (a .format) (a .s .now) r) used p (is x) stops)
     (record {
       values = ap (frameValues 0 (r .place)) (sym (h .1));
-      state = subst (λ (l : List ℕ). Holds (holding (a .framing) l) (c .hold .result)) (take-rest (a .s .now) (r .place + used)) (c .hold .ensures);
+      state = subst (λ (q : Bool). Holds (holding (a .format) next q) (c .hold .result)) (c .before .may-follow .ensures)
+          (subst (λ (l : List ℕ). Holds (holding (a .format) l (c .before .may-follow .result)) (c .hold .result)) (take-rest (a .s .now) (r .place + used))
+          (c .hold .ensures));
       buffer = x .find .ensures .1 ∙ ap (λ (s : Stop). stopBuffer s (a .buf .now)) stops;
     })
 
@@ -124,8 +130,8 @@ returns-2 c =
     let x = c .before .before .before .before .before in
     let a = start x .args in
     let r = x .find .result in
-    let u = scan-undecided true (a .framing) (a .s .now) (length (a .s .now)) 0 (le-refl (length (a .s .now))) zero-le
-    (scanned (a .framing) (a .s .now) r) (is x) (ap (stopOf (a .framing) (drop (r .place) (a .s .now))) (c .before .enum-told .given .1))
+    let u = scan-undecided true (a .format) (a .s .now) (length (a .s .now)) 0 (le-refl (length (a .s .now))) zero-le
+    (scanned (a .format) (a .s .now) r) (is x) (ap (stopOf (a .format) (drop (r .place) (a .s .now))) (c .before .enum-told .given .1))
     in
     absurd (true≢false (u .goes-on))
 
@@ -137,12 +143,12 @@ returns-3 c =
     let x = c .before .before .before .before .before in
     let a = start x .args in
     let r = x .find .result in
-    let stops = ap (stopOf (a .framing) (drop (r .place) (a .s .now))) (c .before .enum-told2 .given .1) in
-    quiet-right (holding (a .framing) (a .s .now)) (quiet (holding (a .framing) (a .s .now))) (called 0 (output [] (r .place)) []) (a .buf .now) _ _
-    (scan-quiet-passed (a .framing) (a .s .now) (scanned (a .framing) (a .s .now) r) (is x) stops)
+    let stops = ap (stopOf (a .format) (drop (r .place) (a .s .now))) (c .before .enum-told2 .given .1) in
+    quiet-right (a .format) (quietHeld (a .format) (a .s .now)) (called 0 (output [] (r .place)) [] false) (a .buf .now) _ _
+    (scan-quiet-passed (a .format) (a .s .now) (scanned (a .format) (a .s .now) r) (is x) stops)
     (record {
       values = refl;
-      state = c .new2 .ensures;
+      state = c .open2 .ensures;
       buffer = x .find .ensures .1 ∙ ap (λ (s : Stop). stopBuffer s (a .buf .now)) stops;
     })
 
@@ -156,11 +162,12 @@ quiet-held-spec =
     sub-hold
     part-hold-start
     part-hold-end
+    may-follow-requires
     hold-requires
     enum-told
-    new-requires
+    open-requires
     enum-told-2
-    new-requires-2
+    open-requires-2
     same-length
     returns
     same-length-2

@@ -29,6 +29,7 @@ returns c =
       answer = refl;
       count = sym (part-size (a .kept .from) (a .kept .end) (a .held .now) (start c .pre .0) (start c .pre .1));
       bytes = c .before .before .move-down .ensures;
+      follows = refl;
     }
 
 returns-2 : tie.Need-returns-2
@@ -39,6 +40,7 @@ returns-2 c =
       answer = refl;
       count = sym (part-size (a .kept .from) (a .kept .end) (a .held .now) (c .before .before .before .pre .0) (c .before .before .before .pre .1));
       bytes = ap (λ (n : ℕ). take (a .kept .end - a .kept .from) (drop n (a .held .now))) none;
+      follows = refl;
     }
 
 pub shift-spec : {M : Type 1} → statement M

@@ -11,7 +11,7 @@ use Rattle.frame.specs.Judged.{payloadAt, HasPayload}
 use Rattle.frame.specs.Scan.{stopOf, scanned, stopBuffer}
 use Rattle.frame.specs.declared.scan.ScanEnd.{ScanEnd}
 use Rattle.frame.specs.declared.scan.ScanEnd.the-variants.{Frame, Undecided, Passed}
-use Rattle.frame.specs.declared.framing.Framing.{Framing}
+use Rattle.frame.specs.declared.framing.Format.{Format}
 use Rattle.frame.proofs.Framings.{payload-there, payload-packed, payload-size}
 use Rattle.frame.proofs.Lists.{take-rest}
 use Rattle.frame.proofs.Scanning.{AtFrame, scan-found-from}
@@ -31,17 +31,17 @@ frame-at c = c .before .before .before .before .before
 at-frame : (k : tie.After-known-told) →
     let a = start k .args in
     let r = k .before .before .before .scan .result in
-    AtFrame (a .framing) (a .s .now) (a .stop) (r .place) (r .reach) (k .before .end .given .0 .0)
-    (payloadAt (a .framing) (drop (r .place) (a .s .now)) (k .before .end .given .0 .1 .0))
+    AtFrame (a .format) (a .s .now) (a .stop) (r .place) (r .reach) (k .before .end .given .0 .0)
+    (payloadAt (a .format) (drop (r .place) (a .s .now)) (k .before .end .given .0 .1 .0))
 at-frame k =
     let a = start k .args in
     let r = k .before .before .before .scan .result in
     let pre = start k .pre in
-    scan-found-from (a .ended) (a .framing) (a .s .now) (a .stop) (a .from) (a .reach) (pre .1 .0) (pre .1 .1 .0) (pre .0) (scanned (a .framing) (a .s .now) r)
-    (k .before .before .before .scan .ensures) _ _ (ap (stopOf (a .framing) (drop (r .place) (a .s .now))) (k .before .end .given .1))
+    scan-found-from (a .ended) (a .format) (a .s .now) (a .stop) (a .from) (a .reach) (pre .1 .0) (pre .1 .1 .0) (pre .0) (scanned (a .format) (a .s .now) r)
+    (k .before .before .before .scan .ensures) _ _ (ap (stopOf (a .format) (drop (r .place) (a .s .now))) (k .before .end .given .1))
 
 -- Where it stopped at no frame, the buffer is as it came.
-no-frame : (f : Framing) (s buf : List ℕ) (e : ScanEnd) → ((used len : ℕ) → e ≡ Frame used len → ⊥) → stopBuffer (stopOf f s e) buf ≡ buf
+no-frame : (f : Format) (s buf : List ℕ) (e : ScanEnd) → ((used len : ℕ) → e ≡ Frame used len → ⊥) → stopBuffer (stopOf f s e) buf ≡ buf
 no-frame f s buf (Frame used len) h = absurd (h used len refl)
 no-frame f s buf Undecided h = refl
 no-frame f s buf Passed h = refl
@@ -70,8 +70,8 @@ unpack-requires c κs =
     let used = k .before .end .given .0 .0 in
     let len = k .before .end .given .0 .1 .0 in
     let e = at-frame k .is-frame in (
-      subst (λ (l : List ℕ). HasPayload (a .framing) l len) (sym (take-rest (a .s .now) place)) (payload-packed (a .framing) at used len e),
-      omega (arith, payload-there (a .framing) at used len e .1, payload-size (a .framing) at (payloadAt (a .framing) at len) used e .1),
+      subst (λ (l : List ℕ). HasPayload (a .format) l len) (sym (take-rest (a .s .now) place)) (payload-packed (a .format) at used len e),
+      omega (arith, payload-there (a .format) at used len e .1, payload-size (a .format) at (payloadAt (a .format) at len) used e .1),
     )
 
 same-length : tie.Need-same-length
@@ -87,8 +87,8 @@ returns c =
     let len = k .before .end .given .0 .1 .0 in (
       found .ensures,
       c .before .before .unpack .ensures
-          ∙ ap (λ (l : List ℕ). inFront (payloadAt (a .framing) l len) (a .buf .now)) (take-rest (a .s .now) (r .place))
-          ∙ sym (ap (λ (e : ScanEnd). stopBuffer (stopOf (a .framing) at e) (a .buf .now)) (k .before .end .given .1)),
+          ∙ ap (λ (l : List ℕ). inFront (payloadAt (a .format) l len) (a .buf .now)) (take-rest (a .s .now) (r .place))
+          ∙ sym (ap (λ (e : ScanEnd). stopBuffer (stopOf (a .format) at e) (a .buf .now)) (k .before .end .given .1)),
     )
 
 returns-2 : tie.Need-returns-2
@@ -96,7 +96,7 @@ returns-2 c =
     let a = c .before .before .before .before .args in
     let r = c .before .scan .result in (
       c .before .scan .ensures,
-      sym (no-frame (a .framing) (drop (r .place) (a .s .now)) (a .buf .now) (r .end)
+      sym (no-frame (a .format) (drop (r .place) (a .s .now)) (a .buf .now) (r .end)
           (λ used len e. ⊎-elim (λ (q : _). let z : _≡_ {A = ℕ} 1 0 = cc in omega arith) (λ q. let z : _≡_ {A = ℕ} 2 0 = cc in omega arith) (c .match .keys2))),
     )
 

@@ -44,19 +44,19 @@ find-start c = c .before .before .before .before .before .before .before .before
 
 -- From the first place on, all places are left.
 whole : (c : tie.Start) → let a = c .args in let n = length (a .s .now) in
-    scanFrom (judging false (a .framing)) (n - 0) 0 (a .reach) (a .s .now) ≡ scanFrom (judging false (a .framing)) n 0 (a .reach) (a .s .now)
-whole c = let a = c .args in ap (λ (k : ℕ). scanFrom (judging false (a .framing)) k 0 (a .reach) (a .s .now)) (sub-zero (length (a .s .now)))
+    scanFrom (judging false (a .format)) (n - 0) 0 (a .reach) (a .s .now) ≡ scanFrom (judging false (a .format)) n 0 (a .reach) (a .s .now)
+whole c = let a = c .args in ap (λ (k : ℕ). scanFrom (judging false (a .format)) k 0 (a .reach) (a .s .now)) (sub-zero (length (a .s .now)))
 
 -- The verdict on the front of s, where it was told so.
 verdict-is : (x : tie.After-extract) (r : Judged) → x .extract .result ≡ r →
     let a = start x .args in
-    judge (a .framing) (a .s .now) ≡ verdictOf (a .framing) (a .s .now) r
-verdict-is x r e = x .extract .ensures .0 ∙ ap (verdictOf (start x .args .framing) (start x .args .s .now)) e
+    judge (a .format) (a .s .now) ≡ verdictOf (a .format) (a .s .now) r
+verdict-is x r e = x .extract .ensures .0 ∙ ap (verdictOf (start x .args .format) (start x .args .s .now)) e
 
 -- It fails.
 failed : (k : tie.After-judged) →
     let a = start (refused-at k) .args in
-    judge (a .framing) (a .s .now) ≡ refused (k .judged .given .0 .1 .0) (numberOf (k .judged .given .0 .0))
+    judge (a .format) (a .s .now) ≡ refused (k .judged .given .0 .1 .0) (numberOf (k .judged .given .0 .0))
 failed k = verdict-is (refused-at k) _ (k .judged .given .1)
 
 -- The buffer is as it came.
@@ -64,7 +64,7 @@ untouched : (k : tie.After-judged) → refused-at k .extract .last .1 .1 .0 ≡ 
 untouched k = refused-at k .extract .ensures .1 ∙ ap (λ (v : Verdict). handedOut v (start (refused-at k) .args .buf .now)) (failed k)
 
 -- It begins with a start.
-started : (k : tie.After-judged) → getD (start (refused-at k) .args .s .now) 0 0 ≡ startOf (start (refused-at k) .args .framing)
+started : (k : tie.After-judged) → getD (start (refused-at k) .args .s .now) 0 0 ≡ startOf (start (refused-at k) .args .format)
 started k = refused-at k .before .before .if2 .left ∙ refused-at k .before .before .before .start-of .ensures
 
 stopped-requires : tie.Need-stopped-requires
@@ -75,8 +75,8 @@ returns c =
     let a = c .before .before .before .before .args in
     let s = a .s .now in
     let r = c .stopped .ensures in (
-      ap (scanned (a .framing) s) r ∙ sym (step-end (judging false (a .framing)) (length s) 0 (a .reach) s (omega arith)) ∙ whole (c .before .before .before .before),
-      sym (ap (λ (y : ScanResult). stopBuffer (scanned (a .framing) s y .stop) (a .buf .now)) r),
+      ap (scanned (a .format) s) r ∙ sym (step-end (judging false (a .format)) (length s) 0 (a .reach) s (omega arith)) ∙ whole (c .before .before .before .before),
+      sym (ap (λ (y : ScanResult). stopBuffer (scanned (a .format) s y .stop) (a .buf .now)) r),
     )
 
 shared-slice-read-if2 : tie.Need-shared-slice-read-if2
@@ -110,7 +110,7 @@ enum-known-judged c = search needs
 passed-by-requires : tie.Need-passed-by-requires
 passed-by-requires c κs =
     let a = start (refused-at (c .before)) .args in
-    refused-sized (a .framing) (a .s .now) _ _ (failed (c .before)) .some
+    refused-sized (a .format) (a .s .now) _ _ (failed (c .before)) .some
 
 smaller-requires : tie.Need-smaller-requires
 smaller-requires c κs = search needs
@@ -122,7 +122,7 @@ find-requires-2 : tie.Need-find-requires-2
 find-requires-2 c κs =
     let k = c .before .before .before .before .before in
     let a = start (refused-at k) .args in
-    let there = subst (λ (v : Verdict). judgedBytes v ≤ length (a .s .now)) (failed k) (judged-there (a .framing) (a .s .now)) in (
+    let there = subst (λ (v : Verdict). judgedBytes v ≤ length (a .s .now)) (failed k) (judged-there (a .format) (a .s .now)) in (
       omega (arith, c .before .before .smaller .ensures),
       (omega arith, (omega (arith, c .before .larger .ensures, there), omega (arith, ap length (untouched k)))),
     )
@@ -146,10 +146,10 @@ returns-3 c =
     let s = a .s .now in
     let e = verdict-is x _ (c .before .enum-told .given .1) in
     let r = c .stopped2 .ensures in (
-      ap (scanned (a .framing) s) r
-          ∙ sym (step-undecided (a .framing) (length s) 0 (a .reach) s (omega arith) e) ∙ whole (start x),
+      ap (scanned (a .format) s) r
+          ∙ sym (step-undecided (a .format) (length s) 0 (a .reach) s (omega arith) e) ∙ whole (start x),
       x .extract .ensures .1 ∙ ap (λ (v : Verdict). handedOut v (a .buf .now)) e
-          ∙ sym (ap (λ (y : ScanResult). stopBuffer (scanned (a .framing) s y .stop) (a .buf .now)) r),
+          ∙ sym (ap (λ (y : ScanResult). stopBuffer (scanned (a .format) s y .stop) (a .buf .now)) r),
     )
 
 same-length-3 : tie.Need-same-length-3
@@ -163,18 +163,18 @@ returns-4 c =
     let least = c .before .before .before .before .before .smaller in
     let most = c .before .before .before .before .larger in
     let judged = k .judged .given .0 .1 .0 in
-    let to = min (0 + passedBy (a .framing) judged) (length s) in
+    let to = min (0 + passedBy (a .format) judged) (length s) in
     let next : least .result ≡ to =
-    least .ensures ∙ ap (λ (n : ℕ). min n (length s)) (passed c .passed-by .ensures ∙ sym (zero-add (passedBy (a .framing) judged)))
+    least .ensures ∙ ap (λ (n : ℕ). min n (length s)) (passed c .passed-by .ensures ∙ sym (zero-add (passedBy (a .format) judged)))
     in
     let far : most .result ≡ max (a .reach) (0 + judged) = most .ensures ∙ ap (max (a .reach)) (sym (zero-add judged)) in
     let h = c .before .before .find2 .ensures in (
       h .0
-          ∙ ap (λ (n : ℕ). scanFrom (judging false (a .framing)) (length s - n) n (most .result) (drop n s)) next
-          ∙ ap (λ (n : ℕ). scanFrom (judging false (a .framing)) (length s - to) to n (drop to s)) far
-          ∙ sym (scan-fails false (a .framing) s (length s) (le-refl (length s)) 0 (a .reach) judged _ (omega arith) (started k) (failed k))
+          ∙ ap (λ (n : ℕ). scanFrom (judging false (a .format)) (length s - n) n (most .result) (drop n s)) next
+          ∙ ap (λ (n : ℕ). scanFrom (judging false (a .format)) (length s - to) to n (drop to s)) far
+          ∙ sym (scan-fails false (a .format) s (length s) (le-refl (length s)) 0 (a .reach) judged _ (omega arith) (started k) (failed k))
           ∙ whole (start (refused-at k)),
-      h .1 ∙ ap (stopBuffer (scanned (a .framing) s (c .before .before .find2 .result) .stop)) (untouched k),
+      h .1 ∙ ap (stopBuffer (scanned (a .format) s (c .before .before .find2 .result) .stop)) (untouched k),
     )
 
 same-length-4 : tie.Need-same-length-4
@@ -186,15 +186,15 @@ returns-5 c =
     let a = start x .args in
     let s = a .s .now in
     let used = c .before .before .before .used .given .0 .0 in
-    let p = payloadAt (a .framing) s (c .before .before .before .used .given .0 .1 .0) in
+    let p = payloadAt (a .format) s (c .before .before .before .used .given .0 .1 .0) in
     let e = verdict-is x _ (c .before .before .before .used .given .1) in
     let r = c .stopped3 .ensures in (
-      ap (scanned (a .framing) s) r
+      ap (scanned (a .format) s) r
           ∙ ap (λ (n : ℕ). scannedTo 0 n (found used p)) (c .before .larger2 .ensures ∙ ap (max (a .reach)) (sym (zero-add used)))
-          ∙ sym (step-frame false (a .framing) (length s) 0 (a .reach) s (omega arith) used p e)
+          ∙ sym (step-frame false (a .format) (length s) 0 (a .reach) s (omega arith) used p e)
           ∙ whole (start x),
       x .extract .ensures .1 ∙ ap (λ (v : Verdict). handedOut v (a .buf .now)) e
-          ∙ sym (ap (λ (y : ScanResult). stopBuffer (scanned (a .framing) s y .stop) (a .buf .now)) r),
+          ∙ sym (ap (λ (y : ScanResult). stopBuffer (scanned (a .format) s y .stop) (a .buf .now)) r),
     )
 
 pub find-first-spec : {M : Type 1} → statement M

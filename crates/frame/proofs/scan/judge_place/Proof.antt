@@ -24,7 +24,7 @@ returns c =
     let d = c .before .before .is-doubled .ensures in
     let t = c .before .if1 .taken in
     let e = c .before .before .before .before .pre .1 in
-    doubled-fails (a .framing) (a .s .now) (a .place) (d .0 t) e (d .1 t ∙ e) ∙ ap (refused 2) (sym (c .doubled-refusal .ensures))
+    doubled-fails (a .format) (a .s .now) (a .place) (d .0 t) e (d .1 t ∙ e) ∙ ap (refused 2) (sym (c .doubled-refusal .ensures))
 
 sub-judge : tie.Need-sub-judge
 sub-judge c = search needs
@@ -41,7 +41,7 @@ judge-requires c κs = search needs
 returns-2 : tie.Need-returns-2
 returns-2 c =
     let a = c .before .before .before .before .before .args in
-    subst (λ (l : List ℕ). judge (a .framing) l ≡ verdictOf (a .framing) l (c .judge .result)) (take-rest (a .s .now) (a .place)) (c .judge .ensures)
+    subst (λ (l : List ℕ). judge (a .format) l ≡ verdictOf (a .format) l (c .judge .result)) (take-rest (a .s .now) (a .place)) (c .judge .ensures)
 
 pub judge-place-spec : {M : Type 1} → statement M
 judge-place-spec =

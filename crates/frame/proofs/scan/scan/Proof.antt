@@ -57,8 +57,8 @@ skip-turn c = c .before .before .before .before .before
 
 -- The verdict at the present place, where it was told so.
 verdict-is : (j : tie.After-judge-place Inv-loop μ-loop) (r : Judged) → j .judge-place .result ≡ r →
-    let at = drop (turn j .loop .place) (start j .args .s .now) in judge (start j .args .framing) at ≡ verdictOf (start j .args .framing) at r
-verdict-is j r e = j .judge-place .ensures ∙ ap (verdictOf (start j .args .framing) (drop (turn j .loop .place) (start j .args .s .now))) e
+    let at = drop (turn j .loop .place) (start j .args .s .now) in judge (start j .args .format) at ≡ verdictOf (start j .args .format) at r
+verdict-is j r e = j .judge-place .ensures ∙ ap (verdictOf (start j .args .format) (drop (turn j .loop .place) (start j .args .s .now))) e
 
 -- The place is before the last one.
 before-stop : (j : tie.After-judge-place Inv-loop μ-loop) → turn j .loop .place < start j .args .stop
@@ -68,12 +68,12 @@ before-stop j = j .before .before .before .loop-test .taken
 inside : (j : tie.After-judge-place Inv-loop μ-loop) (r : Judged) → j .judge-place .result ≡ r →
     let a = start j .args in
     let place = turn j .loop .place in
-    place + judgedBytes (verdictOf (a .framing) (drop place (a .s .now)) r) ≤ length (a .s .now)
+    place + judgedBytes (verdictOf (a .format) (drop place (a .s .now)) r) ≤ length (a .s .now)
 inside j r e =
     let a = start j .args in
     let place = turn j .loop .place in
     let h =
-    subst (λ (v : Verdict). judgedBytes v ≤ length (drop place (a .s .now))) (verdict-is j r e) (judged-there (a .framing) (drop place (a .s .now)))
+    subst (λ (v : Verdict). judgedBytes v ≤ length (drop place (a .s .now))) (verdict-is j r e) (judged-there (a .format) (drop place (a .s .now)))
     in
     omega (arith, h, length-drop place (a .s .now))
 
@@ -81,7 +81,7 @@ inside j r e =
 failed : (k : tie.After-known-told Inv-loop μ-loop) →
     let a = start (refused-at k) .args in
     let place = turn (refused-at k) .loop .place in
-    judge (a .framing) (drop place (a .s .now)) ≡ refused (k .before .judged .given .0 .1 .0) (numberOf (k .before .judged .given .0 .0))
+    judge (a .format) (drop place (a .s .now)) ≡ refused (k .before .judged .given .0 .1 .0) (numberOf (k .before .judged .given .0 .0))
 failed k = verdict-is (refused-at k) _ (k .before .judged .given .1)
 
 -- The bytes judged for it are there.
@@ -92,7 +92,7 @@ failed-inside k = inside (refused-at k) _ (k .before .judged .given .1)
 -- It begins with the byte that starts a frame.
 started : (k : tie.After-known-told Inv-loop μ-loop) →
     let j = refused-at k in
-    getD (start j .args .s .now) (turn j .loop .place) 0 ≡ startOf (start j .args .framing)
+    getD (start j .args .s .now) (turn j .loop .place) 0 ≡ startOf (start j .args .format)
 started k = refused-at k .before .if1 .left ∙ turn (refused-at k) .before .start-of .ensures
 
 -- The places that it passes over.
@@ -100,18 +100,18 @@ over : (k : tie.After-known-told Inv-loop μ-loop) →
     let a = start (refused-at k) .args in
     let place = turn (refused-at k) .loop .place in
     let judged = k .before .judged .given .0 .1 .0 in
-    Skips (startOf (a .framing)) (a .s .now) (place + 1) (a .stop) (min (place + passedBy (a .framing) judged) (a .stop))
-    × (passedBy (a .framing) judged ≤ judged)
+    Skips (startOf (a .format)) (a .s .now) (place + 1) (a .stop) (min (place + passedBy (a .format) judged) (a .stop))
+    × (passedBy (a .format) judged ≤ judged)
 over k =
     let j = refused-at k in
     let a = start j .args in
-    fails-over (a .framing) (a .s .now) (a .stop) (turn j .loop .place) _ _ (omega arith) (before-stop j) (started k) (failed k)
+    fails-over (a .format) (a .s .now) (a .stop) (turn j .loop .place) _ _ (omega arith) (before-stop j) (started k) (failed k)
 
 -- The place where the scan goes on.
 onward : (m : tie.After-smaller Inv-loop μ-loop) →
     let j = refused-at (passed-at m) in
     let a = start j .args in
-    m .smaller .result ≡ min (turn j .loop .place + passedBy (a .framing) (passed-at m .before .judged .given .0 .1 .0)) (a .stop)
+    m .smaller .result ≡ min (turn j .loop .place + passedBy (a .format) (passed-at m .before .judged .given .0 .1 .0)) (a .stop)
 onward m =
     let j = refused-at (passed-at m) in
     m .smaller .ensures ∙ ap (λ (n : ℕ). min (turn j .loop .place + n) (start j .args .stop)) (m .before .passed-by .ensures)
@@ -145,8 +145,8 @@ loop-again c =
     let is = skip-turn c .before .start-of .ensures in
     let skips = subst (λ (b : ℕ). Skips b (a .s .now) (l .place + 1) (a .stop) to) is (c .before .skip .ensures) in (
       c .before .skip .ensures .inside,
-      ap (λ (far : ℕ). scanFrom (judging (a .ended) (a .framing)) (a .stop - to) to far (drop to (a .s .now))) (c .larger .ensures)
-          ∙ sym (scan-skips (a .ended) (a .framing) (a .s .now) (a .stop) (omega arith) (l .place) (l .far) to
+      ap (λ (far : ℕ). scanFrom (judging (a .ended) (a .format)) (a .stop - to) to far (drop to (a .s .now))) (c .larger .ensures)
+          ∙ sym (scan-skips (a .ended) (a .format) (a .s .now) (a .stop) (omega arith) (l .place) (l .far) to
           (c .before .before .before .before .loop-test .taken) (λ e. c .before .before .if1 .taken (e ∙ sym is)) skips)
           ∙ l .inv .1,
     )
@@ -165,10 +165,10 @@ returns c =
     let j = undecided-at c in
     let a = start j .args in
     let l = turn j .loop in
-    ap (scanned (a .framing) (a .s .now)) (c .stopped .ensures)
-    ∙ sym (step-undecided (a .framing) (a .stop) (l .place) (l .far) (a .s .now) (before-stop j)
+    ap (scanned (a .format) (a .s .now)) (c .stopped .ensures)
+    ∙ sym (step-undecided (a .format) (a .stop) (l .place) (l .far) (a .s .now) (before-stop j)
     (verdict-is j _ (c .before .before .enum-told .given .1)))
-    ∙ ap (λ (e : Bool). scanFrom (judging e (a .framing)) (a .stop - l .place) (l .place) (l .far) (drop (l .place) (a .s .now)))
+    ∙ ap (λ (e : Bool). scanFrom (judging e (a .format)) (a .stop - l .place) (l .place) (l .far) (drop (l .place) (a .s .now)))
     (sym (not-true (a .ended) (c .before .if2 .taken)))
     ∙ l .inv .1
 
@@ -186,15 +186,15 @@ loop-again-2 c =
     let j = ended-at c in
     let a = start j .args in
     let l = turn j .loop in
-    let here : Bool → Scanned = λ e. scanFrom (judging e (a .framing)) (a .stop - l .place) (l .place) (l .far) (drop (l .place) (a .s .now)) in
+    let here : Bool → Scanned = λ e. scanFrom (judging e (a .format)) (a .stop - l .place) (l .place) (l .far) (drop (l .place) (a .s .now)) in
     let next : Bool → ℕ → Scanned =
-    λ e far. scanFrom (judging e (a .framing)) (a .stop - (l .place + 1)) (l .place + 1) far (drop (l .place + 1) (a .s .now))
+    λ e far. scanFrom (judging e (a .format)) (a .stop - (l .place + 1)) (l .place + 1) far (drop (l .place + 1) (a .s .now))
     in
     let is : a .ended ≡ true = not-false (a .ended) (c .before .if2 .left) in (
       omega arith,
       ap (next (a .ended)) (c .larger2 .ensures)
           ∙ ap (λ (e : Bool). next e (max (l .far) (l .place))) is
-          ∙ sym (step-ended (a .framing) (a .stop) (l .place) (l .far) (a .s .now) (before-stop j)
+          ∙ sym (step-ended (a .format) (a .stop) (l .place) (l .far) (a .s .now) (before-stop j)
           (verdict-is j _ (c .before .before .enum-told .given .1)))
           ∙ ap here (sym is)
           ∙ l .inv .1,
@@ -213,7 +213,7 @@ passed-by-requires : tie.Need-passed-by-requires Inv-loop μ-loop
 passed-by-requires c κs =
     let k = c .before in
     let a = start (refused-at k) .args in
-    refused-sized (a .framing) (drop (turn (refused-at k) .loop .place) (a .s .now)) _ _ (failed k) .some
+    refused-sized (a .format) (drop (turn (refused-at k) .loop .place) (a .s .now)) _ _ (failed k) .some
 
 add-smaller : tie.Need-add-smaller Inv-loop μ-loop
 add-smaller c =
@@ -232,11 +232,11 @@ loop-again-3 c =
     let a = start j .args in
     let l = turn j .loop in
     let judged = k .before .judged .given .0 .1 .0 in
-    let to = min (l .place + passedBy (a .framing) judged) (a .stop) in (
+    let to = min (l .place + passedBy (a .format) judged) (a .stop) in (
       omega (arith, onward c),
-      ap (λ (n : ℕ). scanFrom (judging (a .ended) (a .framing)) (a .stop - n) n (c .before .before .larger3 .result) (drop n (a .s .now))) (onward c)
-          ∙ ap (λ (far : ℕ). scanFrom (judging (a .ended) (a .framing)) (a .stop - to) to far (drop to (a .s .now))) (c .before .before .larger3 .ensures)
-          ∙ sym (scan-fails (a .ended) (a .framing) (a .s .now) (a .stop) (omega arith) (l .place) (l .far) judged _
+      ap (λ (n : ℕ). scanFrom (judging (a .ended) (a .format)) (a .stop - n) n (c .before .before .larger3 .result) (drop n (a .s .now))) (onward c)
+          ∙ ap (λ (far : ℕ). scanFrom (judging (a .ended) (a .format)) (a .stop - to) to far (drop to (a .s .now))) (c .before .before .larger3 .ensures)
+          ∙ sym (scan-fails (a .ended) (a .format) (a .s .now) (a .stop) (omega arith) (l .place) (l .far) judged _
           (before-stop j) (started k) (failed k))
           ∙ l .inv .1,
     )
@@ -259,10 +259,10 @@ returns-2 c =
     let a = start j .args in
     let l = turn j .loop in
     let used = c .before .before .before .used .given .0 .0 in
-    let p = payloadAt (a .framing) (drop (l .place) (a .s .now)) (c .before .before .before .used .given .0 .1 .0) in
-    ap (scanned (a .framing) (a .s .now)) (c .stopped2 .ensures)
+    let p = payloadAt (a .format) (drop (l .place) (a .s .now)) (c .before .before .before .used .given .0 .1 .0) in
+    ap (scanned (a .format) (a .s .now)) (c .stopped2 .ensures)
     ∙ ap (λ (k : ℕ). scannedTo (l .place) k (found used p)) (c .before .larger4 .ensures)
-    ∙ sym (step-frame (a .ended) (a .framing) (a .stop) (l .place) (l .far) (a .s .now) (before-stop j) used p
+    ∙ sym (step-frame (a .ended) (a .format) (a .stop) (l .place) (l .far) (a .s .now) (before-stop j) used p
     (verdict-is j _ (c .before .before .before .used .given .1)))
     ∙ l .inv .1
 
@@ -273,8 +273,8 @@ returns-3 : tie.Need-returns-3 Inv-loop μ-loop
 returns-3 c =
     let a = c .before .before .before .before .before .args in
     let l = c .before .before .loop in
-    ap (scanned (a .framing) (a .s .now)) (c .stopped3 .ensures)
-    ∙ sym (step-end (judging (a .ended) (a .framing)) (a .stop) (l .place) (l .far) (a .s .now) (c .before .loop-test .left))
+    ap (scanned (a .format) (a .s .now)) (c .stopped3 .ensures)
+    ∙ sym (step-end (judging (a .ended) (a .format)) (a .stop) (l .place) (l .far) (a .s .now) (c .before .loop-test .left))
     ∙ l .inv .1
 
 pub scan-spec : {M : Type 1} → statement M

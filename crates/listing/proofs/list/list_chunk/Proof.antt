@@ -65,7 +65,7 @@ free c = chunk-free (entry-at-else3 c .args .reader) (length (entry-at-else3 c .
 some : (c : tie.Else4) →
     let a = entry-at-list-held (list-held-at-else4 c) .args in
     let p = c .before .before .before .before .list-held .result in
-    PartlyDrained (drain (stateOf (a .reader)) (a .chunk .now)) (viewed (record { framing = p .reader .framing; from = p .done; end = p .done }) (a .chunk .now))
+    PartlyDrained (drain (stateOf (a .reader)) (a .chunk .now)) (viewed (record { format = p .reader .format; from = p .done; end = p .done; follows = p .reader .follows }) (a .chunk .now))
     (drop (p .done) (a .chunk .now)) (a .out .now) 0 0 (p .end) (p .noise) (c .before .before .before .before .list-held .last .1 .1 .0)
 some c =
     let a = entry-at-list-held (list-held-at-else4 c) .args in
@@ -143,7 +143,7 @@ returns-5 : tie.Need-returns-5
 returns-5 c =
     let a = entry-at-list-held (list-held-at-slice-known3 c) .args in
     rest-lists (drain (stateOf (a .reader)) (a .chunk .now)) (a .reader) (a .out .now) (c .before .before .list-view .result) _ (free (list-held-at-slice-known3 c .before .before))
-    (partly-drained-lists (stateOf (a .reader)) (c .before .before .list-view .result) _ (some (c .before .before .before .before)) (fits (list-held-at-slice-known3 c .before .before)) (list-held-at-slice-known3 c .list-held .ensures .framing) (c .before .before .list-view .ensures))
+    (partly-drained-lists (stateOf (a .reader)) (c .before .before .list-view .result) _ (some (c .before .before .before .before)) (fits (list-held-at-slice-known3 c .before .before)) (list-held-at-slice-known3 c .list-held .ensures .format) (c .before .before .list-view .ensures))
 
 pub list-chunk-spec : {M : Type 1} → statement M
 list-chunk-spec =

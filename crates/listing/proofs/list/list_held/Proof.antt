@@ -23,7 +23,7 @@ use Rattle.listing.proofs.list.list_held.Tie as tie
 
 abbrev Inv-loop : tie.InvT-loop
 Inv-loop chunk out₀ buf₀ state₀ done₀ end₀ total₀ out buf state done end total =
-    (length buf ≡ 256) × (done ≤ length chunk) × (state .count ≤ limit (state .framing)) × (state .framing ≡ state₀ .framing)
+    (length buf ≡ 256) × (done ≤ length chunk) × (state .count ≤ limit (state .format)) × (state .format ≡ state₀ .format)
     × PartlyDrained (drain (stateOf state₀) chunk) (stateOf state) (drop done chunk) out₀ 0 0 end total out
 
 abbrev μ-loop : tie.MeasureT-loop
@@ -101,9 +101,9 @@ still f = f .feed .kept .1 .1 .0 ∙ loop-at-feed f .loop .inv .0
 fits : (f : tie.After-feed Inv-loop μ-loop) → Room (drain (stateOf (entry-at-feed f .args .reader)) (entry-at-feed f .args .chunk .now)) 0 0 (entry-at-feed f .args .out .now)
 fits f = entry-at-feed f .pre .fits
 
--- The framing stays, and the bytes held are within its limit.
+-- The format stays, and the bytes held are within its limit.
 limits : (f : tie.After-feed Inv-loop μ-loop) →
-    (f .feed .result .reader .framing ≡ loop-at-feed f .loop .state .framing) × (f .feed .result .reader .count ≤ limit (loop-at-feed f .loop .state .framing))
+    (f .feed .result .reader .format ≡ loop-at-feed f .loop .state .format) × (f .feed .result .reader .count ≤ limit (loop-at-feed f .loop .state .format))
 limits f = feed-stays-in-limit (loop-at-feed f .loop .state) _ (loop-at-feed f .loop .buf) (f .feed .result) _ (feeds f) (loop-at-feed f .loop .inv .2)
 
 -- The bytes taken are within the chunk.
@@ -200,7 +200,7 @@ returns c =
     subst (λ (p : Part). HeldListed (a .reader) (a .chunk .now) (a .out .now) p (l .out)) (sym (c .part-at .ensures))
     (record {
       inside = l .inv .1;
-      framing = limits f .0 ∙ l .inv .3;
+      format = limits f .0 ∙ l .inv .3;
       all = λ _. none-lists (l .inv .4) (fits f) _ (says-none _ (says f) (free f) (ap feedValuesOf (c .before .before .answer2 .given .1))) (stateOf (a .reader))
           (f .feed .result .reader) _ (l .inv .3) (says-next _ (says f) (free f)) refl refl;
       some = λ z. absurd (true≢false z);
@@ -233,7 +233,7 @@ returns-3 c =
     subst (λ (p : Part). HeldListed (a .reader) (a .chunk .now) (a .out .now) p (l .out)) (sym (c .part-at3 .ensures))
     (record {
       inside = l .inv .1;
-      framing = l .inv .3;
+      format = l .inv .3;
       all = λ z. absurd (true≢false (sym z));
       some = λ _. (omega arith, l .inv .4);
     })

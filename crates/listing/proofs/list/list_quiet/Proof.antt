@@ -25,7 +25,7 @@ use Rattle.listing.proofs.list.list_quiet.Tie as tie
 
 abbrev Inv-loop : tie.InvT-loop
 Inv-loop out₀ buf₀ state₀ end₀ total₀ out buf state end total =
-    (length buf ≡ 256) × (state .count ≤ limit (state .framing)) × (state .framing ≡ state₀ .framing)
+    (length buf ≡ 256) × (state .count ≤ limit (state .format)) × (state .format ≡ state₀ .format)
     × Progress (ruleAfter (stateOf state₀) []) (ruleAfter (stateOf state) []) out₀ 0 0 end total out
 
 abbrev μ-loop : tie.MeasureT-loop
@@ -60,7 +60,7 @@ yes c = sym (c .before .is-sound .ensures) ∙ not-false _ (c .if1 .left)
 -- What the answer of a call says, that it is not refused, and that the buffer keeps its length.
 says : (q : tie.After-quiet Inv-loop μ-loop) →
     let r = loop-at-quiet q .loop .state in
-    Reports (quietRefusal r (length (loop-at-quiet q .loop .buf))) (quiet (stateOf r)) (AfterQuiet (stateOf r) (quiet (stateOf r)) (quiet (stateOf r) .out .frames)) r
+    Reports (quietRefusal r (length (loop-at-quiet q .loop .buf))) (quiet (stateOf r)) (AfterQuiet (r .format) (quiet (stateOf r)) (quiet (stateOf r) .out .frames)) r
     (loop-at-quiet q .loop .buf) (quietValuesOf (q .quiet .result .answer)) (q .quiet .result .reader) (q .quiet .last .1 .0)
 says q = quiet-reports (loop-at-quiet q .loop .state) (loop-at-quiet q .loop .buf) (q .quiet .result) _ (q .quiet .ensures)
 
@@ -71,7 +71,7 @@ still : (q : tie.After-quiet Inv-loop μ-loop) → length (q .quiet .last .1 .0)
 still q = q .quiet .kept .1 .0 ∙ loop-at-quiet q .loop .inv .0
 
 limits : (q : tie.After-quiet Inv-loop μ-loop) →
-    (q .quiet .result .reader .framing ≡ loop-at-quiet q .loop .state .framing) × (q .quiet .result .reader .count ≤ limit (loop-at-quiet q .loop .state .framing))
+    (q .quiet .result .reader .format ≡ loop-at-quiet q .loop .state .format) × (q .quiet .result .reader .count ≤ limit (loop-at-quiet q .loop .state .format))
 limits q = quiet-stays-in-limit (loop-at-quiet q .loop .state) (loop-at-quiet q .loop .buf) (q .quiet .result) _ (q .quiet .ensures) (loop-at-quiet q .loop .inv .1)
 
 -- There is room for all lines, and little noise.

@@ -19,7 +19,7 @@ use Rattle.listing.proofs.list.list_view.Tie as tie
 
 abbrev Inv-loop : tie.InvT-loop
 Inv-loop chunk start before out₀ buf₀ view₀ end₀ total₀ out buf view end total =
-    (length buf ≡ 256) × (inside view (length chunk) ≡ true) × (view .framing ≡ view₀ .framing)
+    (length buf ≡ 256) × (inside view (length chunk) ≡ true) × (view .format ≡ view₀ .format)
     × PartlyDrained (viewDrain view₀ chunk) (viewed view chunk) (drop (view .end) chunk) out₀ start before end total out
 
 abbrev μ-loop : tie.MeasureT-loop
@@ -114,7 +114,7 @@ loop-again c =
     let next = says-next _ (says f) (free f) in (
       still f,
       view-stays-inside (l .view) (a .chunk .now) (l .buf) (f .feed .result) _ (f .feed .ensures) (l .inv .1),
-      ap (λ (s : State). s .framing) (next .state) ∙ l .inv .2,
+      ap (λ (s : State). s .format) (next .state) ∙ l .inv .2,
       view-next (l .view) (a .chunk .now) (f .feed .result .view) next
           (frame-step (l .inv .3) (fits f) _ _ (says-frame _ (says f) (free f) (ap feedValuesOf (answer-at-slice-known2 c .answer .given .1))) (c .before .before .put-line .ensures)),
     )

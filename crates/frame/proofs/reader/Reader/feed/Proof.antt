@@ -26,7 +26,7 @@ array : (c : tie.Start) → length (c .args .t1 .held) ≡ 517
 array c = search needs
 
 -- The held bytes are no more than a frame has.
-held-fits : (c : tie.Else2) → let r = start c .args .t1 in r .count ≤ limit (r .framing)
+held-fits : (c : tie.Else2) → let r = start c .args .t1 in r .count ≤ limit (r .format)
 held-fits c = omega (arith, c .before .before .limit-of .ensures, c .before .if1 .left)
 
 limit-of-requires : tie.Need-limit-of-requires
@@ -51,10 +51,10 @@ returns-3 c =
     feed-chunk (a .t1) (length (a .buf .now)) (length (a .chunk .now)) (held-fits (c .before)) (c .before .if2 .left) (c .if3 .taken) in
     refuses (ap (λ (k : ℕ). eqb k 0) n) (sym (ap refusalValues n))
 
-feed-on-requires : tie.Need-feed-on-requires
-feed-on-requires c κs =
+feed-state-requires : tie.Need-feed-state-requires
+feed-state-requires c κs =
     let e = c .before .before .before in
-    record { long = omega (arith, array (start e)); fits = held-fits e; room = e .if2 .left }
+    (record { long = omega (arith, array (start e)); fits = held-fits e; room = e .if2 .left }, c .before .before .if3 .left)
 
 same-length : tie.Need-same-length
 same-length c = search needs
@@ -63,11 +63,11 @@ returns-4 : tie.Need-returns-4
 returns-4 c =
     let e = accepted c in
     let a = start (e .before) .args in
-    leaves-feeds (a .t1) (a .chunk .now) (a .buf .now) (c .before .before .feed-on .result) _ _
+    leaves-feeds (a .t1) (a .chunk .now) (a .buf .now) (c .before .before .feed-state .result) _ _
     (feed-accepted (a .t1) (length (a .buf .now)) (length (a .chunk .now)) (held-fits (e .before)) (e .before .if2 .left) (e .if3 .left))
-    (c .before .before .feed-on .ensures)
+    (c .before .before .feed-state .ensures)
 
 pub feed-spec : {M : Type 1} → statement M
 feed-spec =
     tie.close
-    (tie.spec limit-of-requires returns returns-2 returns-3 feed-on-requires same-length returns-4)
+    (tie.spec limit-of-requires returns returns-2 returns-3 feed-state-requires same-length returns-4)

@@ -1,16 +1,18 @@
 -- `frame::reader::Reader::quiet` meets its contract: the refusals in their order, and otherwise the quiet of the held bytes.
 -- Assumes nothing.
 use native.Mathlib.Omega.{arith}
-use Prim.Native.Nat.{ℕ, _≤_}
-use mathlib.Core.Path.{_≡_, sym, ap}
+use Prim.Native.Nat.{ℕ, _-_, _≤_}
+use mathlib.Core.Path.{_≡_, sym, ap, _∙_}
 use lib.Dec.{eqb}
 use borrow.Author.Needs.{needs}
-use lib.ListN.{length, length-take}
+use lib.ListN.{length, take, drop, length-take}
 use lib.Seq.{length-take-le}
-use Rattle.frame.specs.Framing.{limit}
-use Rattle.frame.specs.Reader.{refusalValues}
+use Rattle.frame.specs.Framing.{limit, behindOptional}
+use Rattle.frame.specs.Reader.{quietHeld, refusalValues}
+use Rattle.frame.proofs.Lists.{drop-take}
+use Rattle.frame.proofs.Optional.{absorbed-there}
 use Rattle.frame.proofs.Framings.{limit-most}
-use Rattle.frame.proofs.Readers.{quiet-state, quiet-buffer, quiet-accepted}
+use Rattle.frame.proofs.Readers.{quiet-right, quiet-state, quiet-buffer, quiet-accepted}
 use Rattle.frame.proofs.Promises.{refuses, answers}
 use Rattle.frame.proofs.reader.Reader.quiet.Statement.{statement}
 use Rattle.frame.proofs.reader.Reader.quiet.Tie as tie
@@ -19,8 +21,8 @@ use Rattle.frame.proofs.reader.Reader.quiet.Tie as tie
 abbrev start : tie.Else2 → tie.Start
 start c = c .before .before .before .before
 
--- Where nothing was refused, from where the held bytes are lent.
-abbrev accepted : tie.After-quiet-held-arg → tie.Else2
+-- Where nothing was refused, from where the optional byte is counted.
+abbrev accepted : tie.After-absorbed-arg → tie.Else2
 accepted c = c .before .before .before
 
 -- The state's array has 517 bytes.
@@ -28,7 +30,7 @@ array : (c : tie.Start) → length (c .args .self .held) ≡ 517
 array c = search needs
 
 -- The held bytes are no more than a frame has.
-held-fits : (c : tie.Else2) → let r = start c .args .self in r .count ≤ limit (r .framing)
+held-fits : (c : tie.Else2) → let r = start c .args .self in r .count ≤ limit (r .format)
 held-fits c = omega (arith, c .before .before .limit-of .ensures, c .before .if1 .left)
 
 limit-of-requires : tie.Need-limit-of-requires
@@ -49,28 +51,61 @@ returns-2 c =
 slice-aggregate-whole : tie.Need-slice-aggregate-whole
 slice-aggregate-whole c = search needs
 
-slice-aggregate-quiet-held : tie.Need-slice-aggregate-quiet-held
-slice-aggregate-quiet-held c =
+-- The held bytes are in the array.
+held-there : (c : tie.After-absorbed-arg) → let r = start (accepted c) .args .self in r .count ≤ length (r .held)
+held-there c =
     let s = start (accepted c) in
-    let r = s .args .self in
-    sym (length-take-le (r .count) (r .held) (omega (arith, held-fits (accepted c), limit-most (r .framing), array s)))
+    omega (arith, held-fits (accepted c), limit-most (s .args .self .format), array s)
+
+-- The optional byte is one of them.
+counted : (c : tie.After-absorbed) → c .absorbed .result ≤ start (accepted (c .before)) .args .self .count
+counted c =
+    let r = start (accepted (c .before)) .args .self in
+    omega (
+      arith,
+      c .absorbed .ensures,
+      absorbed-there (r .format) (r .follows) (take (r .count) (r .held)),
+      length-take-le (r .count) (r .held) (held-there (c .before)),
+    )
+
+slice-aggregate-absorbed : tie.Need-slice-aggregate-absorbed
+slice-aggregate-absorbed c =
+    let r = start (accepted c) .args .self in sym (length-take-le (r .count) (r .held) (held-there c))
+
+absorbed-requires : tie.Need-absorbed-requires
+absorbed-requires c κs = search needs
+
+sub-quiet-held : tie.Need-sub-quiet-held
+sub-quiet-held c = counted c
+
+part-quiet-held-start : tie.Need-part-quiet-held-start
+part-quiet-held-start c = counted c
+
+part-quiet-held-end : tie.Need-part-quiet-held-end
+part-quiet-held-end c = held-there (c .before)
 
 quiet-held-requires : tie.Need-quiet-held-requires
 quiet-held-requires c κs =
-    let e = accepted (c .before) in
+    let x = c .before .before in
+    let e = accepted (x .before) in
     let r = start e .args .self in
-    (omega (arith, length-take (r .count) (r .held), held-fits e), e .if2 .left)
+    let n = x .absorbed .result in
+    (omega (arith, length-take (r .count - n) (drop n (r .held)), held-fits e), e .if2 .left)
 
 same-length : tie.Need-same-length
 same-length c = search needs
 
 returns-3 : tie.Need-returns-3
 returns-3 c =
-    let e = accepted (c .before .before .before .before) in
+    let x = c .before .before .before .before .before in
+    let e = accepted (x .before) in
     let a = start e .args in
-    let h = c .before .before .quiet-held .ensures in
+    let r = a .self in
+    let same : take (r .count - x .absorbed .result) (drop (x .absorbed .result) (r .held)) ≡ behindOptional (r .format) (r .follows) (take (r .count) (r .held)) =
+    sym (drop-take (x .absorbed .result) (r .count) (r .held)) ∙ ap (λ (n : ℕ). drop n (take (r .count) (r .held))) (x .absorbed .ensures) in
+    let h = quiet-right (r .format) _ _ (a .buf .now) _ _ (ap (quietHeld (r .format)) (sym same)) (c .before .before .quiet-held .ensures) in
     answers
-    (quiet-accepted (a .self) (length (a .buf .now)) 0 (held-fits e) (e .if2 .left))
+    (quiet-accepted r (length (a .buf .now)) 0 (held-fits e) (e .if2 .left))
     (h .values) (h .state) (h .buffer)
 
 pub quiet-spec : {M : Type 1} → statement M
@@ -81,7 +116,11 @@ quiet-spec =
     returns
     returns-2
     slice-aggregate-whole
-    slice-aggregate-quiet-held
+    slice-aggregate-absorbed
+    absorbed-requires
+    sub-quiet-held
+    part-quiet-held-start
+    part-quiet-held-end
     quiet-held-requires
     same-length
     returns-3)

@@ -7,7 +7,7 @@ use mathlib.Core.List.{List}
 use mathlib.Core.Path.{_≡_, refl, sym, ap, _∙_, subst}
 use borrow.Author.Tests.{not-true, not-false}
 use lib.ListN.{length, take, drop, length-drop}
-use Rattle.frame.specs.Reader.{holding, line}
+use Rattle.frame.specs.Reader.{lineBehind}
 use Rattle.frame.specs.View.{inside}
 use Rattle.frame.specs.Feeding.{KeepsCall}
 use Rattle.frame.specs.declared.refusal.Refusal.the-variants.{State, Buffer, Chunk}
@@ -37,13 +37,13 @@ kept : (x : tie.After-feed-view) →
     let a = start (accepted x .before .before) .args in
     let w : List ℕ = drop (a .self .from) (a .chunk .now) in
     let count = a .self .end - a .self .from in
-    KeepsCall (line (holding (a .self .framing) (take count w)) (drop count w)) count w (x .feed-view .result) (a .buf .now) (x .feed-view .last .1 .1 .1 .0)
+    KeepsCall (lineBehind (a .self .format) (a .self .follows) (take count w) (drop count w)) count w (x .feed-view .result) (a .buf .now) (x .feed-view .last .1 .1 .1 .1 .0)
 kept x =
     let a = start (accepted x .before .before) .args in
     let count = a .self .end - a .self .from in
     subst
-    (λ (w : List ℕ). KeepsCall (line (holding (a .self .framing) (take count w)) (drop count w)) count w (x .feed-view .result) (a .buf .now)
-    (x .feed-view .last .1 .1 .1 .0))
+    (λ (w : List ℕ). KeepsCall (lineBehind (a .self .format) (a .self .follows) (take count w) (drop count w)) count w (x .feed-view .result) (a .buf .now)
+    (x .feed-view .last .1 .1 .1 .1 .0))
     (take-rest (a .chunk .now) (a .self .from)) (x .feed-view .ensures)
 
 is-inside-requires : tie.Need-is-inside-requires
@@ -94,8 +94,8 @@ feed-view-requires : tie.Need-feed-view-requires
 feed-view-requires c κs =
     let a = start (c .before .before .before .before) .args in
     let h = lies (c .before .before .before .before) in
-    let rest = take-rest (a .chunk .now) (a .self .from) in
-    (omega (arith, h .onward, h .there, ap length rest ∙ length-drop (a .self .from) (a .chunk .now)), (h .fits, c .before .before .before .if2 .left))
+    let size = ap length (take-rest (a .chunk .now) (a .self .from)) ∙ length-drop (a .self .from) (a .chunk .now) in
+    (omega (arith, h .onward, h .there, size), (h .fits, (omega (arith, size, c .before .before .if3 .left), c .before .before .before .if2 .left)))
 
 add-t10 : tie.Need-add-t10
 add-t10 c = search needs

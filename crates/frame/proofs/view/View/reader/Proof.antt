@@ -24,15 +24,15 @@ lies c = is-inside (c .before .before .before .args .self) (length (c .before .b
 is-inside-requires : tie.Need-is-inside-requires
 is-inside-requires c κs = search needs
 
-new-requires : tie.Need-new-requires
-new-requires c κs = search needs
+open-requires : tie.Need-open-requires
+open-requires c κs = search needs
 
 returns : tie.Need-returns
 returns c =
     let a = c .before .before .before .before .args in
     let no : inside (a .self) (length (a .chunk .now)) ≡ false = sym (c .before .before .is-inside .ensures) ∙ not-true _ (c .before .if1 .taken) in
-    subst (λ (q : Bool). Holds (cond q (viewed (a .self) (a .chunk .now)) (holding (a .self .framing) [])) (c .new .result)) (sym no)
-    (rw (c .new .ensures) (record { state = refl; count = refl }))
+    subst (λ (q : Bool). Holds (cond q (viewed (a .self) (a .chunk .now)) (holding (a .self .format) [] false)) (c .«open» .result)) (sym no)
+    (rw (c .«open» .ensures) (record { state = refl; count = refl }))
 
 sub-hold : tie.Need-sub-hold
 sub-hold c = lies c .onward
@@ -46,12 +46,12 @@ part-hold-end c = lies c .there
 hold-requires : tie.Need-hold-requires
 hold-requires c κs =
     let a = c .before .before .before .before .args in
-    omega (arith, part-length (a .self) (a .chunk .now) (lies (c .before)), lies (c .before) .fits, limit-most (a .self .framing))
+    omega (arith, part-length (a .self) (a .chunk .now) (lies (c .before)), lies (c .before) .fits, limit-most (a .self .format))
 
 returns-2 : tie.Need-returns-2
 returns-2 c =
     let a = c .before .before .before .before .before .args in
-    subst (λ (q : Bool). Holds (cond q (viewed (a .self) (a .chunk .now)) (holding (a .self .framing) [])) (c .hold .result)) (sym (yes (c .before .before)))
+    subst (λ (q : Bool). Holds (cond q (viewed (a .self) (a .chunk .now)) (holding (a .self .format) [] false)) (c .hold .result)) (sym (yes (c .before .before)))
     (c .hold .ensures)
 
 pub reader-spec : {M : Type 1} → statement M
@@ -59,7 +59,7 @@ reader-spec =
     tie.close
     (tie.spec
     is-inside-requires
-    new-requires
+    open-requires
     returns
     sub-hold
     part-hold-start

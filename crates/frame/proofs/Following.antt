@@ -1,0 +1,136 @@
+-- Laws of the calls behind a mark as the code makes them: an optional byte is passed over, and the rest is a call without one.
+-- Assumes nothing.
+use Prim.Native.Nat.{ℕ, zero, suc, _+_, _-_, _≤_, _<_, min, zero-le}
+use native.Mathlib.Nat.{zero-add, not-suc-le-zero}
+use native.Mathlib.Omega.{arith}
+use mathlib.Core.Bool.{Bool}
+use mathlib.Core.List.{List, [], _∷_}
+use mathlib.Core.Path.{_≡_, refl, sym, ap, ap₂, _∙_, subst}
+use lib.ListN.{length, take, drop, length-drop}
+use lib.Seq.{drop-drop}
+use Rattle.frame.specs.Framing.{absorbed, behindOptional}
+use Rattle.frame.specs.Reader.{Called, called, lineOn, tookFirst, lineBehind, Values, feedValuesOf, valuesAt}
+use Rattle.frame.specs.View.{part}
+use Rattle.frame.specs.Answer.{TookFirst, scanWhole}
+use Rattle.frame.specs.Feeding.{Leaves, KeepsCall}
+use Rattle.frame.specs.declared.framing.Format.{Format}
+use Rattle.frame.specs.declared.reader.Left.{Left}
+use Rattle.frame.specs.declared.answer.Kept.{Kept}
+use Rattle.frame.specs.declared.answer.FeedAnswer.{FeedAnswer}
+use Rattle.frame.specs.declared.answer.FeedAnswer.the-variants.{NeedsMore}
+use Rattle.frame.proofs.Lists.{drop-take}
+use Rattle.frame.proofs.Parts.{part-rest}
+use Rattle.frame.proofs.Optional.{absorbed-one, absorbed-front}
+use Rattle.frame.proofs.Promises.{called-taken}
+use Rattle.frame.proofs.Settling.{on-taken}
+use Rattle.frame.proofs.ScanCalls.{scan-chunk}
+
+-- None taken first is the call itself.
+none-first : (c : Called) → tookFirst 0 c ≡ c
+none-first c = ap (λ (n : ℕ). called n (c .out) (c .held) (c .follows)) (zero-add (c .taken))
+
+-- With held bytes an optional one in front is dropped.
+pub behind-held :
+    (f : Format) (follows : Bool) (h chunk : List ℕ) → 1 ≤ length h → lineBehind f follows h chunk ≡ lineOn f (behindOptional f follows h) chunk
+behind-held f follows [] chunk l = absurd (not-suc-le-zero l)
+behind-held f follows (b ∷ h) chunk l = refl
+
+-- An answer's bytes taken are those of its call, and no more than the chunk has.
+pub few-taken :
+    (f : Format) (h chunk : List ℕ) (answer : FeedAnswer) → feedValuesOf answer ≡ valuesAt (lineOn f h chunk) → length chunk ≤ 65536 →
+    feedValuesOf answer .taken ≤ 65536
+few-taken f h chunk answer e l =
+    let c : Called = lineOn f h chunk in
+    omega (arith, ap (λ (v : Values). v .taken) e ∙ called-taken c (c .out .frames), on-taken f h chunk)
+
+-- Nothing is held: with an empty chunk the mark stays.
+pub next-empty :
+    (f : Format) (follows : Bool) (chunk buf held : List ℕ) → length chunk ≡ 0 →
+    Leaves (lineBehind f follows [] chunk) buf (record { answer = NeedsMore 0 0; count = 0; follows = follows }) held buf
+next-empty f follows [] buf held e = record { values = refl; count = refl; bytes = refl; follows = refl; buffer = refl }
+next-empty f follows (b ∷ chunk) buf held e = absurd (let z : ⊥ = omega arith in z)
+
+-- The chunk alone was fed.
+pub next-values :
+    (f : Format) (rest buf : List ℕ) (left : Left) (held buf′ : List ℕ) → Leaves (scanWhole f 0 0 0 rest) buf left held buf′ →
+    Leaves (lineOn f [] rest) buf left held buf′
+next-values f rest buf left held buf′ h = subst (λ (c : Called). Leaves c buf left held buf′) (scan-chunk f rest) h
+
+-- Otherwise an optional byte in front of it is taken first.
+pub next-leaves :
+    (f : Format) (follows : Bool) (chunk rest buf : List ℕ) (n : ℕ) (left : Left) (answer : FeedAnswer) (held buf′ : List ℕ) → 0 < length chunk →
+    n ≡ absorbed f follows chunk → rest ≡ drop n chunk → Leaves (scanWhole f 0 0 0 rest) buf left held buf′ → TookFirst n (left .answer) answer →
+    Leaves (lineBehind f follows [] chunk) buf (record { answer = answer; count = left .count; follows = left .follows }) held buf′
+next-leaves f follows [] rest buf n left answer held buf′ l e r h t = absurd (not-suc-le-zero l)
+next-leaves f follows (b ∷ chunk) rest buf n left answer held buf′ l e r h t =
+    let k : Leaves (lineOn f [] rest) buf left held buf′ = next-values f rest buf left held buf′ h in
+    let same : tookFirst n (lineOn f [] rest) ≡ lineBehind f follows [] (b ∷ chunk) =
+    ap (λ (s : List ℕ). tookFirst n (lineOn f [] s)) r ∙ ap (λ (i : ℕ). tookFirst i (lineOn f [] (drop i (b ∷ chunk)))) e in
+    subst
+    (λ (c : Called). Leaves c buf (record { answer = answer; count = left .count; follows = left .follows }) held buf′)
+    same
+    (record {
+      values = t (lineOn f [] rest) (k .values);
+      count = k .count;
+      bytes = k .bytes;
+      follows = k .follows;
+      buffer = k .buffer;
+    })
+
+-- A view of no bytes: the mark stays.
+pub view-empty :
+    (f : Format) (follows : Bool) (w buf : List ℕ) (count : ℕ) → length w ≡ 0 → count ≤ length w →
+    KeepsCall (lineBehind f follows (take count w) (drop count w)) count w (record { answer = NeedsMore 0 0; from = 0; end = 0; follows = follows }) buf buf
+view-empty f follows [] buf zero e l =
+    record { values = refl; held = refl; inside = zero-le; there = zero-le; ends = refl; follows = refl; buffer = refl }
+view-empty f follows [] buf (suc count) e l = absurd (not-suc-le-zero l)
+view-empty f follows (b ∷ w) buf count e l = absurd (let z : ⊥ = omega arith in z)
+
+-- A call over w, the first `count` bytes of which are held: an optional byte in front of w is passed over, and taken where it was not held.
+split-line :
+    (f : Format) (follows : Bool) (w : List ℕ) (count n : ℕ) → 0 < length w → n ≡ absorbed f follows w →
+    let s : List ℕ = drop n w in
+    let k : ℕ = count - min n count in
+    lineBehind f follows (take count w) (drop count w) ≡ tookFirst (n - min n count) (lineOn f (take k s) (drop k s))
+split-line f follows [] count n l e = absurd (not-suc-le-zero l)
+split-line f follows (b ∷ w) zero n l e =
+    let all : n - min n 0 ≡ n = omega arith in
+    let none : 0 - min n 0 ≡ 0 = omega arith in
+    let s : List ℕ = drop n (b ∷ w) in
+    ap (λ (i : ℕ). tookFirst i (lineOn f [] (drop i (b ∷ w)))) (sym e)
+    ∙ ap₂ (λ (i k : ℕ). tookFirst i (lineOn f (take k s) (drop k s))) (sym all) (sym none)
+split-line f follows (b ∷ w) (suc count) n l e =
+    let s : List ℕ = drop n (b ∷ w) in
+    let one : n ≤ 1 = subst (λ (i : ℕ). i ≤ 1) (sym e) (absorbed-one f follows (b ∷ w)) in
+    let left : suc count - min n (suc count) ≡ suc count - n = omega arith in
+    let none : n - min n (suc count) ≡ 0 = omega arith in
+    let all : n + (suc count - n) ≡ suc count = omega arith in
+    let c : Called = lineOn f (take (suc count - n) s) (drop (suc count - n) s) in
+    ap (λ (i : ℕ). lineOn f (drop i (b ∷ take count w)) (drop count w)) (absorbed-front f follows b (take count w) w ∙ sym e)
+    ∙ ap₂ (lineOn f) (drop-take n (suc count) (b ∷ w)) (ap (λ (i : ℕ). drop i (b ∷ w)) (sym all) ∙ sym (drop-drop (suc count - n) n (b ∷ w)))
+    ∙ sym (none-first c)
+    ∙ ap₂ (λ (i k : ℕ). tookFirst i (lineOn f (take k s) (drop k s))) (sym none) (sym left)
+
+-- The part that is kept of what stands behind that byte.
+pub view-follows :
+    (f : Format) (follows : Bool) (w s buf : List ℕ) (count n held : ℕ) (k : Kept) (answer : FeedAnswer) (buf′ : List ℕ) → 0 < length w →
+    n ≡ absorbed f follows w → n ≤ length w → held ≡ min n count → s ≡ drop n w →
+    KeepsCall (lineOn f (take (count - held) s) (drop (count - held) s)) (count - held) s k buf buf′ → TookFirst (n - held) (k .answer) answer →
+    KeepsCall (lineBehind f follows (take count w) (drop count w)) count w
+    (record { answer = answer; from = n + k .from; end = n + k .end; follows = k .follows }) buf buf′
+view-follows f follows w s buf count n held k answer buf′ l e there m r h t =
+    let c : Called = lineOn f (take (count - held) s) (drop (count - held) s) in
+    let same : tookFirst (n - held) c ≡ lineBehind f follows (take count w) (drop count w) =
+    ap₂ (λ (i : ℕ) (x : List ℕ). tookFirst (n - i) (lineOn f (take (count - i) x) (drop (count - i) x))) m r ∙ sym (split-line f follows w count n l e) in
+    subst
+    (λ (x : Called). KeepsCall x count w (record { answer = answer; from = n + k .from; end = n + k .end; follows = k .follows }) buf buf′)
+    same
+    (record {
+      values = t c (h .values);
+      held = sym (part-rest n (k .from) (k .end) w) ∙ ap (part (k .from) (k .end)) (sym r) ∙ h .held;
+      inside = omega (arith, h .inside);
+      there = omega (arith, h .there, ap length r ∙ length-drop n w);
+      ends = omega (arith, h .ends);
+      follows = h .follows;
+      buffer = h .buffer;
+    })

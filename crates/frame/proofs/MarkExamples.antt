@@ -1,0 +1,21 @@
+-- The examples of the mark, computed.
+-- Assumes nothing.
+use mathlib.Core.Path.{refl}
+use Rattle.frame.specs.Checks.{byte, test, word, bytes}
+use Rattle.frame.specs.Binary.{binary, body, footer}
+use Rattle.frame.specs.Rule.{join, places, outFrom, rule}
+use Rattle.frame.specs.Reader.{settle, lineFrom, lineOn, quietHeld}
+use Rattle.frame.specs.MarkExamples.{NextCallTakesIt, HeldBehindTheFrame, QuietEndsIt}
+
+pub next-call-takes-it : NextCallTakesIt
+unfolding lineOn lineFrom settle join binary body footer byte test word bytes
+next-call-takes-it =
+    record { stops = refl; cut = refl; stays = refl; taken = refl; once = refl; other = refl; required = refl }
+
+pub held-behind-the-frame : HeldBehindTheFrame
+unfolding lineOn lineFrom settle quietHeld join rule places outFrom binary body footer byte test word bytes
+held-behind-the-frame = record { first = refl; next = refl; atQuiet = refl; all = refl }
+
+pub quiet-ends-it : QuietEndsIt
+unfolding lineOn lineFrom settle quietHeld join binary body footer byte test word bytes
+quiet-ends-it = record { waits = refl; found = refl; dropped = refl; none = refl; after = refl }

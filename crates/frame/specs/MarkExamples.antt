@@ -1,0 +1,50 @@
+-- Examples of the mark, call by call, in binary framing with the footer optional. Document 02, CR 2.
+use mathlib.Core.Path.{_≡_}
+use mathlib.Core.List.{List, [], _∷_}
+use mathlib.Core.Bool.{true, false}
+use Prim.Native.Nat.{ℕ}
+use Rattle.frame.specs.Rule.{output, nothing, foundAt, rule}
+use Rattle.frame.specs.Reader.{State, holding, called, line, quiet}
+use Rattle.frame.specs.RecoveryExamples.{response, success, bare}
+use Rattle.frame.specs.declared.framing.Footer.the-variants.{Optional, Required}
+use Rattle.frame.specs.declared.framing.Format.the-variants.{Binary}
+
+-- A reader that holds these bytes, with the mark and without.
+abbrev pub marked : List ℕ → State
+marked h = holding (Binary Optional) h true
+
+abbrev pub plain : List ℕ → State
+plain h = holding (Binary Optional) h false
+
+-- A frame with its 04, in one chunk or two: the call stops at the checksum, and the next one takes the 04, once.
+pub record NextCallTakesIt : Type 0 where
+  pub stops : line (plain []) response ≡ called 9 (output (success ∷ []) 0) [] true
+  pub cut : line (plain []) (bare response) ≡ called 9 (output (success ∷ []) 0) [] true
+  pub stays : line (marked []) [] ≡ called 0 nothing [] true
+  pub taken : line (marked []) (0x04 ∷ []) ≡ called 1 nothing [] false
+  pub once : line (marked []) (0x04 ∷ 0x04 ∷ []) ≡ called 2 (output [] 1) [] false
+  pub other : line (marked []) (0x05 ∷ 0x04 ∷ []) ≡ called 2 (output [] 2) [] false
+  pub required : line (holding (Binary Required) [] true) (0x04 ∷ []) ≡ called 1 (output [] 1) [] false
+
+-- A start that claims eight bytes of payload and fails late, and a frame inside its claim.
+abbrev pub failsLate : List ℕ
+failsLate = 0xA5 ∷ 0x5A ∷ 0x80 ∷ 0x08 ∷ 0xA5 ∷ 0x5A ∷ 0x80 ∷ 0x01 ∷ 0x11 ∷ 0x11 ∷ 0x04 ∷ 0x00 ∷ 0x55 ∷ []
+
+-- The frame's 04 is held behind it, and the next call drops it.
+pub record HeldBehindTheFrame : Type 0 where
+  pub first : line (plain []) failsLate ≡ called 13 (output ((0x11 ∷ []) ∷ []) 4) (0x04 ∷ 0x00 ∷ 0x55 ∷ []) true
+  pub next : line (marked (0x04 ∷ 0x00 ∷ 0x55 ∷ [])) [] ≡ called 0 (output [] 2) [] false
+  pub atQuiet : quiet (marked (0x04 ∷ 0x00 ∷ 0x55 ∷ [])) ≡ called 0 (output [] 2) [] false
+  pub all : rule (Binary Optional) failsLate ≡ output (foundAt 4 7 (0x11 ∷ []) ∷ []) 6
+
+-- A start that claims more than comes before the quiet.
+abbrev pub unfinished : List ℕ
+unfinished = 0xA5 ∷ 0x5A ∷ 0x80 ∷ 0x10 ∷ response
+
+-- A frame that a quiet call finds keeps its 04; behind "empty" a 04 is noise.
+pub record QuietEndsIt : Type 0 where
+  pub waits : line (plain []) unfinished ≡ called 14 nothing unfinished false
+  pub found : quiet (plain unfinished) ≡ called 0 (output (success ∷ []) 4) (0x04 ∷ []) true
+  pub dropped : quiet (marked (0x04 ∷ [])) ≡ called 0 nothing [] false
+  pub none : quiet (marked []) ≡ called 0 nothing [] false
+  pub after : line (plain []) (0x04 ∷ []) ≡ called 1 (output [] 1) [] false
