@@ -3,14 +3,20 @@
 use mathlib.Core.Path.{refl}
 use Rattle.frame.specs.Checks.{byte, test, word, bytes}
 use Rattle.frame.specs.Binary.{binary, body, footer}
+use Rattle.frame.specs.Digit.{isDigit}
+use Rattle.frame.specs.Ascii.{hexDigits, ascii}
 use Rattle.frame.specs.Rule.{join, places, outFrom, rule}
 use Rattle.frame.specs.Reader.{settle, lineFrom, lineOn, quietHeld}
-use Rattle.frame.specs.MarkExamples.{NextCallTakesIt, HeldBehindTheFrame, QuietEndsIt}
+use Rattle.frame.specs.MarkExamples.{NextCallTakesIt, OtherFormats, HeldBehindTheFrame, QuietEndsIt}
 
 pub next-call-takes-it : NextCallTakesIt
 unfolding lineOn lineFrom settle join binary body footer byte test word bytes
 next-call-takes-it =
-    record { stops = refl; cut = refl; stays = refl; taken = refl; once = refl; other = refl; required = refl }
+    record { stops = refl; cut = refl; stays = refl; taken = refl; once = refl; other = refl }
+
+pub other-formats : OtherFormats
+unfolding lineOn lineFrom settle join binary body footer ascii hexDigits isDigit byte test word bytes
+other-formats = record { required = refl; ascii = refl; stays = refl; unset = refl }
 
 pub held-behind-the-frame : HeldBehindTheFrame
 unfolding lineOn lineFrom settle quietHeld join rule places outFrom binary body footer byte test word bytes

@@ -9,7 +9,7 @@ use Rattle.frame.specs.Recovery.{LateFramesComeBack, AsciiCallsRecover, 
 use Rattle.frame.specs.Draining.{LineDrains, NeedsMoreIsDrained, DrainFollowsRule, QuietFollowsRule, EmptyIsDrained}
 use Rattle.frame.specs.Draining.{FeedReports, QuietReports, ViewReports, DrainIsSized, RuleIsSized}
 use Rattle.frame.specs.Driving.{CanDrive, DrivesAreShort, StateNeverRefused, FeedStaysInLimit, QuietStaysInLimit, EndsFresh}
-use Rattle.frame.specs.MarkExamples.{NextCallTakesIt, HeldBehindTheFrame, QuietEndsIt}
+use Rattle.frame.specs.MarkExamples.{NextCallTakesIt, OtherFormats, HeldBehindTheFrame, QuietEndsIt}
 use Rattle.frame.specs.RecoveryExamples.{LostAndBack, ProvisoNeeded, MixedEndings, FooterRequired, AsciiBack}
 use Rattle.frame.specs.declared.framing.Footer.{Footer}
 use Rattle.frame.specs.declared.framing.Format.{Format}
@@ -162,6 +162,9 @@ footer-required = recovery-examples.footer-required
 
 pub next-call-takes-it : NextCallTakesIt
 next-call-takes-it = mark-examples.next-call-takes-it
+
+pub other-formats : OtherFormats
+other-formats = mark-examples.other-formats
 
 pub held-behind-the-frame : HeldBehindTheFrame
 held-behind-the-frame = mark-examples.held-behind-the-frame

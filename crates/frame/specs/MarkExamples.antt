@@ -1,4 +1,4 @@
--- Examples of the mark, call by call, in binary framing with the footer optional. Document 02, CR 2.
+-- Examples of the mark, call by call, in binary framing with the footer optional, where it means something, and in other formats. Document 02, CR 2.
 use mathlib.Core.Path.{_≡_}
 use mathlib.Core.List.{List, [], _∷_}
 use mathlib.Core.Bool.{true, false}
@@ -7,7 +7,7 @@ use Rattle.frame.specs.Rule.{output, nothing, foundAt, rule}
 use Rattle.frame.specs.Reader.{State, holding, called, line, quiet}
 use Rattle.frame.specs.RecoveryExamples.{response, success, bare}
 use Rattle.frame.specs.declared.framing.Footer.the-variants.{Optional, Required}
-use Rattle.frame.specs.declared.framing.Format.the-variants.{Binary}
+use Rattle.frame.specs.declared.framing.Format.the-variants.{Binary, Ascii}
 
 -- A reader that holds these bytes, with the mark and without.
 abbrev pub marked : List ℕ → State
@@ -24,7 +24,13 @@ pub record NextCallTakesIt : Type 0 where
   pub taken : line (marked []) (0x04 ∷ []) ≡ called 1 nothing [] false
   pub once : line (marked []) (0x04 ∷ 0x04 ∷ []) ≡ called 2 (output [] 1) [] false
   pub other : line (marked []) (0x05 ∷ 0x04 ∷ []) ≡ called 2 (output [] 2) [] false
+
+-- In a format without an optional byte a mark that was set by hand changes nothing but that it stays where no byte is held or offered.
+pub record OtherFormats : Type 0 where
   pub required : line (holding (Binary Required) [] true) (0x04 ∷ []) ≡ called 1 (output [] 1) [] false
+  pub ascii : line (holding Ascii [] true) (0x04 ∷ []) ≡ called 1 (output [] 1) [] false
+  pub stays : line (holding (Binary Required) [] true) [] ≡ called 0 nothing [] true
+  pub unset : line (holding (Binary Required) [] false) response ≡ called 10 (output (success ∷ []) 0) [] false
 
 -- A start that claims eight bytes of payload and fails late, and a frame inside its claim.
 abbrev pub failsLate : List ℕ

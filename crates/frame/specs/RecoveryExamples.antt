@@ -1,4 +1,4 @@
--- Examples of damage in binary framing: good frames are lost and later ones come back; without the proviso on A5 5A a good frame far
+-- Examples of damage, in binary framing and last in ASCII framing: good frames are lost and later ones come back; without the proviso on A5 5A a good frame far
 -- into the stretch may be lost; and where the footer is optional, good frames with it and without it stand mixed. Document 02, CR 2.
 use Prim.Native.Nat.{ℕ, _+_, _≤_}
 use mathlib.Core.Path.{_≡_}

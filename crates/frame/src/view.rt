@@ -104,7 +104,8 @@ fn feed_view(format: Format, w: &[u8], count: usize, follows: bool, buf: &mut [u
 }
 
 impl View {
-    // The line call of a reader that holds the view's bytes, offered what stands behind them in the chunk. Call it again with the view that follows and
+    // The line call of a reader that holds the view's bytes, offered what stands behind them in the chunk: an optional byte that follows the last frame is
+    // dropped where it is held, and taken first where it is offered. Call it again with the view that follows and
     // the same chunk until more bytes are needed. Refused with 16 where the view's bytes do not lie in the chunk or are more than a frame can have, 13
     // where buf has under 256 bytes, 15 where the chunk has over 65,536; a refusal leaves view and buffer.
     pub fn feed(self, chunk: &[u8], buf: &mut [u8]) -> Viewed
@@ -136,7 +137,8 @@ impl View {
         }
     }
 
-    // The reader that holds the view's bytes; one that holds nothing where they do not lie in the chunk or are more than a frame can have.
+    // The reader that holds the view's bytes, with its mark; one that holds nothing, without the mark, where they do not lie in the chunk or are more than a
+    // frame can have.
     pub fn reader(self, chunk: &[u8]) -> Reader
         ensures { λ r. ⌜ Stands self (now (chunk .entry)) r ⌝ }
     {
