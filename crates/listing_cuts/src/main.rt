@@ -1,6 +1,7 @@
 // Lists segments that stand in memory, whole and in every cut, through the functions that booth-list is made of.
 use console::append;
 use console::front;
+use console::hex_bytes;
 use console::rest;
 use frame::Framing;
 use frame::Reader;
@@ -51,11 +52,11 @@ fn add_end(run: Run, out: &mut [u8], text: &mut [u8]) -> usize {
     }
 }
 
-// Lists a segment in two chunks, of which the first has `cut` bytes, and gives the text's end.
-fn list_cut(segment: &[u8], cut: usize, text: &mut [u8]) -> usize {
+// Lists a segment in two chunks, of which the first has `cut` bytes, and gives the text's end. In binary framing the footer is optional.
+fn list_cut(framing: Framing, segment: &[u8], cut: usize, text: &mut [u8]) -> usize {
     let mut out = [0u8; CHUNK_ROOM];
     let start = Run {
-        reader: Reader::new(Framing::Ascii),
+        reader: Reader::new(framing),
         noise: 0,
         end: 0,
     };
@@ -65,12 +66,12 @@ fn list_cut(segment: &[u8], cut: usize, text: &mut [u8]) -> usize {
 }
 
 // How many cuts of a segment, the empty ones too, give this text.
-fn count_cuts(segment: &[u8], expected: &[u8]) -> u64 {
+fn count_cuts(framing: Framing, segment: &[u8], expected: &[u8]) -> u64 {
     let mut count: u64 = 0;
     let mut cut: usize = 0;
     while cut <= segment.len() {
         let mut text = [0u8; 1024];
-        let end = list_cut(segment, cut, &mut text);
+        let end = list_cut(framing, segment, cut, &mut text);
         if check::same(front(&text, end), expected) {
             count = std::num::wrapping_add_u64(count, 1);
         }
@@ -80,9 +81,9 @@ fn count_cuts(segment: &[u8], expected: &[u8]) -> u64 {
 }
 
 // Prints a segment's name, its listing as one chunk, and how many of its cuts give the same.
-fn show(name: &[u8], segment: &[u8]) {
+fn show_in(framing: Framing, name: &[u8], segment: &[u8]) {
     let mut text = [0u8; 1024];
-    let end = list_cut(segment, 0, &mut text);
+    let end = list_cut(framing, segment, 0, &mut text);
     let listing = front(&text, end);
     io::write_all(STDOUT_FILENO, name);
     io::write_all(STDOUT_FILENO, b", ");
@@ -90,8 +91,20 @@ fn show(name: &[u8], segment: &[u8]) {
     io::write_all(STDOUT_FILENO, b" bytes\n");
     io::write_all(STDOUT_FILENO, listing);
     io::write_all(STDOUT_FILENO, b"cuts ");
-    io::print_decimal(STDOUT_FILENO, count_cuts(segment, listing));
+    io::print_decimal(STDOUT_FILENO, count_cuts(framing, segment, listing));
     io::write_all(STDOUT_FILENO, b"\n");
+}
+
+// Shows a segment in ASCII framing.
+fn show(name: &[u8], segment: &[u8]) {
+    show_in(Framing::Ascii, name, segment);
+}
+
+// Shows a segment in binary framing, given as hex pairs with a space between.
+fn show_binary(name: &[u8], pairs: &[u8]) {
+    let mut segment = [0u8; 64];
+    let n = hex_bytes(pairs, &mut segment);
+    show_in(Framing::Binary, name, &segment[..n]);
 }
 
 // Shows a frame with a payload of 256 bytes that begins with `head`, and goes on with each byte's own index.
@@ -193,11 +206,25 @@ fn show_damage() {
     show(b"unfinished at the end", b":DBA1120171\r\n:00010203FA\r");
 }
 
-// Lists every segment of the three groups, then the longest frames, then one that is too long.
+// Binary framing with the footer optional: frames with it and without it, one with a second footer, which is noise, and one whose checksum is 04; then a
+// frame behind damage that fails at the frame's footer, and frames that the quiet finds.
+fn show_footers() {
+    show_binary(
+        b"optional footers",
+        b"A5 5A 80 04 DB A1 12 01 69 04 A5 5A 80 04 DB A1 00 00 7A A5 5A 80 03 78 00 04 7C 04 04 A5 5A 80 02 00 04 04 A5 5A 80 01 01 01 04",
+    );
+    show_binary(
+        b"footers behind damage",
+        b"A5 5A 80 09 A5 5A 80 04 DB A1 12 01 69 04 A5 5A 80 20 A5 5A 80 02 78 00 78 04 A5 5A 80 02 00 04 04 04 04",
+    );
+}
+
+// Lists every segment of the four groups, then the longest frames, then one that is too long.
 fn main() {
     show_kinds();
     show_settings();
     show_damage();
+    show_footers();
     show_longest(b"longest simple", &[1, 2]);
     show_longest(
         b"longest extended",

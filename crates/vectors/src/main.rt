@@ -10,8 +10,8 @@
 //
 // A frame's row prints `frame`, the bytes used, the payload and whether it is written back as the bytes that were read, which one without its
 // footer is not, and what the payload means to the module and from it; or `refused` and the number. In binary framing a further line
-// has the reading with the footer required: `required frame` and the bytes used, or `required refused` and the number. A payload's row
-// prints itself and both meanings. A list's row prints itself, then `walk` and its settings, or `refused` and the number.
+// has the reading with the footer required: `required frame`, the bytes used and the payload, or `required refused` and the number. A
+// payload's row prints itself and both meanings. A list's row prints itself, then `walk` and its settings, or `refused` and the number.
 //
 // The last lines have the totals of the frames' rows: those of the default, and those with the footer required, which document 01's list rests on.
 // ASCII rows have one reading, which counts in both.
@@ -246,9 +246,8 @@ fn run_required(s: &[u8]) -> bool {
     let answer = frame::read_frame_as(format, s, &mut buf);
     io::write_all(STDOUT_FILENO, b"  required ");
     match answer {
-        ReadAnswer::Frame { used, len: _ } => {
-            io::write_all(STDOUT_FILENO, b"frame");
-            print_field(used);
+        ReadAnswer::Frame { used, len } => {
+            show_frame(used, front(&buf, len));
             print_line(b"");
             true
         }

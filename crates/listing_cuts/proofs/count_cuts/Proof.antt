@@ -7,10 +7,10 @@ use Rattle.listing_cuts.proofs.count_cuts.Statement.{statement}
 use Rattle.listing_cuts.proofs.count_cuts.Tie as tie
 
 abbrev Inv-loop : tie.InvT-loop
-Inv-loop segment expected count₀ cut₀ count cut = Unit {0}
+Inv-loop framing segment expected count₀ cut₀ count cut = Unit {0}
 
 abbrev μ-loop : tie.MeasureT-loop
-μ-loop segment expected count₀ cut₀ count cut = length segment + 1 - cut
+μ-loop framing segment expected count₀ cut₀ count cut = length segment + 1 - cut
 
 loop-holds : tie.Need-loop-holds Inv-loop μ-loop
 loop-holds c = search needs
