@@ -257,11 +257,6 @@ fn told(name: &str, r: &Reader, chunk: &[u8], room: usize) -> String {
     format!("{name} format {} follows {} count {count} held {held} chunk ({}) {} room {room}", r.format, r.follows, chunk.len(), hex(chunk))
 }
 
-/// The state with its mark as 0 or 1: every number but 0 says yes.
-fn plain_mark(reader: Reader) -> Reader {
-    Reader { follows: (reader.follows != 0) as u8, ..reader }
-}
-
 impl Pair {
     fn new(format: Format) -> Pair {
         let reader = library::new_reader(format_number(format));
@@ -272,10 +267,14 @@ impl Pair {
         self.reader.count > self.format.limit()
     }
 
+    fn has_unknown_mark(&self) -> bool {
+        self.reader.follows > 1
+    }
+
     /// A refused call: its number, zeros, state and buffer as they were.
     fn refused(&self, refusal: u8, input: &dyn Fn() -> String, got: Fed, buf: &[u8], before: &[u8]) -> Outcome {
         same("answer", input, got.answer, Answer { refusal, ..Default::default() })?;
-        same("state", input, plain_mark(got.reader), plain_mark(self.reader))?;
+        same("state", input, got.reader, self.reader)?;
         same("buffer", input, buf, before)
     }
 
@@ -313,6 +312,7 @@ impl Pair {
         let was = self.reader;
         let input = || told("feed", &was, chunk, room);
         let refusal = match () {
+            _ if self.has_unknown_mark() => messages::UNKNOWN,
             _ if self.over_limit() => 16,
             _ if room < 256 => 13,
             _ if chunk.len() > 65536 => 15,
@@ -340,6 +340,7 @@ impl Pair {
         let was = self.reader;
         let input = || told("quiet", &was, &[], room);
         let refusal = match () {
+            _ if self.has_unknown_mark() => messages::UNKNOWN,
             _ if self.over_limit() => 16,
             _ if room < 256 => 13,
             _ => 0,
@@ -470,7 +471,8 @@ pub fn segment(r: &mut Random, tally: &mut Tally) -> Outcome {
     Ok(())
 }
 
-/// A state made by hand: any bytes up to the limit and above it, with and without the mark, then chunks and the quiet.
+/// A state made by hand: any bytes up to the limit and above it, with and without the mark, then chunks and the quiet. One whose mark is neither 0 nor 1, or
+/// whose bytes are over the limit, gets a call of each kind, which is refused.
 pub fn made_state(r: &mut Random, tally: &mut Tally) -> Outcome {
     let mut pair = Pair::new(random::format(r));
     let limit = pair.format.limit();
@@ -481,26 +483,27 @@ pub fn made_state(r: &mut Random, tally: &mut Tally) -> Outcome {
         2 | 3 => r.below(3),
         _ => r.below(limit + 1),
     };
-    pair.reader.follows = match r.below(4) {
-        0 => 0,
-        1 => r.byte(),
+    pair.reader.follows = match r.below(16) {
+        0 => unknown_number(r, 2),
+        1..=5 => 0,
         _ => 1,
     };
-    if pair.over_limit() {
+    tally.add("states whose mark is neither 0 nor 1", pair.has_unknown_mark());
+    if pair.has_unknown_mark() || pair.over_limit() {
         let (n, room) = (r.below(30), r.pick(&[0, 255, 256, 300]));
         let chunk = r.bytes(n);
         pair.feed(r, tally, &chunk, room)?;
         return pair.quiet(r, tally, room).map(drop);
     }
     let held = pair.reader.held[..pair.reader.count].to_vec();
-    let start = State { held, follows: pair.reader.follows != 0 };
+    let start = State { held, follows: pair.reader.follows == 1 };
     pair.state = start.clone();
     let rest = if r.once_in(3) { Vec::new() } else { random::next_segment(r, pair.format.framing()) };
     drive(&mut pair, r, tally, &rest)?;
     pair.by_rule(&start, &rest, tally)
 }
 
-/// A state whose format number stands for none.
+/// A state whose format number stands for none, with any mark.
 pub fn unknown_format(r: &mut Random, tally: &mut Tally) -> Outcome {
     let number = unknown_number(r, 3);
     let mut reader = library::new_reader(number);

@@ -1,9 +1,11 @@
 -- The claims of specs/Claims.antt, proved case by case.
 -- Assumes nothing.
-use Prim.Native.Nat.{ℕ}
+use Prim.Native.Nat.{ℕ, zero, suc, _<_}
+use native.Mathlib.Omega.{arith}
 use mathlib.Core.Path.{_≡_, refl}
-use mathlib.Core.Bool.{Bool, true, false}
-use lib.Dec.{eqb}
+use mathlib.Core.Bool.{Bool, true, false, cond}
+use lib.Dec.{eqb, leb}
+use borrow.Author.Tests.{leb-true, ne-eqb}
 use Rattle.frame.specs.Framing.{formatOf as defaultFormat}
 use Rattle.frame.specs.declared.framing.Framing.{Framing}
 use Rattle.frame.specs.declared.framing.Framing.the-variants.{Binary as BinaryFraming, Ascii as AsciiFraming}
@@ -35,15 +37,17 @@ use Rattle.message.specs.declared.from_module.Outcome.the-variants.{Failure, Su
 use Rattle.message.specs.declared.from_module.Notice.{Notice}
 use Rattle.message.specs.declared.from_module.Notice.the-variants.{Response as IsResponse, Standard, Remote, Setup}
 use Rattle.boundary.specs.Framing.{framingOf, formatOf, formatNumber, unknownNumber}
-use Rattle.boundary.specs.Line.{markNumber, markIn, flatReader, readerIn}
+use Rattle.boundary.specs.Line.{markNumber, markIn, flatReader, formatIn, readerIn}
 use Rattle.boundary.specs.Claims.{CrossesBack}
 use Rattle.boundary.specs.Options.{byteOf, wordOf, byteIn, wordIn, optionNumbers, optionsIn}
 use Rattle.boundary.specs.ToModule.{transmissionNumbers, requestNumbers, setupNumbers, transmissionIn, requestIn}
 use Rattle.boundary.specs.ToModule.{addressKind, changeRefusalIn, setupRefusalIn}
 use Rattle.boundary.specs.FromModule.{deliveryNumbers, responseNumbers, reportNumbers, noticeNumbers}
 use Rattle.boundary.specs.FromModule.{deliveryIn, responseIn, silentModeIn, reportIn, noticeIn}
-use Rattle.boundary.specs.declared.framing.NamedFraming.the-variants.{Known as KnownFraming}
-use Rattle.boundary.specs.declared.framing.NamedFormat.the-variants.{Known as KnownFormat}
+use Rattle.boundary.specs.declared.framing.NamedFraming.the-variants.{Known as KnownFraming, Unknown as NoFraming}
+use Rattle.boundary.specs.declared.framing.NamedFormat.{NamedFormat}
+use Rattle.boundary.specs.declared.framing.NamedFormat.the-variants.{Known as KnownFormat, Unknown as NoFormat}
+use Rattle.boundary.specs.declared.line.LineReader.{LineReader}
 use Rattle.boundary.specs.declared.to_module.NamedRequest.the-variants.{Known as KnownRequest}
 use Rattle.boundary.specs.declared.from_module.NamedDelivery.the-variants.{Known as KnownDelivery, Unknown as NoDelivery}
 use Rattle.boundary.specs.declared.from_module.NamedNotice.the-variants.{Known as KnownNotice, Unknown as NoNotice}
@@ -60,12 +64,57 @@ unfolding framingOf
 framing BinaryFraming = refl
 framing AsciiFraming = refl
 
+above : (n k : ℕ) → k < n → eqb n k ≡ false
+above n k l = ne-eqb n k (λ (e : n ≡ k). let z : ⊥ = omega arith in z)
+
+no-format : (n : ℕ) → 2 < n → formatOf n ≡ NoFormat
+unfolding formatOf
+no-format n l = rw (above n 0 (omega arith), above n 1 (omega arith), above n 2 l)
+
+no-framing : (n : ℕ) → 1 < n → framingOf n ≡ NoFraming
+unfolding framingOf
+no-framing n l = rw (above n 0 (omega arith), above n 1 l)
+
 mark : (follows : Bool) → markIn (markNumber follows) ≡ follows
 mark true = refl
 mark false = refl
 
 reader : (r : Reader) → readerIn (r .format) (flatReader r) ≡ r
 reader r = rw (mark (r .follows))
+
+mark-known : (follows : Bool) → leb (markNumber follows) 1 ≡ true
+mark-known true = refl
+mark-known false = refl
+
+reader-format : (r : Reader) → formatIn (flatReader r) ≡ KnownFormat (r .format)
+unfolding formatIn
+reader-format r = rw (mark-known (r .follows), format (r .format))
+
+-- A state that crossed: its numbers are those of what they stand for.
+format-back : (n : ℕ) (m : Format) → formatOf n ≡ KnownFormat m → formatNumber m ≡ n
+unfolding formatOf
+format-back zero m e = cc
+format-back (suc zero) m e = cc
+format-back (suc (suc zero)) m e = cc
+format-back (suc (suc (suc n))) m e = cc (no-format (suc (suc (suc n))) (omega arith))
+
+mark-back : (n : ℕ) → leb n 1 ≡ true → markNumber (markIn n) ≡ n
+mark-back zero e = refl
+mark-back (suc zero) e = refl
+mark-back (suc (suc n)) e = let l = leb-true (suc (suc n)) 1 e in absurd (let z : ⊥ = omega arith in z)
+
+known-mark : (t : Bool) (x : NamedFormat) (m : Format) → cond t x NoFormat ≡ KnownFormat m → t ≡ true
+known-mark true x m e = refl
+known-mark false x m e = cc
+
+known-format : (t : Bool) (x : NamedFormat) (m : Format) → cond t x NoFormat ≡ KnownFormat m → x ≡ KnownFormat m
+known-format true x m e = e
+known-format false x m e = cc
+
+given-back : (r : LineReader) (m : Format) → formatIn r ≡ KnownFormat m → flatReader (readerIn m r) ≡ r
+unfolding formatIn
+given-back r m e =
+    rw (format-back (r .format) m (known-format (leb (r .follows) 1) _ m e), mark-back (r .follows) (known-mark _ (formatOf (r .format)) m e))
 
 -- Commands.
 setup : (c : SetupCommand) → commandOf (commandNumber c) ≡ KnownCommand c
@@ -172,8 +221,13 @@ crosses-back =
     record {
       format = format;
       framing = framing;
+      required = refl;
+      noFormat = no-format;
+      noFraming = no-framing;
+      readerFormat = reader-format;
       reader = reader;
       new = λ m. refl;
+      givenBack = given-back;
       request = request;
       change = λ m. refl;
       setup = setup;

@@ -1,11 +1,13 @@
 -- What is claimed of the flat form. A state that a call gave can be handed to the next call as it is, and so can a message that was read across the boundary
 -- to a write: its numbers stand for it, and for no message of another call. proofs/Theorems.antt proves each claim.
-use Prim.Native.Nat.{ℕ}
+use Prim.Native.Nat.{ℕ, _<_}
 use mathlib.Core.Path.{_≡_}
 use Rattle.frame.specs.Framing.{formatOf as defaultFormat}
 use Rattle.frame.specs.Reader.{newReader}
 use Rattle.frame.specs.declared.framing.Framing.{Framing}
+use Rattle.frame.specs.declared.framing.Footer.the-variants.{Required}
 use Rattle.frame.specs.declared.framing.Format.{Format}
+use Rattle.frame.specs.declared.framing.Format.the-variants.{Binary}
 use Rattle.frame.specs.declared.reader.Reader.{Reader}
 use Rattle.message.specs.Setup.{commandOf}
 use Rattle.message.specs.ToModule.{changeRefusal}
@@ -16,11 +18,12 @@ use Rattle.message.specs.declared.to_module.OutputChange.{OutputChange}
 use Rattle.message.specs.declared.from_module.Delivery.{Delivery}
 use Rattle.message.specs.declared.from_module.Notice.{Notice}
 use Rattle.boundary.specs.Framing.{framingOf, formatOf, formatNumber, unknownNumber}
-use Rattle.boundary.specs.Line.{flatReader, readerIn, newFlat}
+use Rattle.boundary.specs.Line.{flatReader, formatIn, readerIn, newFlat}
 use Rattle.boundary.specs.ToModule.{requestNumbers, changeNumbers, setupNumbers, requestIn, changeIn, changeRefusalIn, setupRefusalIn}
 use Rattle.boundary.specs.FromModule.{deliveryNumbers, noticeNumbers, deliveryIn, noticeIn}
-use Rattle.boundary.specs.declared.framing.NamedFraming.the-variants.{Known as KnownFraming}
-use Rattle.boundary.specs.declared.framing.NamedFormat.the-variants.{Known as KnownFormat}
+use Rattle.boundary.specs.declared.framing.NamedFraming.the-variants.{Known as KnownFraming, Unknown as NoFraming}
+use Rattle.boundary.specs.declared.framing.NamedFormat.the-variants.{Known as KnownFormat, Unknown as NoFormat}
+use Rattle.boundary.specs.declared.line.LineReader.{LineReader}
 use Rattle.boundary.specs.declared.to_module.NamedRequest.the-variants.{Known as KnownRequest, Unknown as NoRequest}
 use Rattle.boundary.specs.declared.from_module.NamedDelivery.the-variants.{Known as KnownDelivery, Unknown as NoDelivery}
 use Rattle.boundary.specs.declared.from_module.NamedNotice.the-variants.{Known as KnownNotice, Unknown as NoNotice}
@@ -29,9 +32,16 @@ pub record CrossesBack : Type 0 where
   -- The number of a format stands for it; that of a framing's default stands for the framing in a write.
   pub format : (m : Format) → formatOf (formatNumber m) ≡ KnownFormat m
   pub framing : (f : Framing) → framingOf (formatNumber (defaultFormat f)) ≡ KnownFraming f
+  -- Binary with the footer required is 2; numbers above it stand for no format, numbers above 1 for no framing.
+  pub required : formatNumber (Binary Required) ≡ 2
+  pub noFormat : (n : ℕ) → 2 < n → formatOf n ≡ NoFormat
+  pub noFraming : (n : ℕ) → 1 < n → framingOf n ≡ NoFraming
   -- The numbers of a state stand for it; those of a new one are a new reader's.
+  pub readerFormat : (r : Reader) → formatIn (flatReader r) ≡ KnownFormat (r .format)
   pub reader : (r : Reader) → readerIn (r .format) (flatReader r) ≡ r
   pub new : (m : Format) → newFlat (formatNumber m) ≡ flatReader (newReader m)
+  -- A state that is not refused as unknown, handed over and given back, is the same in every field.
+  pub givenBack : (r : LineReader) (m : Format) → formatIn r ≡ KnownFormat m → flatReader (readerIn m r) ≡ r
   -- The numbers of a message stand for it, wherever its data began.
   pub request : (m : Request) (start : ℕ) → requestIn (requestNumbers m start) ≡ KnownRequest m
   pub change : (m : OutputChange) → changeIn (changeNumbers m) ≡ m

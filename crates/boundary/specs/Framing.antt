@@ -29,6 +29,6 @@ formatNumber (Binary Optional) = 0
 formatNumber (Binary Required) = 2
 formatNumber Ascii = 1
 
--- The answer where a framing, a format or a kind of message crosses as a number that stands for none. The documents' own numbers end below it.
+-- The answer where a framing, a format, a mark or a kind of message crosses as a number that stands for none. The documents' own numbers end below it.
 abbrev pub unknownNumber : ℕ
 unknownNumber = 255

@@ -2,15 +2,15 @@
 use Prim.Native.Nat.{ℕ}
 use mathlib.Core.Path.{_≡_}
 use mathlib.Core.List.{List}
-use mathlib.Core.Bool.{Bool, true, false, not}
-use lib.Dec.{eqb}
+use mathlib.Core.Bool.{Bool, true, false, cond}
+use lib.Dec.{eqb, leb}
 use lib.ListN.{replicate}
 use Rattle.frame.specs.Reader.{Values, refusalValues, feedValuesOf, quietValuesOf, Feeds, Quiets}
 use Rattle.frame.specs.declared.framing.Format.{Format}
 use Rattle.frame.specs.declared.reader.Reader.{Reader}
 use Rattle.frame.specs.declared.reader.Fed.{Fed}
 use Rattle.frame.specs.declared.reader.Quieted.{Quieted}
-use Rattle.boundary.specs.Framing.{formatNumber, unknownNumber}
+use Rattle.boundary.specs.Framing.{formatOf, formatNumber, unknownNumber}
 use Rattle.boundary.specs.declared.framing.NamedFormat.{NamedFormat}
 use Rattle.boundary.specs.declared.framing.NamedFormat.the-variants.{Known, Unknown}
 use Rattle.boundary.specs.declared.line.LineReader.{LineReader}
@@ -21,19 +21,23 @@ use Rattle.boundary.specs.declared.line.LineFed.{LineFed}
 abbrev pub flatValues : Values → LineAnswer
 flatValues v = record { refusal = v .number; «is_frame» = v .isFrame; taken = v .taken; noise = v .noise; len = v .len }
 
--- The mark as it crosses: 1 for yes, 0 for no. Any number but 0 that crosses is yes.
+-- The mark as it crosses: 1 for yes, 0 for no. Any other number is no mark.
 abbrev pub markNumber : Bool → ℕ
 markNumber false = 0
 markNumber true = 1
 
 abbrev pub markIn : ℕ → Bool
-markIn n = not (eqb n 0)
+markIn n = eqb n 1
 
 -- A state as it crosses.
 abbrev pub flatReader : Reader → LineReader
 flatReader r = record { format = formatNumber (r .format); held = r .held; count = r .count; follows = markNumber (r .follows) }
 
--- The state that crossed, whose format number stands for m.
+-- The format of a state that crossed: the one that its number stands for, and none where its mark is neither 0 nor 1.
+unfoldable pub formatIn : LineReader → NamedFormat
+formatIn r = cond (leb (r .follows) 1) (formatOf (r .format)) Unknown
+
+-- The state that crossed, whose format is m.
 abbrev pub readerIn : Format → LineReader → Reader
 readerIn m r = record { format = m; held = r .held; count = r .count; follows = markIn (r .follows) }
 
@@ -47,7 +51,7 @@ pub record Crosses (A : Type 0) (Promised : A → Type 0) (flat : A → LineFed)
   pub promised : Promised answer
   pub crosses : fed ≡ flat answer
 
--- A refusal for an unknown format leaves state and buffer.
+-- A refusal for an unknown format or mark leaves state and buffer.
 pub record Unnamed (r : LineReader) (buf : List ℕ) (fed : LineFed) (after : List ℕ) : Type 0 where
   pub refuses : fed ≡ record { reader = r; answer = flatValues (refusalValues unknownNumber) }
   pub leaves : after ≡ buf

@@ -8,11 +8,10 @@ use frame::QuietAnswer;
 use frame::Reader;
 ghost use mathlib.Core.Path.{_≡_};
 ghost use Rattle.frame.specs.Reader.{refusalValues, feedValuesOf, quietValuesOf};
-ghost use Rattle.boundary.specs.Framing.{formatOf};
-ghost use Rattle.boundary.specs.Line.{markNumber, flatReader, flatValues, readerIn, newFlat, FeedsFlat, QuietsFlat};
+ghost use Rattle.boundary.specs.Line.{markNumber, flatReader, flatValues, formatIn, readerIn, newFlat, FeedsFlat, QuietsFlat};
 
 // A reader's state: its format as a number, the bytes that it holds, the first `count` of `held`, and whether an optional byte may follow the last frame: 0
-// for no, 1 for yes; any other number is taken for yes and comes back as 1.
+// for no, 1 for yes. A call with a state whose mark is any other number, or whose format is none, is refused with 255.
 #[repr(C)]
 pub struct LineReader {
     pub format: u8,
@@ -116,6 +115,16 @@ fn flat(reader: Reader) -> LineReader
     }
 }
 
+// The format of a state, if its number stands for one and its mark is 0 or 1.
+fn format_in(reader: LineReader) -> NamedFormat
+    ensures { λ r. ⌜ r ≡ formatIn reader ⌝ }
+{
+    if reader.follows > 1 {
+        return NamedFormat::Unknown;
+    }
+    format_of(reader.format)
+}
+
 fn reader_in(format: Format, reader: LineReader) -> Reader
     ensures { λ r. ⌜ r ≡ readerIn format reader ⌝ }
 {
@@ -124,7 +133,7 @@ fn reader_in(format: Format, reader: LineReader) -> Reader
         format: format,
         held: held,
         count: reader.count,
-        follows: reader.follows != 0,
+        follows: reader.follows == 1,
     }
 }
 
@@ -141,13 +150,13 @@ pub extern "C" fn boundary_new_reader(format: u8) -> LineReader
     }
 }
 
-// Takes bytes of a chunk until the next frame is settled, as `Reader::feed` does. A state whose format is none of 0, 1 and 2 is refused with 255; state and
-// buf stay.
+// Takes bytes of a chunk until the next frame is settled, as `Reader::feed` does. A state whose format is none of 0, 1 and 2, or whose mark is
+// neither 0 nor 1, is refused with 255; state and buf stay.
 #[no_mangle]
 pub extern "C" fn boundary_feed(reader: LineReader, chunk: &[u8], buf: &mut [u8]) -> LineFed
-    ensures { λ r. ⌜ FeedsFlat (formatOf (reader .format)) reader (now (chunk .entry)) (now (buf .entry)) r (now (buf .exit)) ⌝ }
+    ensures { λ r. ⌜ FeedsFlat (formatIn reader) reader (now (chunk .entry)) (now (buf .entry)) r (now (buf .exit)) ⌝ }
 {
-    match format_of(reader.format) {
+    match format_in(reader) {
         NamedFormat::Known(f) => {
             let fed = reader_in(f, reader).feed(chunk, buf);
             let next = fed.reader;
@@ -164,13 +173,13 @@ pub extern "C" fn boundary_feed(reader: LineReader, chunk: &[u8], buf: &mut [u8]
     }
 }
 
-// The line was quiet: gives the next frame of the held bytes, as `Reader::quiet` does. A state whose format is none of 0, 1 and 2 is refused with 255; state
-// and buf stay.
+// The line was quiet: gives the next frame of the held bytes, as `Reader::quiet` does. A state whose format is none of 0, 1 and 2, or whose
+// mark is neither 0 nor 1, is refused with 255; state and buf stay.
 #[no_mangle]
 pub extern "C" fn boundary_quiet(reader: LineReader, buf: &mut [u8]) -> LineFed
-    ensures { λ r. ⌜ QuietsFlat (formatOf (reader .format)) reader (now (buf .entry)) r (now (buf .exit)) ⌝ }
+    ensures { λ r. ⌜ QuietsFlat (formatIn reader) reader (now (buf .entry)) r (now (buf .exit)) ⌝ }
 {
-    match format_of(reader.format) {
+    match format_in(reader) {
         NamedFormat::Known(f) => {
             let quieted = reader_in(f, reader).quiet(buf);
             let next = quieted.reader;

@@ -1,4 +1,4 @@
--- `boundary::line::boundary_feed` meets its contract: the frame crate's promise, or the refusal of an unknown format.
+-- `boundary::line::boundary_feed` meets its contract: the frame crate's promise, or the refusal of an unknown format or mark.
 -- Assumes nothing.
 use mathlib.Core.Path.{sym, _∙_}
 use borrow.Author.Needs.{needs}
@@ -6,8 +6,8 @@ use Rattle.boundary.proofs.Crossing.{feed-crosses, feed-unnamed}
 use Rattle.boundary.proofs.line.boundary_feed.Statement.{statement}
 use Rattle.boundary.proofs.line.boundary_feed.Tie as tie
 
-format-of-requires : tie.Need-format-of-requires
-format-of-requires c κs = search needs
+format-in-requires : tie.Need-format-in-requires
+format-in-requires c κs = search needs
 
 enum-known-f : tie.Need-enum-known-f
 enum-known-f c = search needs
@@ -39,20 +39,20 @@ returns c =
     let e = d .before .before .before .before in
     let a = e .before .before .before .before .before .args in
     feed-crosses (a .reader) (a .chunk .now) (a .buf .now) (d .feed .result)
-    (sym (e .before .before .format-of .ensures) ∙ e .f .given .1)
+    (sym (e .before .before .format-in .ensures) ∙ e .f .given .1)
     (d .before .before .reader-in .ensures) (d .feed .ensures) (cc)
 
 returns-2 : tie.Need-returns-2
 returns-2 c =
     let d = c .before .before .before in
     let a = d .before .before .before .args in
-    feed-unnamed (a .reader) (a .chunk .now) (a .buf .now) (sym (d .format-of .ensures) ∙ c .before .enum-told .given .1) (cc)
+    feed-unnamed (a .reader) (a .chunk .now) (a .buf .now) (sym (d .format-in .ensures) ∙ c .before .enum-told .given .1) (cc)
 
 pub boundary-feed-spec : {M : Type 1} → statement M
 boundary-feed-spec =
     tie.close
     (tie.spec
-    format-of-requires
+    format-in-requires
     enum-known-f
     reader-in-requires
     feed-requires

@@ -1,4 +1,4 @@
--- `boundary::line::boundary_quiet` meets its contract: the frame crate's promise, or the refusal of an unknown format.
+-- `boundary::line::boundary_quiet` meets its contract: the frame crate's promise, or the refusal of an unknown format or mark.
 -- Assumes nothing.
 use mathlib.Core.Path.{sym, _∙_}
 use borrow.Author.Needs.{needs}
@@ -6,8 +6,8 @@ use Rattle.boundary.proofs.Crossing.{quiet-crosses, quiet-unnamed}
 use Rattle.boundary.proofs.line.boundary_quiet.Tie as tie
 use Rattle.boundary.proofs.line.boundary_quiet.Statement.{statement}
 
-format-of-requires : tie.Need-format-of-requires
-format-of-requires c κs = search needs
+format-in-requires : tie.Need-format-in-requires
+format-in-requires c κs = search needs
 
 enum-known-f : tie.Need-enum-known-f
 enum-known-f c = search needs
@@ -39,19 +39,19 @@ returns c =
     let e = d .before .before .before .before in
     let a = e .before .before .before .before .args in
     quiet-crosses (a .reader) (a .buf .now) (d .quiet .result)
-    (sym (e .before .before .format-of .ensures) ∙ e .f .given .1)
+    (sym (e .before .before .format-in .ensures) ∙ e .f .given .1)
     (d .before .before .reader-in .ensures) (d .quiet .ensures) (cc)
 
 returns-2 : tie.Need-returns-2
 returns-2 c =
     let a = c .before .before .before .before .before .args in
-    quiet-unnamed (a .reader) (a .buf .now) (sym (c .before .before .before .format-of .ensures) ∙ c .before .enum-told .given .1) (cc)
+    quiet-unnamed (a .reader) (a .buf .now) (sym (c .before .before .before .format-in .ensures) ∙ c .before .enum-told .given .1) (cc)
 
 pub boundary-quiet-spec : {M : Type 1} → statement M
 boundary-quiet-spec =
     tie.close
     (tie.spec
-    format-of-requires
+    format-in-requires
     enum-known-f
     reader-in-requires
     quiet-requires
