@@ -1,5 +1,5 @@
-// The library for callers in C or Rust: each call of the crates below, with numbers and flat structs in place of enums. A slice crosses as a pointer and
-// a length.
+// The library for callers in C or Rust: the calls that read and write frames, lines, messages and settings lists, with numbers and flat structs in place of
+// enums. A slice crosses as a pointer and a length.
 mod framing;
 mod from_module;
 mod line;

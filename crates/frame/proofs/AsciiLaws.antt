@@ -190,9 +190,9 @@ abbrev pub KeepsDigits : (List ℕ → ℕ → Checks) → Type 0
 KeepsDigits end = (ds : List ℕ) (c : ℕ) (s p : List ℕ) (used : ℕ) → run (end ds c) s ≡ frame used p → StandFor ds p
 
 -- Digits of a right count and sum are the characters of a payload and its checksum.
-spelled : (ds p : List ℕ) → Digits ds → 4 ≤ length ds → length ds % 2 ≡ 0 → length ds ≤ 514 → sumOf (decoded ds) % 256 ≡ 0
+digits-layout : (ds p : List ℕ) → Digits ds → 4 ≤ length ds → length ds % 2 ≡ 0 → length ds ≤ 514 → sumOf (decoded ds) % 256 ≡ 0
     → dropLast (decoded ds) ≡ p → (ds ≡ hex (p ++ (checksumOf p ∷ []))) × Payload p
-spelled ds p d l n m z e =
+digits-layout ds p d l n m z e =
     let q : List ℕ = decoded ds in
     let last : ℕ = getD q (length q - 1) 0 in
     let split : q ≡ p ++ (last ∷ []) = drop-last-snoc q (omega (arith, length-decoded ds)) ∙ ap (λ (r : List ℕ). r ++ (last ∷ [])) e in
@@ -236,7 +236,7 @@ module _ (end : List ℕ → ℕ → Checks) where
       let (ds, c, d, m, k) = took-digits 514 end (h .rest) p (h .left) (h .goes) in
       let (q, z, l) = keeps (map digitValue ds) c (k .rest) p (k .left) (k .goes) in
       let n : (4 ≤ length ds) × (length ds % 2 ≡ 0) = rw length-map at (digit-count (length (map digitValue ds)) q) in
-      let w = spelled ds p d (n .0) (n .1) m z l in
+      let w = digits-layout ds p d (n .0) (n .1) m z l in
       record {
         char = c;
         payload = w .1;
@@ -299,10 +299,10 @@ ascii-layout-reads p more h =
     ∙ ap (λ (k : ℕ). frame k p) (omega (arith, length-append (asciiFront p) asciiEnding))
 
 -- What is judged a frame is the layout of its payload.
-pub ascii-spelled : (s p : List ℕ) (used : ℕ) → run (ascii crLf) s ≡ frame used p
+pub ascii-is-layout : (s p : List ℕ) (used : ℕ) → run (ascii crLf) s ≡ frame used p
     → (take used s ≡ layout AsciiFraming p) × (used ≡ length (layout AsciiFraming p)) × Payload p
 unfolding lineEnd
-ascii-spelled s p used e =
+ascii-is-layout s p used e =
     let h = took-ascii crLf crlf-keeps s p used e in
     let (return, goes) = took-crlf (digitsOf p) (h .char) (h .ends .rest) p (h .ends .left) (h .ends .goes) in
     let last : Behind (byte lineFeed 5 (whole p)) (asciiFront p ++ (h .char ∷ [])) s used p =

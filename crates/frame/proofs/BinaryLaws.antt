@@ -15,11 +15,9 @@ use Rattle.frame.specs.Checks.{Checks, whole, byte, test, word, bytes, f
 use Rattle.frame.specs.Framing.{layout}
 use Rattle.frame.specs.Binary.{xorFrom, xorOf, bigEndian, binaryFront, binaryEnding, footerByte, footer, ending, lengthWord, body, binary}
 use Rattle.frame.specs.Elements.{Bytes}
-use Rattle.frame.specs.Judged.{judgedLength}
 use Rattle.frame.specs.declared.framing.Framing.the-variants.{Binary as BinaryFraming}
 use Rattle.frame.specs.declared.framing.Footer.{Footer}
 use Rattle.frame.specs.declared.framing.Footer.the-variants.{Optional, Required}
-use Rattle.frame.specs.declared.framing.Format.the-variants.{Binary}
 use Rattle.frame.specs.Claims.{Payload}
 use Rattle.frame.proofs.Numbers.{both-true, and-true}
 use Rattle.frame.proofs.Lists.{bytes-left, drop-next}
@@ -166,10 +164,10 @@ module _ (end : List ℕ → Checks) where
         (took-both (end q) (afterWord end (high * 256 + low)) (high ∷ low ∷ []) (q ++ (xorOf q ∷ [])) (k .rest) p (k .left) w d)))
 
     -- Of bytes, what the checks accept begins with the front of its payload.
-    pub binary-spelled : (s p : List ℕ) (used : ℕ) → Bytes s → run (binary end) s ≡ frame used p
+    pub binary-is-layout : (s p : List ℕ) (used : ℕ) → Bytes s → run (binary end) s ≡ frame used p
         → Behind (end p) (binaryFront p) s used p × Payload p
     unfolding binaryFront
-    binary-spelled s p used b e =
+    binary-is-layout s p used b e =
         let h = took-binary s p used e in
         let q : List ℕ = p ++ (xorOf p ∷ []) in
         let all : Bytes (0xA5 ∷ 0x5A ∷ (h .high) ∷ (h .low) ∷ (q ++ (h .ends .rest))) = subst Bytes (h .ends .split) b in
@@ -210,24 +208,28 @@ required-layout p more h =
     ∙ ap (λ (k : ℕ). frame k p) (sym (length-append (binaryFront p) binaryEnding))
 
 -- Of bytes, what is judged a frame where the footer is optional is the front of its payload.
-pub optional-spelled : (s p : List ℕ) (used : ℕ) → Bytes s → run (binary whole) s ≡ frame used p
+pub optional-is-layout : (s p : List ℕ) (used : ℕ) → Bytes s → run (binary whole) s ≡ frame used p
     → (rest : List ℕ) × (s ≡ binaryFront p ++ rest) × (used ≡ length (binaryFront p)) × Payload p
-optional-spelled s p used b e =
-    let (h, payload) = binary-spelled whole (ending-keeps Optional) s p used b e in
+optional-is-layout s p used b e =
+    let (h, payload) = binary-is-layout whole (ending-keeps Optional) s p used b e in
     let w = took-whole p (h .rest) p (h .left) (h .goes) in
     (h .rest, h .split, omega (arith, h .count, w .0), payload)
 
 -- Where it is required, it is the layout.
-pub required-spelled : (s p : List ℕ) (used : ℕ) → Bytes s → run (binary footer) s ≡ frame used p
+pub required-is-layout : (s p : List ℕ) (used : ℕ) → Bytes s → run (binary footer) s ≡ frame used p
     → (take used s ≡ layout BinaryFraming p) × (used ≡ length (layout BinaryFraming p)) × Payload p
 unfolding footer
-required-spelled s p used b e =
-    let (h, payload) = binary-spelled footer (ending-keeps Required) s p used b e in
+required-is-layout s p used b e =
+    let (h, payload) = binary-is-layout footer (ending-keeps Required) s p used b e in
     let l = used-last footerByte 5 p (binaryFront p) s used h in
     (l .0, l .1, payload)
 
--- How many bytes behind the payload are judged, beside the four in front of it: its checksum, and the footer where it is required.
-pub binary-used : (footer : Footer) (s p : List ℕ) (used : ℕ) → run (binary (ending footer)) s ≡ frame used p → used ≡ judgedLength (Binary footer) (length p)
+-- How many bytes of a frame with a payload of n bytes are judged: all but a footer that is optional.
+abbrev pub binaryJudged : Footer → ℕ → ℕ
+binaryJudged Optional n = n + 5
+binaryJudged Required n = n + 6
+
+pub binary-used : (footer : Footer) (s p : List ℕ) (used : ℕ) → run (binary (ending footer)) s ≡ frame used p → used ≡ binaryJudged footer (length p)
 unfolding footer
 binary-used Optional s p used e =
     let h = took-binary whole (ending-keeps Optional) s p used e in

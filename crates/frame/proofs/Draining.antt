@@ -11,7 +11,6 @@ use lib.ListN.{length, drop, length-append}
 use lib.Seq.{drop-append-le}
 use Rattle.frame.specs.Checks.{Verdict, cut, refused, frame}
 use Rattle.frame.specs.Framing.{judge, read, mayFollow, isOptional, behindOptional}
-use Rattle.frame.specs.Judged.{judgedLength}
 use Rattle.frame.specs.Rule.{Output, nothing, noiseByte, handed, join, passAfter, outAt, payloads}
 use Rattle.frame.specs.Reader.{Settled, settled, Called, line}
 use Rattle.frame.specs.Drain.{before, drainAs, followsAfter, drainFrom}
@@ -20,7 +19,7 @@ use Rattle.frame.specs.Draining.{overhead, sizeOf, RuleIsSized}
 use Rattle.frame.specs.declared.framing.Footer.the-variants.{Optional, Required}
 use Rattle.frame.specs.declared.framing.Format.{Format}
 use Rattle.frame.specs.declared.framing.Format.the-variants.{Binary, Ascii}
-use Rattle.frame.proofs.Framings.{frame-sized, used-is, payload-size}
+use Rattle.frame.proofs.Framings.{judgedLength, frame-sized, used-is, payload-size}
 use Rattle.frame.proofs.Optional.{read-frame, read-sized}
 use Rattle.frame.proofs.Rules.{join-nothing, join-assoc, ruleFrom, rule-walk, given, givenBehind, given-failed, given-judged}
 use Rattle.frame.proofs.Settling.{line-over, line-unmarked, needs-more-is-true}

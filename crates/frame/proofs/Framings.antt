@@ -13,7 +13,7 @@ use Rattle.frame.specs.Ascii.{crLf}
 use Rattle.frame.specs.Framing.{checks, judge, front, endingBytes, layout, limit}
 use Rattle.frame.specs.Claims.{UndecidedIsShort, FrameIsSized}
 use Rattle.frame.specs.DigitRuns.{decoded, Digits}
-use Rattle.frame.specs.Judged.{payloadAt, payloadEnd, frameLength, judgedLength, verdictOf, handedOut, HasPayload}
+use Rattle.frame.specs.Judged.{payloadAt, payloadEnd, frameLength, verdictOf, handedOut, HasPayload}
 use Rattle.frame.specs.declared.framing.Framing.{Framing}
 use Rattle.frame.specs.declared.framing.Framing.the-variants.{Binary as BinaryFraming, Ascii as AsciiFraming}
 use Rattle.frame.specs.declared.framing.Footer.the-variants.{Optional, Required}
@@ -22,8 +22,8 @@ use Rattle.frame.specs.declared.framing.Format.the-variants.{Binary, Asc
 use Rattle.frame.specs.declared.framing.Judged.{Judged}
 use Rattle.frame.specs.declared.framing.Judged.the-variants.{Undecided, Failed, Frame}
 use Rattle.frame.proofs.Trees.{Within, bounded, Bounded}
-use Rattle.frame.proofs.BinaryLaws.{binary-within, ending-within, ending-keeps, took-binary, binary-used, length-binary-front}
-use Rattle.frame.proofs.AsciiLaws.{ascii-within, crlf-within, crlf-keeps, took-ascii, front-payload, ascii-spelled, length-ascii-front}
+use Rattle.frame.proofs.BinaryLaws.{binary-within, ending-within, ending-keeps, took-binary, binaryJudged, binary-used, length-binary-front}
+use Rattle.frame.proofs.AsciiLaws.{ascii-within, crlf-within, crlf-keeps, took-ascii, front-payload, ascii-is-layout, length-ascii-front}
 use Rattle.frame.proofs.HexLaws.{length-decoded, hex-digits}
 
 -- The length of a layout.
@@ -37,9 +37,13 @@ within-limit (Binary footer) = binary-within (ending footer) 1 (ending-within fo
 within-limit Ascii = ascii-within crLf 1 crlf-within
 
 -- How many bytes of a frame are judged goes by its payload's length.
+abbrev pub judgedLength : Format → ℕ → ℕ
+judgedLength (Binary footer) n = binaryJudged footer n
+judgedLength Ascii n = 2 * n + 5
+
 pub used-is : (m : Format) (s p : List ℕ) (used : ℕ) → judge m s ≡ frame used p → used ≡ judgedLength m (length p)
 used-is (Binary footer) s p used e = binary-used footer s p used e
-used-is Ascii s p used e = ascii-spelled s p used e .1 ∙ length-layout AsciiFraming p
+used-is Ascii s p used e = ascii-is-layout s p used e .1 ∙ length-layout AsciiFraming p
 
 -- A frame has no more bytes than there are.
 pub used-there : (f : Format) (s p : List ℕ) (used : ℕ) → judge f s ≡ frame used p → used ≤ length s
@@ -102,9 +106,9 @@ payload-there Ascii s used len e =
     omega arith
 
 -- So it can be taken out.
-pub payload-packed : (f : Format) (s : List ℕ) (used len : ℕ) → judge f s ≡ frame used (payloadAt f s len) → HasPayload f s len
-payload-packed (Binary footer) s used len e = payload-there (Binary footer) s used len e .0
-payload-packed Ascii s used len e =
+pub payload-held : (f : Format) (s : List ℕ) (used len : ℕ) → judge f s ≡ frame used (payloadAt f s len) → HasPayload f s len
+payload-held (Binary footer) s used len e = payload-there (Binary footer) s used len e .0
+payload-held Ascii s used len e =
     let p : List ℕ = decoded (take (2 * len) (drop 1 s)) in
     let h = took-ascii crLf crlf-keeps s p used e in
     let t = payload-there Ascii s used len e in
@@ -113,7 +117,7 @@ payload-packed Ascii s used len e =
 
 -- What a frame that was judged says of the payload that its answer names.
 pub record PayloadNamed (f : Format) (s : List ℕ) (len : ℕ) : Type 0 where
-  pub packed : HasPayload f s len
+  pub there : HasPayload f s len
   pub long : length (payloadAt f s len) ≡ len
   pub most : len ≤ 256
 
@@ -121,7 +125,7 @@ pub payload-named : (f : Format) (s : List ℕ) (used len : ℕ) → judge f s �
 payload-named f s used len e =
     let h = payload-there f s used len e in
     let m = payload-size f s (payloadAt f s len) used e in
-    record { packed = payload-packed f s used len e; long = h .1; most = omega (arith, h .1, m .1) }
+    record { there = payload-held f s used len e; long = h .1; most = omega (arith, h .1, m .1) }
 
 -- A state's array has room for the longest frame.
 pub limit-most : (f : Format) → limit f ≤ 517

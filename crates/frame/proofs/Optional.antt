@@ -21,8 +21,8 @@ use Rattle.frame.specs.declared.framing.Footer.the-variants.{Optional, R
 use Rattle.frame.specs.declared.framing.Format.{Format}
 use Rattle.frame.specs.declared.framing.Format.the-variants.{Binary, Ascii}
 use Rattle.frame.proofs.Trees.{cut≢frame, cut≢refused, refused≢frame}
-use Rattle.frame.proofs.BinaryLaws.{optional-front, required-layout, optional-spelled, required-spelled}
-use Rattle.frame.proofs.AsciiLaws.{ascii-layout-reads, ascii-spelled}
+use Rattle.frame.proofs.BinaryLaws.{optional-front, required-layout, optional-is-layout, required-is-layout}
+use Rattle.frame.proofs.AsciiLaws.{ascii-layout-reads, ascii-is-layout}
 use Rattle.frame.proofs.Shapes.{NoFrame, judge-stands}
 use Rattle.frame.proofs.Framings.{frame-sized, used-is, payload-size}
 
@@ -82,19 +82,10 @@ module _ (m : Format) (s : List ℕ) where
       let b : q ≡ p = cc in
       (judged, ap (frame judged) b, sym a)
 
-  cut-from : (v : Verdict) → withOptional m s v ≡ cut → v ≡ cut
-  cut-from cut e = refl
-  cut-from (refused judged n) e = e
-  cut-from (frame judged q) e = absurd (cut≢frame (judged + behindFrame m s judged) q (sym e))
-
   -- A frame that is read was judged.
   pub read-frame : (used : ℕ) (p : List ℕ) → read m s ≡ frame used p
       → (judged : ℕ) × (judge m s ≡ frame judged p) × (used ≡ judged + behindFrame m s judged)
   read-frame used p e = frame-from (judge m s) used p e
-
-  -- What is undecided when it is read was judged so.
-  pub judged-cut : read m s ≡ cut → judge m s ≡ cut
-  judged-cut e = cut-from (judge m s) e
 
   no-frame-with : (v : Verdict) → NoFrame v → NoFrame (withOptional m s v)
   no-frame-with cut h = tt
@@ -202,10 +193,10 @@ endings-read m p e more h k plain =
     read-stands m whole more judged p is plain ∙ alone
 
 -- The front and an ending stand in front of s.
-spelled :
+layout-with :
     (m : Format) (s p ending more : List ℕ) (used : ℕ) → Payload p → List·Memᴰ ending (endings m) →
     s ≡ (front (framingOf m) p ++ ending) ++ more → used ≡ length (front (framingOf m) p ++ ending) → IsLayout m s used p
-spelled m s p ending more used payload ends e size =
+layout-with m s p ending more used payload ends e size =
     record {
       ending = ending;
       ends = ends;
@@ -215,22 +206,22 @@ spelled m s p ending more used payload ends e size =
     }
 
 -- Behind the front stands what may be the optional byte.
-spelled-optional :
+layout-optional :
     (s p rest : List ℕ) (used : ℕ) → Payload p → s ≡ binaryFront p ++ rest →
     used ≡ length (binaryFront p) + absorbed (Binary Optional) true rest → IsLayout (Binary Optional) s used p
-spelled-optional s p [] used h e size =
-    spelled (Binary Optional) s p [] [] used h (List·Memᴰ·tail (List·Memᴰ·head refl))
+layout-optional s p [] used h e size =
+    layout-with (Binary Optional) s p [] [] used h (List·Memᴰ·tail (List·Memᴰ·head refl))
     (e ∙ sym (append-nil (binaryFront p ++ []) ∙ refl))
     (size ∙ sym (length-append (binaryFront p) []))
-spelled-optional s p (b ∷ rest) used h e size = by (eqb b footerByte) refl
+layout-optional s p (b ∷ rest) used h e size = by (eqb b footerByte) refl
   where
     by : (q : Bool) → eqb b footerByte ≡ q → IsLayout (Binary Optional) s used p
     by true q =
-        spelled (Binary Optional) s p binaryEnding rest used h (List·Memᴰ·head refl)
+        layout-with (Binary Optional) s p binaryEnding rest used h (List·Memᴰ·head refl)
         (e ∙ ap (λ (x : ℕ). binaryFront p ++ (x ∷ rest)) (eqb-true b footerByte q) ∙ sym (append-assoc (binaryFront p) binaryEnding rest))
         (size ∙ ap (λ (x : Bool). length (binaryFront p) + cond x 1 0) q ∙ sym (length-append (binaryFront p) binaryEnding))
     by false q =
-        spelled (Binary Optional) s p [] (b ∷ rest) used h (List·Memᴰ·tail (List·Memᴰ·head refl))
+        layout-with (Binary Optional) s p [] (b ∷ rest) used h (List·Memᴰ·tail (List·Memᴰ·head refl))
         (e ∙ sym (append-assoc (binaryFront p) [] (b ∷ rest)))
         (size ∙ ap (λ (x : Bool). length (binaryFront p) + cond x 1 0) q ∙ sym (length-append (binaryFront p) []))
 
@@ -238,14 +229,14 @@ spelled-optional s p (b ∷ rest) used h e size = by (eqb b footerByte) refl
 pub frame-is-layout : (m : Format) → FrameIsLayout m
 frame-is-layout (Binary Optional) s p used b e =
     let (judged, is, size) = read-frame (Binary Optional) s used p e in
-    let (rest, split, count, payload) = optional-spelled s p judged b is in
+    let (rest, split, count, payload) = optional-is-layout s p judged b is in
     let behind : drop judged s ≡ rest = ap (drop judged) split ∙ drop-at (binaryFront p) rest judged (sym count) in
-    spelled-optional s p rest used payload split (size ∙ (λ i. count i + absorbed (Binary Optional) true (behind i)))
+    layout-optional s p rest used payload split (size ∙ (λ i. count i + absorbed (Binary Optional) true (behind i)))
 frame-is-layout (Binary Required) s p used b e =
-    let (bytes, count, payload) = required-spelled s p used b (sym (read-is-judge (Binary Required) s refl) ∙ e) in
+    let (bytes, count, payload) = required-is-layout s p used b (sym (read-is-judge (Binary Required) s refl) ∙ e) in
     record { ending = binaryEnding; ends = List·Memᴰ·head refl; bytes = bytes; count = count; payload = payload }
 frame-is-layout Ascii s p used b e =
-    let (bytes, count, payload) = ascii-spelled s p used (sym (read-is-judge Ascii s refl) ∙ e) in
+    let (bytes, count, payload) = ascii-is-layout s p used (sym (read-is-judge Ascii s refl) ∙ e) in
     record { ending = asciiEnding; ends = List·Memᴰ·head refl; bytes = bytes; count = count; payload = payload }
 
 -- No check of the tree fails with this number.

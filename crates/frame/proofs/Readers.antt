@@ -17,7 +17,7 @@ use Rattle.frame.specs.Scan.{Stop, found, undecided, passed, stopOf, jud
 use Rattle.frame.specs.Scan.{stopBuffer}
 use Rattle.frame.specs.View.{part}
 use Rattle.frame.specs.Answer.{beforeScan, calledAs, calledBy, scanWhole, keptEnd, Usable, Answerable, Keeps}
-use Rattle.frame.specs.Feeding.{joined, scanHeld, thenChunk, scanLine, Stores, Leaves, KeepsCall, QuietAnswered}
+use Rattle.frame.specs.Feeding.{joined, Stores, Leaves, KeepsCall, QuietAnswered}
 use Rattle.frame.specs.declared.framing.Format.{Format}
 use Rattle.frame.specs.declared.reader.Reader.{Reader}
 use Rattle.frame.specs.declared.reader.Left.{Left}
@@ -33,7 +33,7 @@ use Rattle.frame.proofs.Framings.{limit-most}
 use Rattle.frame.proofs.Parts.{part-front}
 use Rattle.frame.proofs.Promises.{answers}
 use Rattle.frame.proofs.Scanning.{Ends, scan-facts}
-use Rattle.frame.proofs.ScanCalls.{scan-whole, scan-line}
+use Rattle.frame.proofs.ScanCalls.{scanHeld, thenChunk, scanLine, scan-whole, scan-line}
 
 -- An answer, and the part that is kept with it.
 abbrev keptAs : FeedAnswer → ℕ → ℕ → Bool → Kept

@@ -16,7 +16,7 @@ use Rattle.frame.specs.Claims.{Sized}
 use Rattle.frame.specs.Scan.{judging, judgedBytes, Stop, found, undecided, passed, Scanned, scanAs, scanFrom}
 use Rattle.frame.specs.View.{part}
 use Rattle.frame.specs.Answer.{beforeScan, calledAs, scanWhole}
-use Rattle.frame.specs.Feeding.{joined, thenChunk, scanHeld, scanLine}
+use Rattle.frame.specs.Feeding.{joined}
 use Rattle.frame.specs.declared.framing.Format.{Format}
 use Rattle.frame.proofs.Lists.{drop-next, drop-take}
 use Rattle.frame.proofs.Framings.{undecided-short}
@@ -238,6 +238,23 @@ scan-front f (suc n) place reach k s l =
     let far : ℕ = max reach (place + judgedBytes (judge f s)) in
     rw (limit-enough f s k (omega arith), drop-take 1 k s)
     (ap (scanAs (judge f s) place reach) (scan-front f n (suc place) far (k - 1) (drop 1 s) (omega arith)))
+
+-- The scan of the places among the held bytes.
+abbrev pub scanHeld : Format → List ℕ → List ℕ → Scanned
+scanHeld f held chunk = scanFrom (judge f) (length held) 0 (length held) (joined f held chunk)
+
+-- The places among the held bytes first; where all fail, the chunk's.
+abbrev pub thenChunk : Stop → Format → List ℕ → List ℕ → ℕ → ℕ → Called
+thenChunk passed f held chunk place reach = scanWhole f 0 (length held) (reach - length held) chunk
+thenChunk undecided f held chunk place reach =
+    calledAs f undecided (beforeScan (length held) 0 (length chunk)) (joined f held chunk) place reach
+thenChunk (found used p) f held chunk place reach =
+    calledAs f (found used p) (beforeScan (length held) 0 (length chunk)) (joined f held chunk) place reach
+
+-- Both.
+unfoldable pub scanLine : Format → List ℕ → List ℕ → Called
+scanLine f held chunk =
+    thenChunk (scanHeld f held chunk .stop) f held chunk (scanHeld f held chunk .place) (scanHeld f held chunk .reach)
 
 module _ (f : Format) (held chunk : List ℕ) where
   -- The joined bytes are the front of all bytes.

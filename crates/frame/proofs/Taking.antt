@@ -6,16 +6,18 @@ use native.Mathlib.Numerals.{one-add}
 use native.Mathlib.Omega.{arith}
 use mathlib.Core.Path.{_≡_, refl, sym, ap, ap₂, _∙_, subst}
 use mathlib.Core.List.{List, [], _∷_, _++_, append-nil}
-use mathlib.Core.Bool.{Bool, false}
+use mathlib.Core.Bool.{Bool, true, false}
 use lib.ListN.{length, getD, take, drop, length-append, take-append-drop}
 use lib.Seq.{drop-append-le, drop-cons, drop-length, drop-drop, take-suc, take-length, take-append-seam, drop-append-seam}
 use Rattle.frame.specs.Checks.{Verdict, cut, refused, frame}
 use Rattle.frame.specs.Framing.{checks, judge, mayFollow, absorbed}
 use Rattle.frame.specs.Rule.{output, nothing, noiseByte, handed, join}
-use Rattle.frame.specs.Reader.{Settled, settled, settleAs, settle, Called, called, stopped, oneMore, ifFrame, lineFrom, lineOn, tookFirst, lineBehind}
-use Rattle.frame.specs.Claims.{remaining, TakenIsNeeded, HeldThenChunk}
+use Rattle.frame.specs.Reader.{Settled, settled, settleAs, settle, Called, called, stopped, oneMore, ifFrame, lineFrom, lineOn, tookFirst, lineBehind, quietHeld}
+use Rattle.frame.specs.Claims.{remaining, TakenIsNeeded, HeldThenChunk, SameButMark, MarkMeansNothing}
 use Rattle.frame.specs.Scan.{judgedBytes}
+use Rattle.frame.specs.declared.framing.Footer.the-variants.{Optional, Required}
 use Rattle.frame.specs.declared.framing.Format.{Format}
+use Rattle.frame.specs.declared.framing.Format.the-variants.{Binary, Ascii}
 use Rattle.frame.proofs.Lists.{drop-take}
 use Rattle.frame.proofs.Framings.{frame-sized}
 use Rattle.frame.proofs.Optional.{absorbed-one, absorbed-there, absorbed-front}
@@ -222,6 +224,28 @@ then-chunk f follows (b ∷ h) chunk =
 
 pub held-then-chunk : HeldThenChunk
 held-then-chunk s chunk = then-chunk (s .format) (s .follows) (s .held) chunk
+
+-- Where no byte may follow, none is absorbed.
+none-follows : (m : Format) (s : List ℕ) → mayFollow m ≡ false → absorbed m true s ≡ 0
+none-follows (Binary Optional) s e = cc
+none-follows (Binary Required) [] e = refl
+none-follows (Binary Required) (b ∷ s) e = refl
+none-follows Ascii [] e = refl
+none-follows Ascii (b ∷ s) e = refl
+
+same-calls : {a b : Called} → a ≡ b → SameButMark a b
+same-calls e =
+    record { taken = ap (λ (c : Called). c .taken) e; out = ap (λ (c : Called). c .out) e; held = ap (λ (c : Called). c .held) e }
+
+-- So a line call is the same with the mark and without.
+same-line : (m : Format) (h chunk : List ℕ) → mayFollow m ≡ false → SameButMark (lineBehind m true h chunk) (lineBehind m false h chunk)
+same-line m [] [] e = record { taken = refl; out = refl; held = refl }
+same-line m [] (b ∷ chunk) e = same-calls (ap (λ (n : ℕ). tookFirst n (lineOn m [] (drop n (b ∷ chunk)))) (none-follows m (b ∷ chunk) e))
+same-line m (b ∷ h) chunk e = same-calls (ap (λ (n : ℕ). lineOn m (drop n (b ∷ h)) chunk) (none-follows m (b ∷ h) e))
+
+pub mark-means-nothing : (m : Format) → MarkMeansNothing m
+mark-means-nothing m e h chunk =
+    record { atLine = same-line m h chunk e; atQuiet = ap (λ (n : ℕ). quietHeld m (drop n h)) (none-follows m h e) }
 
 -- A call begun with st that took more than n bytes hands out no frame of the first n.
 needed-step :

@@ -3,7 +3,7 @@
 -- Assumes nothing.
 use Rattle.frame.specs.Framing.{checks}
 use Rattle.frame.specs.Claims.{LayoutReads, EndingsRead, NeverFive, FrameIsLayout, DecisionStands, UndecidedIsShort, FrameIsSized, ReadIsSized, BytesAddUp, TakenIsInside}
-use Rattle.frame.specs.Claims.{TakenIsNeeded, NeedsMoreIsTrue, HeldThenChunk, CallsFollowRule, ViewIsFeed, ViewStaysInside}
+use Rattle.frame.specs.Claims.{TakenIsNeeded, NeedsMoreIsTrue, HeldThenChunk, MarkMeansNothing, CallsFollowRule, ViewIsFeed, ViewStaysInside}
 use Rattle.frame.specs.Recovery.{CleanLine, AsciiRecovers, BinaryRecovers}
 use Rattle.frame.specs.Recovery.{LateFramesComeBack, AsciiCallsRecover, BinaryCallsRecover, CleanCalls}
 use Rattle.frame.specs.Draining.{LineDrains, NeedsMoreIsDrained, DrainFollowsRule, QuietFollowsRule, EmptyIsDrained}
@@ -69,6 +69,9 @@ needs-more-is-true = settling.needs-more-is-true
 
 pub held-then-chunk : HeldThenChunk
 held-then-chunk = taking.held-then-chunk
+
+pub mark-means-nothing : (m : Format) → MarkMeansNothing m
+mark-means-nothing = taking.mark-means-nothing
 
 pub line-drains : LineDrains
 line-drains = draining.line-drains

@@ -84,25 +84,25 @@ run-two-small s at x y e k =
     (first, mul-le-mul one second)
 
 -- The characters from a place on: the one there is the lowest byte.
-packed-next : (n i j : ℕ) (s : List ℕ) → i + 1 ≡ j → i < length s → littleEndian (take (suc n) (drop i s)) ≡ getD s i 0 + 256 * littleEndian (take n (drop j s))
-packed-next n i j s e h = rw (drop-next s i h, e)
+little-endian-next : (n i j : ℕ) (s : List ℕ) → i + 1 ≡ j → i < length s → littleEndian (take (suc n) (drop i s)) ≡ getD s i 0 + 256 * littleEndian (take n (drop j s))
+little-endian-next n i j s e h = rw (drop-next s i h, e)
 
 -- Eight characters, each counting 256 times as much as the one before.
-pub word-packed : (s : List ℕ) (at : ℕ) → at + 8 ≤ length s
+pub word-little-endian : (s : List ℕ) (at : ℕ) → at + 8 ≤ length s
     → getD s at 0 + getD s (at + 1) 0 * 0x100 + getD s (at + 2) 0 * 0x10000 + getD s (at + 3) 0 * 0x1000000 + getD s (at + 4) 0 * 0x100000000
     + getD s (at + 5) 0 * 0x10000000000 + getD s (at + 6) 0 * 0x1000000000000 + getD s (at + 7) 0 * 0x100000000000000
     ≡ littleEndian (take 8 (drop at s))
-word-packed s at h =
+word-little-endian s at h =
     omega (
       arith,
-      packed-next 7 at (at + 1) s (omega arith) (omega arith),
-      packed-next 6 (at + 1) (at + 2) s (omega arith) (omega arith),
-      packed-next 5 (at + 2) (at + 3) s (omega arith) (omega arith),
-      packed-next 4 (at + 3) (at + 4) s (omega arith) (omega arith),
-      packed-next 3 (at + 4) (at + 5) s (omega arith) (omega arith),
-      packed-next 2 (at + 5) (at + 6) s (omega arith) (omega arith),
-      packed-next 1 (at + 6) (at + 7) s (omega arith) (omega arith),
-      packed-next 0 (at + 7) (at + 8) s (omega arith) (omega arith),
+      little-endian-next 7 at (at + 1) s (omega arith) (omega arith),
+      little-endian-next 6 (at + 1) (at + 2) s (omega arith) (omega arith),
+      little-endian-next 5 (at + 2) (at + 3) s (omega arith) (omega arith),
+      little-endian-next 4 (at + 3) (at + 4) s (omega arith) (omega arith),
+      little-endian-next 3 (at + 4) (at + 5) s (omega arith) (omega arith),
+      little-endian-next 2 (at + 5) (at + 6) s (omega arith) (omega arith),
+      little-endian-next 1 (at + 6) (at + 7) s (omega arith) (omega arith),
+      little-endian-next 0 (at + 7) (at + 8) s (omega arith) (omega arith),
     )
 
 -- Where each element is a byte, all are.

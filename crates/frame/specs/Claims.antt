@@ -3,7 +3,7 @@
 use Prim.Native.Nat.{ℕ, _+_, _≤_, _<_}
 use mathlib.Core.Path.{_≡_}
 use mathlib.Core.List.{List, [], _∷_, _++_, map, List·Memᴰ}
-use mathlib.Core.Bool.{true}
+use mathlib.Core.Bool.{true, false}
 use mathlib.Core.Logic.{_⊎_}
 use lib.ListN.{length, take, drop}
 use Rattle.frame.specs.Checks.{Verdict, cut, refused, frame}
@@ -12,7 +12,7 @@ use Rattle.frame.specs.Binary.{binaryEnding}
 use Rattle.frame.specs.Ascii.{asciiEnding}
 use Rattle.frame.specs.Framing.{judge, read, mayFollow, absorbed, front, layout, framingOf, limit}
 use Rattle.frame.specs.Rule.{Output, Found, rule, payloads}
-use Rattle.frame.specs.Reader.{State, holding, Called, line, newReader, feedValuesOf, Feeds}
+use Rattle.frame.specs.Reader.{State, holding, Called, line, quiet, newReader, feedValuesOf, Feeds}
 use Rattle.frame.specs.View.{inside, Views, Stands}
 use Rattle.frame.specs.Elements.{Bytes}
 use Rattle.frame.specs.Calls.{Refused, Answered, Calls, offering}
@@ -122,6 +122,21 @@ HeldThenChunk =
     let c : Called = line s chunk in
     let whole : Called = line (holding (s .format) [] (s .follows)) (s .held ++ chunk) in
     (c .out ≡ whole .out) × (remaining c chunk ≡ remaining whole (s .held ++ chunk)) × (c .follows ≡ whole .follows)
+
+-- Two calls that give the same, but for the mark afterwards.
+pub record SameButMark (a b : Called) : Type 0 where
+  pub taken : a .taken ≡ b .taken
+  pub out : a .out ≡ b .out
+  pub held : a .held ≡ b .held
+
+-- Document 02, CR 2: in a format without an optional byte the mark means nothing. With it and without, a line call gives the same but for the mark, and a
+-- quiet call the same.
+pub record SameWithMark (m : Format) (h chunk : List ℕ) : Type 0 where
+  pub atLine : SameButMark (line (holding m h true) chunk) (line (holding m h false) chunk)
+  pub atQuiet : quiet (holding m h true) ≡ quiet (holding m h false)
+
+abbrev pub MarkMeansNothing : Format → Type 0
+MarkMeansNothing m = mayFollow m ≡ false → (h chunk : List ℕ) → SameWithMark m h chunk
 
 -- Where the view is inside the chunk, its call is the line call of the reader that it stands for, offered what stands behind the view in the chunk, and the
 -- view that follows stands for the reader that follows; where it is refused, that reader is refused so with the chunk. So lists of calls admit it.

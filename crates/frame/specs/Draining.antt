@@ -74,7 +74,7 @@ ViewReports =
     let c : Called = viewCall v chunk in
     Reports (viewRefusal v (length buf) (length chunk)) c (Follows v chunk c) v buf (feedValuesOf (a .answer)) (a .view) buf′
 
--- The bytes of a frame besides its payload, at least: those of a binary one without its footer, or with it; an ASCII one has five and its payload twice.
+-- The bytes of a frame besides its payload, at least: of a binary one 5, and 6 where the footer is required; an ASCII one has 5 and its payload twice.
 abbrev pub overhead : Format → ℕ
 overhead (Binary Optional) = 5
 overhead (Binary Required) = 6

@@ -1,15 +1,13 @@
 -- Behind the public calls: what the functions of reader.rt and view.rt answer that `feed`, `quiet` and a view's call are made of. proofs/ shows that it is
 -- what `line` and `quiet` give.
-use Prim.Native.Nat.{ℕ, _+_, _-_, _≤_}
+use Prim.Native.Nat.{ℕ, _+_, _≤_}
 use mathlib.Core.Path.{_≡_}
 use mathlib.Core.List.{List, _++_}
 use mathlib.Core.Bool.{Bool}
 use lib.ListN.{length, take, drop}
-use Rattle.frame.specs.Framing.{judge, limit}
+use Rattle.frame.specs.Framing.{limit}
 use Rattle.frame.specs.Reader.{Called, lineOn, lineBehind, AfterQuiet, feedValuesOf, quietValuesOf, valuesAt, bufferAt}
 use Rattle.frame.specs.View.{part}
-use Rattle.frame.specs.Scan.{Stop, found, undecided, passed, Scanned, scanFrom}
-use Rattle.frame.specs.Answer.{beforeScan, calledAs, scanWhole}
 use Rattle.frame.specs.declared.framing.Format.{Format}
 use Rattle.frame.specs.declared.answer.Kept.{Kept}
 use Rattle.frame.specs.declared.reader.Left.{Left}
@@ -19,21 +17,6 @@ use Rattle.frame.specs.declared.reader.Joined.{Joined}
 -- The held bytes and as much of the chunk as a frame that begins in them can have.
 abbrev pub joined : Format → List ℕ → List ℕ → List ℕ
 joined f held chunk = held ++ take (limit f) chunk
-
-abbrev pub scanHeld : Format → List ℕ → List ℕ → Scanned
-scanHeld f held chunk = scanFrom (judge f) (length held) 0 (length held) (joined f held chunk)
-
--- The places among the held bytes first; where all fail, the chunk's.
-abbrev pub thenChunk : Stop → Format → List ℕ → List ℕ → ℕ → ℕ → Called
-thenChunk passed f held chunk place reach = scanWhole f 0 (length held) (reach - length held) chunk
-thenChunk undecided f held chunk place reach =
-    calledAs f undecided (beforeScan (length held) 0 (length chunk)) (joined f held chunk) place reach
-thenChunk (found used p) f held chunk place reach =
-    calledAs f (found used p) (beforeScan (length held) 0 (length chunk)) (joined f held chunk) place reach
-
-unfoldable pub scanLine : Format → List ℕ → List ℕ → Called
-scanLine f held chunk =
-    thenChunk (scanHeld f held chunk .stop) f held chunk (scanHeld f held chunk .place) (scanHeld f held chunk .reach)
 
 -- Bytes joined in front of a larger array.
 pub record Joins (f : Format) (held chunk : List ℕ) (j : Joined) : Type 0 where

@@ -11,7 +11,6 @@ use Rattle.frame.specs.Framing.{inFront}
 use Rattle.frame.specs.Refusal.{numberOf}
 use Rattle.frame.specs.declared.framing.Framing.{Framing}
 use Rattle.frame.specs.declared.framing.Framing.the-variants.{Binary as BinaryFraming, Ascii as AsciiFraming}
-use Rattle.frame.specs.declared.framing.Footer.the-variants.{Optional, Required}
 use Rattle.frame.specs.declared.framing.Format.{Format}
 use Rattle.frame.specs.declared.framing.Format.the-variants.{Binary, Ascii}
 use Rattle.frame.specs.declared.framing.Judged.{Judged}
@@ -36,12 +35,6 @@ HasPayload Ascii s n = (payloadEnd Ascii n ≤ length s) × Digits (take (2 * n)
 abbrev pub frameLength : Framing → ℕ → ℕ
 frameLength BinaryFraming n = n + 6
 frameLength AsciiFraming n = 2 * n + 5
-
--- How many bytes of it are judged in a format: all but an optional one.
-abbrev pub judgedLength : Format → ℕ → ℕ
-judgedLength (Binary Optional) n = n + 5
-judgedLength (Binary Required) n = n + 6
-judgedLength Ascii n = 2 * n + 5
 
 -- The verdict that an answer stands for, where s was judged.
 abbrev pub verdictOf : Format → List ℕ → Judged → Verdict

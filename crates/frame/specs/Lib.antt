@@ -1,6 +1,7 @@
 -- What the frame crate is about, in three parts. Document 01's "piece" is called chunk here, and its "wants more" needs more.
 --
--- First, what must be believed: the formats and the rule in document 01's order, and what each public call promises.
+-- First, what must be believed: the formats and the rule in document 01's order, what each public call promises, and, in Drain, what calls over a chunk
+-- give together, which the promises of the crate listing speak of.
 pub mod Checks
 pub mod Binary
 pub mod Digit

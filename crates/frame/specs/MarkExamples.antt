@@ -25,7 +25,8 @@ pub record NextCallTakesIt : Type 0 where
   pub once : line (marked []) (0x04 ∷ 0x04 ∷ []) ≡ called 2 (output [] 1) [] false
   pub other : line (marked []) (0x05 ∷ 0x04 ∷ []) ≡ called 2 (output [] 2) [] false
 
--- In a format without an optional byte a mark that was set by hand changes nothing but that it stays where no byte is held or offered.
+-- In a format without an optional byte a mark that was set by hand changes nothing but that it stays where no byte is held or offered (MarkMeansNothing says
+-- it of all bytes).
 pub record OtherFormats : Type 0 where
   pub required : line (holding (Binary Required) [] true) (0x04 ∷ []) ≡ called 1 (output [] 1) [] false
   pub ascii : line (holding Ascii [] true) (0x04 ∷ []) ≡ called 1 (output [] 1) [] false

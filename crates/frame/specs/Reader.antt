@@ -20,7 +20,7 @@ use Rattle.frame.specs.declared.answer.QuietAnswer.{QuietAnswer}
 use Rattle.frame.specs.declared.answer.QuietAnswer.the-variants.{Frame as QuietFrame, Empty, Refused as QuietRefused}
 
 -- What a reader's calls depend on: its format, the bytes that it holds, and the mark of document 02, CR 2: whether an optional byte may still follow the
--- last frame and belong to it. In a format without such a byte it changes no frame, noise or count of bytes taken.
+-- last frame and belong to it. In a format without such a byte it means nothing (MarkMeansNothing, Claims.antt).
 pub record State : Type 0 where
   pub format : Format
   pub held : List ℕ
@@ -88,8 +88,8 @@ lineOn m h chunk = lineFrom m (settle m (judge m) h) chunk
 abbrev pub tookFirst : ℕ → Called → Called
 tookFirst n c = called (n + c .taken) (c .out) (c .held) (c .follows)
 
--- The line call by what is held and the mark. An optional byte that may follow is dealt with first: in front of held bytes it is dropped; where nothing
--- is held, it is taken from the chunk's front, and with an empty chunk the mark stays. It is no noise.
+-- The line call by what is held and the mark. An optional byte that may follow is dealt with first: where it is the first held byte, it is dropped; where
+-- nothing is held, it is taken from the chunk's front, and with an empty chunk the mark stays. It is no noise.
 abbrev pub lineBehind : Format → Bool → List ℕ → List ℕ → Called
 lineBehind m follows [] [] = called 0 nothing [] follows
 lineBehind m follows [] (b ∷ chunk) =

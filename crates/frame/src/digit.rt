@@ -22,7 +22,7 @@ pub(crate) fn digit_value(c: u8) -> u8
     c % 16 + 9 * (c / 64)
 }
 
-// Whether the 16 characters from `at` on are digits. All are looked at, in a loop of fixed length: that is made vector code.
+// Whether the 16 characters from `at` on are digits. All are looked at, in a loop of fixed length, which is vectorised.
 fn block_is_digits(s: &[u8], at: usize) -> bool
     requires { ⌜ at + 16 ≤ length (now s) ⌝ }
     ensures { λ r. ⌜ r ≡ allPass isDigit (take 16 (drop at (now (s .entry)))) ⌝ }

@@ -19,7 +19,7 @@ fn byte_at(s: &[u8], i: usize) -> u8
     digit_value(s[i]) * 16 + digit_value(s[i + 1])
 }
 
-// The 16 bytes whose digits begin at `at`, in an array of their own: that is made vector code, where stores into a slice are not.
+// The 16 bytes whose digits begin at `at`, in an array of their own: such a loop is vectorised, stores into a slice are not.
 fn decode_block(s: &[u8], at: usize) -> [u8; 16]
     requires { ⌜ at + 32 ≤ length (now s) ⌝ }
     requires { ⌜ Digits (now s) ⌝ }
@@ -95,8 +95,8 @@ fn rest_sum(s: &[u8], from: usize) -> u32
     tail_sum(s, from)
 }
 
-// The sum of the bytes that the digits of s stand for: by blocks of 16 bytes, and then the rest. A loop over sums of blocks would be made vector code
-// across the blocks, byte by byte, so each block is decoded first.
+// The sum of the bytes that the digits of s stand for: by blocks of 16 bytes, and then the rest. Each block is decoded before it is summed: a loop over sums
+// of blocks is vectorised across the blocks, byte by byte.
 pub(crate) fn pair_sum(s: &[u8]) -> u32
     requires { ⌜ length (now s) ≤ 514 ⌝ }
     requires { ⌜ Digits (now s) ⌝ }

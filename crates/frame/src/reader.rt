@@ -25,7 +25,7 @@ ghost use Rattle.frame.specs.Answer.{scanWhole};
 ghost use Rattle.frame.specs.Feeding.{Joins, Stores, Leaves, LeavesHeld, LeavesLine, QuietAnswered, ChunkFed, HeldFed};
 
 // A reader's state, by value: its format; the bytes that it holds, the first `count` of `held`; and `follows`, whether an optional byte, the 04 of a frame that
-// may lack it, may still follow the last frame and belong to it. In other formats `follows` is of no account.
+// may lack it, may still follow the last frame and belong to it. In other formats `follows` means nothing.
 pub struct Reader {
     pub format: Format,
     pub held: [u8; 517],
@@ -51,7 +51,7 @@ struct Joined {
     size: usize,
 }
 
-// An answer, how many bytes are held afterwards, the first of an array that was lent, and whether an optional byte may follow.
+// An answer, how many bytes are held afterwards, the first of the caller's array, and whether an optional byte may follow.
 struct Left {
     answer: FeedAnswer,
     count: usize,
@@ -334,9 +334,9 @@ impl Reader {
 
     // Takes bytes of a chunk until the next frame is settled, whose payload goes to the front of buf; the rest of buf stays. A 04 that follows the last
     // frame is taken first, and is no noise; that of the frame which this call hands out is left for the next. Bytes that were taken behind the frame,
-    // where an earlier start failed late, are held. Call it again with the chunk's rest, even an empty one, until more bytes are
-    // needed. Refused with 16 where the state holds more bytes than a frame can have, 13 where buf has under 256 bytes, 15 where the chunk has over
-    // 65,536; a refusal leaves state and buffer.
+    // where an earlier start failed late, are held. Call it again with the chunk's rest, even an empty one, until more bytes are needed. Refused with 16
+    // where the state holds more bytes than a frame can have, 13 where buf has under 256 bytes, 15 where the chunk has over 65,536; a refusal leaves state
+    // and buffer.
     pub fn feed(mut self, chunk: &[u8], buf: &mut [u8]) -> Fed
         ensures { λ r. ⌜ Feeds self (now (chunk .entry)) (now (buf .entry)) r (now (buf .exit)) ⌝ }
     {
@@ -371,9 +371,9 @@ impl Reader {
         }
     }
 
-    // The line was quiet: the held bytes end their segment. Gives the next frame in them, as `feed` does, without a 04 in front that follows the last frame,
-    // or a new reader's state, behind which a 04 is noise. Call it
-    // again until it is empty. Refused with 16, 13 as `feed` is.
+    // The line was quiet: the held bytes end their segment. A 04 in front that follows the last frame is dropped; then it gives the next frame in them, as
+    // `feed` does, or answers that they are empty, with a new reader's state, behind which a 04 is noise. Call it again until then. Refused with 16, 13 as
+    // `feed` is.
     pub fn quiet(self, buf: &mut [u8]) -> Quieted
         ensures { λ r. ⌜ Quiets self (now (buf .entry)) r (now (buf .exit)) ⌝ }
     {

@@ -47,7 +47,7 @@ pub(crate) fn smaller(a: usize, b: usize) -> usize
     if a < b { a } else { b }
 }
 
-// Whether none of the 16 bytes from `at` on is b. All are looked at, in a loop of fixed length: that is made vector code.
+// Whether none of the 16 bytes from `at` on is b. All are looked at, in a loop of fixed length, which is vectorised.
 fn block_lacks(s: &[u8], at: usize, b: u8) -> bool
     requires { ⌜ at + 16 ≤ length (now s) ⌝ }
     ensures { λ r. ⌜ r ≡ allPass (other b) (take 16 (drop at (now (s .entry)))) ⌝ }

@@ -81,7 +81,8 @@ fn feed_view(format: Format, w: &[u8], count: usize, follows: bool, buf: &mut [u
     requires { ⌜ count ≤ limit format ⌝ }
     requires { ⌜ length (now w) ≤ 65536 ⌝ }
     requires { ⌜ 256 ≤ length (now buf) ⌝ }
-    ensures { λ r. ⌜ KeepsCall (lineBehind format follows (take count (now (w .entry))) (drop count (now (w .entry)))) count (now (w .entry)) r (now (buf .entry)) (now (buf .exit)) ⌝ }
+    ensures { λ r. ⌜ KeepsCall (lineBehind format follows (take count (now (w .entry))) (drop count (now (w .entry)))) count (now (w .entry))
+        r (now (buf .entry)) (now (buf .exit)) ⌝ }
 {
     if w.len() == 0 {
         return Kept {
@@ -105,9 +106,9 @@ fn feed_view(format: Format, w: &[u8], count: usize, follows: bool, buf: &mut [u
 
 impl View {
     // The line call of a reader that holds the view's bytes, offered what stands behind them in the chunk: an optional byte that follows the last frame is
-    // dropped where it is held, and taken first where it is offered. Call it again with the view that follows and
-    // the same chunk until more bytes are needed. Refused with 16 where the view's bytes do not lie in the chunk or are more than a frame can have, 13
-    // where buf has under 256 bytes, 15 where the chunk has over 65,536; a refusal leaves view and buffer.
+    // dropped where it is held, and taken first where it is offered. Call it again with the view that follows and the same chunk until more bytes are
+    // needed. Refused with 16 where the view's bytes do not lie in the chunk or are more than a frame can have, 13 where buf has under 256 bytes, 15 where
+    // the chunk has over 65,536; a refusal leaves view and buffer.
     pub fn feed(self, chunk: &[u8], buf: &mut [u8]) -> Viewed
         ensures { λ r. ⌜ Views self (now (chunk .entry)) (now (buf .entry)) r (now (buf .exit)) ⌝ }
     {

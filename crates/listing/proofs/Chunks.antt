@@ -218,30 +218,30 @@ number-some BadState e = true≢false (sym e)
 -- What the values of a call's answer say where its number is 0.
 module _ {S : Type 0} {number : ℕ} (c : Called) {Next : S → Type 0} {s : S} {buf : List ℕ} {v : Values} {s′ : S} {buf′ : List ℕ}
     (h : Reports number c Next s buf v s′ buf′) (z : number ≡ 0) where
-  said : Answered v
-  said = by (eqb (v .number) 0) refl
+  answered : Answered v
+  answered = by (eqb (v .number) 0) refl
     where
       by : (q : Bool) → eqb (v .number) 0 ≡ q → eqb (v .number) 0 ≡ true
       by true e = e
       by false e = absurd (true≢false (ap (λ (n : ℕ). eqb n 0) (sym z) ∙ h .refused e .0))
 
-  pub says-frame : {taken more len : ℕ} → v ≡ frameValues taken more len → c .out ≡ one (take len buf′) more
-  says-frame e = sym (h .answered said .1) ∙ ap (λ (x : Values). outOf x buf′) e
+  pub reports-frame : {taken more len : ℕ} → v ≡ frameValues taken more len → c .out ≡ one (take len buf′) more
+  reports-frame e = sym (h .answered answered .1) ∙ ap (λ (x : Values). outOf x buf′) e
 
-  pub says-none : {taken more : ℕ} → v ≡ noFrameValues taken more → c .out ≡ none more
-  says-none e = sym (h .answered said .1) ∙ ap (λ (x : Values). outOf x buf′) e
+  pub reports-none : {taken more : ℕ} → v ≡ noFrameValues taken more → c .out ≡ none more
+  reports-none e = sym (h .answered answered .1) ∙ ap (λ (x : Values). outOf x buf′) e
 
-  pub says-inside : {taken more len : ℕ} → v ≡ frameValues taken more len → len ≤ length buf′
-  says-inside e = subst (λ (x : Values). x .len ≤ length buf′) e (h .inside)
+  pub reports-inside : {taken more len : ℕ} → v ≡ frameValues taken more len → len ≤ length buf′
+  reports-inside e = subst (λ (x : Values). x .len ≤ length buf′) e (h .inside)
 
-  pub says-taken : {taken more len : ℕ} → v ≡ frameValues taken more len → taken ≡ c .taken
-  says-taken e = sym (ap (λ (x : Values). x .taken) e) ∙ h .answered said .2
+  pub reports-taken : {taken more len : ℕ} → v ≡ frameValues taken more len → taken ≡ c .taken
+  reports-taken e = sym (ap (λ (x : Values). x .taken) e) ∙ h .answered answered .2
 
-  pub says-next : Next s′
-  says-next = h .answered said .3
+  pub reports-next : Next s′
+  reports-next = h .answered answered .3
 
-  pub says-refused : (r : Refusal) → v ≡ refusalValues (numberOf r) → ⊥
-  says-refused r e = number-some r (ap (λ (x : Values). eqb (x .number) 0) (sym e) ∙ said)
+  pub reports-refused : (r : Refusal) → v ≡ refusalValues (numberOf r) → ⊥
+  reports-refused r e = number-some r (ap (λ (x : Values). eqb (x .number) 0) (sym e) ∙ answered)
 
 -- A view's call over a chunk that is not too long is not refused.
 pub view-free : (v : View) (chunk buf : List ℕ) → inside v (length chunk) ≡ true → length buf ≡ 256 → length chunk ≤ 65536 →

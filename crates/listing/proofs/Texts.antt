@@ -87,18 +87,6 @@ pub partly-put-part :
     end + length part ≤ length out
 partly-put-part part rest room g = omega (arith, simp length-append at (partly-put-room room g))
 
--- Some parts, and then others.
-pub partly-put-on :
-    {out₀ out after whole rest left : List ℕ} {at end next : ℕ} → at + length whole ≤ length out₀ → PartlyPut out₀ at whole rest end out →
-    PartlyPut out end rest left next after → PartlyPut out₀ at whole left next after
-partly-put-on {out₀} {out} {after} {whole} {rest} {left} room g h =
-    record {
-      done = g .done ++ h .done;
-      puts = puts-append (omega arith) (g .puts) (h .puts);
-      all = append-assoc (g .done) (h .done) left ∙ ap (λ (s : List ℕ). g .done ++ s) (h .all) ∙ g .all;
-      long = h .long ∙ g .long;
-    }
-
 -- Text in two parts: there is room for the first, then for the second, and where both are put, it is put.
 pub first-room :
     (out : List ℕ) (at : ℕ) (first second : List ℕ) {whole : List ℕ} → first ++ second ≡ whole → at + length whole ≤ length out → at + length first ≤ length out

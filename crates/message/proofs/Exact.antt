@@ -13,7 +13,7 @@ use Rattle.message.specs.Options.{optionBytes}
 use Rattle.message.specs.ToModule.{Order, requestLayout, requestRefusal, addressBytes, orderLayout, orderRefusal}
 use Rattle.message.specs.FromModule.{deliveryLayout, deliveryRefusal, noticeLayout, noticeRefusal}
 use Rattle.message.specs.Setup.{stateByte}
-use Rattle.message.specs.Claims.{SpellsRequest, requests, orders, deliveries, notices, family}
+use Rattle.message.specs.Claims.{EncodesRequest, requests, orders, deliveries, notices, family}
 use Rattle.message.specs.Claims.{MessageIsSized, DataIsInside, WhatIsReadIsWritten, RefusesNoMore, ReadingIsExact}
 use Rattle.message.specs.declared.to_module.Address.{Address}
 use Rattle.message.specs.declared.to_module.Address.the-variants.{Plain, Extended as ExtendedAddress}
@@ -41,7 +41,7 @@ FromWritten p (bare m) = (noticeRefusal m ≡ 0) × (length (noticeLayout m) ≤
 -- The payload is the layout of what reading gives, but for the order of options.
 abbrev ToExact : List ℕ → Meaning Request Order → Type 0
 ToExact p (refused n) = Unit {0}
-ToExact p (carrying m start) = SpellsRequest p m (drop start p)
+ToExact p (carrying m start) = EncodesRequest p m (drop start p)
 ToExact p (bare m) = p ≡ orderLayout m
 
 abbrev FromExact : List ℕ → Meaning Delivery Notice → Type 0
@@ -61,7 +61,7 @@ no-longer : (p : List ℕ) (address : Address) (at : ℕ) {r : Meaning Request O
     length (addressBytes address (byteAt p 2)) ≡ at → at ≤ length p → (s : Sent p address at r) →
     length (addressBytes address (byteAt p 2) ++ (optionBytes (s .options) ++ drop (s .end) p)) ≤ length p
 no-longer p address at front long s =
-    simp (length-append, length-drop) (omega (arith, front, s .spelled .ends, as-written (s .spelled), ends-inside p at long (s .spelled)))
+    simp (length-append, length-drop) (omega (arith, front, s .encoded .ends, as-written (s .encoded), ends-inside p at long (s .encoded)))
 
 -- A payload of at most 256 bytes.
 module _ (p : List ℕ) (most : length p ≤ 256) where
@@ -70,10 +70,10 @@ module _ (p : List ℕ) (most : length p ≤ 256) where
   to-written (changed plain command long fixed zeros more is) = subst (ToWritten p) is (rw plain, lit≤ tt)
   to-written (to-plain plain command long s) =
       subst (ToWritten p) (s .is)
-      (rw (plain, s .spelled .allowed), omega (arith, most, no-longer p (Plain (byteAt p 0)) 3 refl long s))
+      (rw (plain, s .encoded .allowed), omega (arith, most, no-longer p (Plain (byteAt p 0)) 3 refl long s))
   to-written (to-extended place command long allowed s) =
       subst (ToWritten p) (s .is)
-      (rw (allowed, s .spelled .allowed), omega (arith, most, no-longer p (ExtendedAddress (longAt p 3)) 7 refl long s))
+      (rw (allowed, s .encoded .allowed), omega (arith, most, no-longer p (ExtendedAddress (longAt p 3)) 7 refl long s))
   to-written (to-settings two place command listed is) = subst (ToWritten p) is (rw listed, omega (arith, length-drop 2 p))
   to-written (commanded c place command long is) = subst (ToWritten p) is (refl, lit≤ tt)
 
@@ -94,8 +94,8 @@ module _ (p : List ℕ) where
   to-inside : {r : Meaning Request Order} → ToWay p r → Inside p r
   to-inside (to-simple two plain low is) = subst (Inside p) is two
   to-inside (changed plain command long fixed zeros more is) = subst (Inside p) is tt
-  to-inside (to-plain plain command long s) = subst (Inside p) (s .is) (ends-inside p 3 long (s .spelled))
-  to-inside (to-extended place command long allowed s) = subst (Inside p) (s .is) (ends-inside p 7 long (s .spelled))
+  to-inside (to-plain plain command long s) = subst (Inside p) (s .is) (ends-inside p 3 long (s .encoded))
+  to-inside (to-extended place command long allowed s) = subst (Inside p) (s .is) (ends-inside p 7 long (s .encoded))
   to-inside (to-settings two place command listed is) = subst (Inside p) is two
   to-inside (commanded c place command long is) = subst (Inside p) is tt
 
@@ -116,13 +116,13 @@ module _ (p : List ℕ) where
 reordered : (p : List ℕ) → Bytes p → (address : Address) (at : ℕ) {r : Meaning Request Order} →
     p ≡ addressBytes address (byteAt p 2) ++ drop at p → Sent p address at r → ToExact p r
 reordered p h address at front s =
-    let split : drop at p ≡ s .spelled .string ++ drop (s .end) p = left-behind p at (s .spelled) in
-    let string : Bytes (s .spelled .string) = bytes-front (s .spelled .string) (drop (s .end) p) (subst Bytes split (bytes-drop at p h)) in
+    let split : drop at p ≡ s .encoded .string ++ drop (s .end) p = left-behind p at (s .encoded) in
+    let string : Bytes (s .encoded .string) = bytes-front (s .encoded .string) (drop (s .end) p) (subst Bytes split (bytes-drop at p h)) in
     subst (ToExact p) (s .is)
     (record {
-      groups = all-groups (s .spelled);
-      order = in-order (s .spelled);
-      bytes = front ∙ ap (λ l. addressBytes address (byteAt p 2) ++ l) (split ∙ ap (λ l. l ++ drop (s .end) p) (made-of (s .spelled) string));
+      groups = all-groups (s .encoded);
+      order = in-order (s .encoded);
+      bytes = front ∙ ap (λ l. addressBytes address (byteAt p 2) ++ l) (split ∙ ap (λ l. l ++ drop (s .end) p) (made-of (s .encoded) string));
     })
 
 -- A state of 0 or 1 is the byte of what it says.
@@ -215,7 +215,7 @@ pub refuses-no-more : RefusesNoMore
 refuses-no-more k m r = what-is-read-is-written k (family k .layoutOf m) m r .0
 
 pub reading-is-exact : ReadingIsExact
-reading-is-exact requests p m h r = subst (λ dat. SpellsRequest p (m .0) dat) (r .part) (to-exact p h (to-way p tt (r .is)))
+reading-is-exact requests p m h r = subst (λ dat. EncodesRequest p (m .0) dat) (r .part) (to-exact p h (to-way p tt (r .is)))
 reading-is-exact orders p m h e = to-exact p h (to-way p tt e)
 reading-is-exact deliveries p m h r = subst (λ dat. p ≡ deliveryLayout (m .0) dat) (r .part) (from-exact p h (from-way p tt (r .is)))
 reading-is-exact notices p m h e = from-exact p h (from-way p tt e)

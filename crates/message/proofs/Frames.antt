@@ -9,6 +9,7 @@ use lib.Dec.{lit<, lit≤}
 use lib.ListN.{length, replicate}
 use Rattle.frame.specs.Checks.{frame}
 use Rattle.frame.specs.Framing.{read, layout, framingOf}
+use Rattle.frame.specs.Rule.{output}
 use Rattle.frame.specs.Elements.{Bytes}
 use Rattle.frame.specs.Claims.{Payload}
 use Rattle.frame.specs.Recovery.{none, another, payloadIn}
@@ -123,7 +124,7 @@ module _ (p : List ℕ) (fits : Fits p) (some : 1 ≤ length p) (most : length p
         single = λ more. layout-reads format p more payload;
         calls = λ out c.
             clean-calls format (layout f p ∷ []) out (another (record { payload = p; reads = alone }) none) (rw append-nil c)
-            ∙ ap (λ v. record { frames = payloadIn v ∷ []; noise = 0 }) alone;
+            ∙ ap (λ v. output (payloadIn v ∷ []) 0) alone;
       }
 
   frame-back : (f : Framing) (format : Format) → framingOf format ≡ f → FrameReadsBack f format p

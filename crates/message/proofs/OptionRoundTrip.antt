@@ -44,7 +44,7 @@ pub record Ends (o : Options) (b : List ℕ) (o′ : Options) : Type 0 where
 none : (o : Options) → Takes o [] o
 none o = record { reads = λ k s. rw add-zero }
 
--- Two pieces in a row.
+-- Two groups in a row.
 pub and-then : {b c : List ℕ} {o o′ o″ : Options} → Takes o b o′ → Ends o′ c o″ → Ends o (b ++ c) o″
 and-then {b} {c} {o} {o′} {o″} f g =
     let place : (k : ℕ) → k + length b + length c ≡ k + length (b ++ c) = λ k. simp length-append (omega arith) in
@@ -62,7 +62,7 @@ two k = omega arith
 three : (k : ℕ) → k + 1 + 1 + 1 ≡ k + 3
 three k = omega arith
 
--- Each piece of the options gives its field, whatever the others are.
+-- Each group of the options gives its field, whatever the others are.
 module _ {r : MaybeByte} {l u i : MaybeWord} {p n s : Bool} where
   pub ack : (a : Bool) → Takes (with false r l u i p n s) (flagBytes 0x01 a) (with a r l u i p n s)
   unfolding optionsFrom hasOption isOption expectedAfter givenAfter giveFlag

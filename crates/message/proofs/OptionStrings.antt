@@ -55,7 +55,7 @@ Open (secondOf id a) o = (v : ℕ) → Adds o (id ∷ bytes2 v) (giveWord o id v
 
 -- The front of s is an option string, or the rest of one, behind the options `given`; it gives the options o and ends before `end`: the groups
 -- of the options that it adds one behind another, with a retry byte that is allowed.
-pub record Spelled (e : Expected) (given : Options) (at : ℕ) (s : List ℕ) (o : Options) (end : ℕ) : Type 0 where
+pub record Encoded (e : Expected) (given : Options) (at : ℕ) (s : List ℕ) (o : Options) (end : ℕ) : Type 0 where
   pub string : List ℕ
   pub rest : List ℕ
   pub split : s ≡ string ++ rest
@@ -68,8 +68,8 @@ pub record Spelled (e : Expected) (given : Options) (at : ℕ) (s : List ℕ) (o
 
 module _ (e : Expected) (given : Options) (b : ℕ) {at : ℕ} {s : List ℕ} {o : Options} {end : ℕ} where
   -- One byte more of an option that is begun.
-  goes-on : (e′ : Expected) → ((l : List ℕ) → begun e ++ (b ∷ l) ≡ begun e′ ++ l) → Spelled e′ given (at + 1) s o end →
-      Spelled e given at (b ∷ s) o end
+  goes-on : (e′ : Expected) → ((l : List ℕ) → begun e ++ (b ∷ l) ≡ begun e′ ++ l) → Encoded e′ given (at + 1) s o end →
+      Encoded e given at (b ∷ s) o end
   goes-on e′ same r =
       record {
         string = b ∷ r .string;
@@ -86,7 +86,7 @@ module _ (e : Expected) (given : Options) (b : ℕ) {at : ℕ} {s : List ℕ} {o
   -- The last byte of an option: its group is added.
   gives : (g : List ℕ) (given′ : Options) → ((l : List ℕ) → length (begun e ++ (b ∷ l)) ≡ length g + length l) →
       ((l : List ℕ) → Bytes (begun e ++ (b ∷ l)) → (begun e ++ (b ∷ l) ≡ g ++ l) × Bytes l) → Adds given g given′ →
-      Spelled option given′ (at + 1) s o end → Spelled e given at (b ∷ s) o end
+      Encoded option given′ (at + 1) s o end → Encoded e given at (b ∷ s) o end
   gives g given′ sized same adds r =
       record {
         string = b ∷ r .string;
@@ -105,7 +105,7 @@ module _ (e : Expected) (given : Options) (b : ℕ) {at : ℕ} {s : List ℕ} {o
 record Follows (o : Options) (id : ℕ) (e : Expected) (given : Options) : Type 0 where
   free : Open e given
   retries : given .retries ≡ o .retries
-  extends : {at : ℕ} {s : List ℕ} {all : Options} {end : ℕ} → Spelled e given (at + 1) s all end → Spelled option o at (id ∷ s) all end
+  extends : {at : ℕ} {s : List ℕ} {all : Options} {end : ℕ} → Encoded e given (at + 1) s all end → Encoded option o at (id ∷ s) all end
 
 flag-follows : (o : Options) (id : ℕ) (given : Options) → given .retries ≡ o .retries → Adds o (id ∷ []) given → Follows o id option given
 flag-follows o id given kept adds =
@@ -162,7 +162,7 @@ never e = let z : _≡_ {A = ℕ} 0 1 = cc in absurd (omega arith)
 
 -- A string of just FF.
 ended : (given : Options) (at id : ℕ) (s : List ℕ) (o : Options) (end : ℕ) → retryAllowed (given .retries) ≡ true → id ≡ 0xFF →
-    opted given (at + 1) ≡ opted o end → Spelled option given at (id ∷ s) o end
+    opted given (at + 1) ≡ opted o end → Encoded option given at (id ∷ s) o end
 ended given at id s o end allowed ff e =
     let same : given ≡ o = cc in
     record {
@@ -178,11 +178,11 @@ ended given at id s o end allowed ff e =
     }
 
 -- Whatever is read as an option string is one.
-pub spelled : (s : List ℕ) (e : Expected) (given : Options) (at : ℕ) (o : Options) (end : ℕ) → Open e given →
-    retryAllowed (given .retries) ≡ true → optionsFrom e given at s ≡ opted o end → Spelled e given at s o end
+pub encoded : (s : List ℕ) (e : Expected) (given : Options) (at : ℕ) (o : Options) (end : ℕ) → Open e given →
+    retryAllowed (given .retries) ≡ true → optionsFrom e given at s ≡ opted o end → Encoded e given at s o end
 unfolding optionsFrom
-spelled [] e given at o end free allowed r = never r
-spelled (id ∷ s) option given at o end free allowed r =
+encoded [] e given at o end free allowed r = never r
+encoded (id ∷ s) option given at o end free allowed r =
     choose (eqb id 0xFF) r (λ ff ends. ended given at id s o end allowed (eqb-true id 0xFF ff) ends)
     (λ other goes.
     choose (hasOption given id) goes (λ has wrong. never wrong)
@@ -190,24 +190,24 @@ spelled (id ∷ s) option given at o end free allowed r =
     choose (isOption id) on
     (λ known rest.
     let f = follows given id known new in
-    f .extends (spelled s (expectedAfter id) (givenAfter given id) (at + 1) o end (f .free)
+    f .extends (encoded s (expectedAfter id) (givenAfter given id) (at + 1) o end (f .free)
     (subst (λ x. retryAllowed x ≡ true) (sym (f .retries)) allowed) rest))
     (λ unknown wrong. never wrong)))
-spelled (b ∷ s) retryByte given at o end free allowed r =
+encoded (b ∷ s) retryByte given at o end free allowed r =
     choose (isRetry b) r
     (λ retry rest.
     gives retryByte given b (0x02 ∷ b ∷ []) (giveRetries given b) (λ l. omega arith) (λ l h. (refl, h .1 .1)) (free b)
-    (spelled s option (giveRetries given b) (at + 1) o end tt retry rest))
+    (encoded s option (giveRetries given b) (at + 1) o end tt retry rest))
     (λ bare wrong. never wrong)
-spelled (a ∷ s) (firstOf id) given at o end free allowed r =
-    goes-on (firstOf id) given a (secondOf id a) (λ l. refl) (spelled s (secondOf id a) given (at + 1) o end free allowed r)
-spelled (b ∷ s) (secondOf id a) given at o end free allowed r =
+encoded (a ∷ s) (firstOf id) given at o end free allowed r =
+    goes-on (firstOf id) given a (secondOf id a) (λ l. refl) (encoded s (secondOf id a) given (at + 1) o end free allowed r)
+encoded (b ∷ s) (secondOf id a) given at o end free allowed r =
     let v : ℕ = a * 256 + b in
     gives (secondOf id a) given b (id ∷ bytes2 v) (giveWord given id v) (λ l. omega arith) (word-same id a b) (free v)
-    (spelled s option (giveWord given id v) (at + 1) o end tt allowed r)
+    (encoded s option (giveWord given id v) (at + 1) o end tt allowed r)
 
 -- What is behind an option string is what is left from its end on.
-pub left-behind : (p : List ℕ) (at : ℕ) {o : Options} {end : ℕ} (r : Spelled option noOptions at (drop at p) o end) →
+pub left-behind : (p : List ℕ) (at : ℕ) {o : Options} {end : ℕ} (r : Encoded option noOptions at (drop at p) o end) →
     drop at p ≡ r .string ++ drop end p
 left-behind p at {o} {end} r =
     let rest : drop (length (r .string)) (drop at p) ≡ r .rest =
@@ -215,7 +215,7 @@ left-behind p at {o} {end} r =
     r .split ∙ ap (λ l. r .string ++ l) (sym rest ∙ drop-drop (length (r .string)) at p ∙ ap (λ n. drop n p) (sym (r .ends)))
 
 -- All groups of the options: those of a whole string, and empty ones.
-module _ {at : ℕ} {s : List ℕ} {o : Options} {end : ℕ} (r : Spelled option noOptions at s o end) where
+module _ {at : ℕ} {s : List ℕ} {o : Options} {end : ℕ} (r : Encoded option noOptions at s o end) where
   abbrev pub all-groups : List (List ℕ)
   all-groups = r .groups ++ empty (optionGroups o)
 
@@ -232,7 +232,7 @@ module _ {at : ℕ} {s : List ℕ} {o : Options} {end : ℕ} (r : Spelled option
   as-written = r .long ∙ ap length (sym (with-empty (r .groups) (optionGroups o))) ∙ as-long in-order
 
 -- And it ends inside the payload, or at its end.
-pub ends-inside : (p : List ℕ) (at : ℕ) {o : Options} {end : ℕ} → at ≤ length p → Spelled option noOptions at (drop at p) o end →
+pub ends-inside : (p : List ℕ) (at : ℕ) {o : Options} {end : ℕ} → at ≤ length p → Encoded option noOptions at (drop at p) o end →
     end ≤ length p
 ends-inside p at h r =
     let long : length p - at ≡ length (r .string) + length (r .rest) =

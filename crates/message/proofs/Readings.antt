@@ -32,7 +32,7 @@ use Rattle.message.specs.declared.from_module.Outcome.the-variants.{Fail
 use Rattle.message.specs.declared.from_module.Notice.{Notice}
 use Rattle.message.specs.declared.from_module.Notice.the-variants.{Response as IsResponse, Standard, Remote, Setup}
 use Rattle.message.proofs.Numbers.{both-true, choose}
-use Rattle.message.proofs.OptionStrings.{Spelled, spelled}
+use Rattle.message.proofs.OptionStrings.{Encoded, encoded}
 
 module _ {A B : Type 0} where
   -- It is a message.
@@ -58,14 +58,14 @@ in-range n e i =
 pub record Sent (p : List ℕ) (address : Address) (at : ℕ) (r : Meaning Request Order) : Type 0 where
   pub options : Options
   pub end : ℕ
-  pub spelled : Spelled option noOptions at (drop at p) options end
+  pub encoded : Encoded option noOptions at (drop at p) options end
   pub is : carrying (ExtendedRequest (record { address = address; «response_id» = byteAt p 2; options = options })) end ≡ r
 
 module _ (p : List ℕ) (address : Address) (at : ℕ) {r : Meaning Request Order} (is : IsMessage r) where
   sent-as : (q : Opted) → optionsFrom option noOptions at (drop at p) ≡ q → requestAs q p address ≡ r → Sent p address at r
   sent-as bad s e = absurd (subst IsMessage (sym e) is)
   sent-as (opted o end) s e =
-      record { options = o; end = end; spelled = spelled (drop at p) option noOptions at o end tt refl s; is = e }
+      record { options = o; end = end; encoded = encoded (drop at p) option noOptions at o end tt refl s; is = e }
 
   sent : requestAt p address at ≡ r → Sent p address at r
   unfolding requestAt

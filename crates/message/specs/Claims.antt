@@ -7,7 +7,7 @@ use mathlib.Core.List.{List, [], _∷_, _++_, List·Permᴰ as Permutation}
 use lib.ListN.{length, take, drop}
 use Rattle.frame.specs.Checks.{frame}
 use Rattle.frame.specs.Framing.{read, layout, framingOf, inFront}
-use Rattle.frame.specs.Rule.{Output}
+use Rattle.frame.specs.Rule.{Output, output}
 use Rattle.frame.specs.Reader.{newReader}
 use Rattle.frame.specs.Elements.{Bytes}
 use Rattle.frame.specs.Calls.{Calls, offering}
@@ -116,10 +116,10 @@ pub record Reordered (p : List ℕ) (m : Transmission) (dat : List ℕ) : Type 0
   pub bytes : p ≡ orderedLayout m groups dat
 
 -- The payload p is a layout of the message with the data.
-abbrev pub SpellsRequest : List ℕ → Request → List ℕ → Type 0
-SpellsRequest p (SimpleRequest m) dat = p ≡ requestLayout (SimpleRequest m) dat
-SpellsRequest p (ExtendedRequest m) dat = Reordered p m dat
-SpellsRequest p SettingsRequest dat = p ≡ requestLayout SettingsRequest dat
+abbrev pub EncodesRequest : List ℕ → Request → List ℕ → Type 0
+EncodesRequest p (SimpleRequest m) dat = p ≡ requestLayout (SimpleRequest m) dat
+EncodesRequest p (ExtendedRequest m) dat = Reordered p m dat
+EncodesRequest p SettingsRequest dat = p ≡ requestLayout SettingsRequest dat
 
 -- What the claims say of a family of messages: which payloads are read as a message, its layout, why it is not written, 0 for no reason, which messages fit
 -- the code's types, and which payloads are a layout of a message: its layout alone, but for the order of options.
@@ -129,7 +129,7 @@ pub record Family : Type 1 where
   pub layoutOf : Message → List ℕ
   pub refusalOf : Message → ℕ
   pub Representable : Message → Type 0
-  pub Spells : List ℕ → Message → Type 0
+  pub Encodes : List ℕ → Message → Type 0
 
 -- The families: messages to the module, each with its data or without data, and messages from the module.
 pub data Kind : Type 0 where
@@ -143,7 +143,7 @@ family requests =
       layoutOf = λ m. requestLayout (m .0) (m .1);
       refusalOf = λ m. requestRefusal (m .0) (m .1);
       Representable = λ m. RequestFits (m .0) × Bytes (m .1);
-      Spells = λ p m. SpellsRequest p (m .0) (m .1);
+      Encodes = λ p m. EncodesRequest p (m .0) (m .1);
     }
 family orders =
     record {
@@ -152,7 +152,7 @@ family orders =
       layoutOf = orderLayout;
       refusalOf = orderRefusal;
       Representable = OrderFits;
-      Spells = λ p m. p ≡ orderLayout m;
+      Encodes = λ p m. p ≡ orderLayout m;
     }
 family deliveries =
     record {
@@ -161,7 +161,7 @@ family deliveries =
       layoutOf = λ m. deliveryLayout (m .0) (m .1);
       refusalOf = λ m. deliveryRefusal (m .0) (m .1);
       Representable = λ m. DeliveryFits (m .0) × Bytes (m .1);
-      Spells = λ p m. p ≡ deliveryLayout (m .0) (m .1);
+      Encodes = λ p m. p ≡ deliveryLayout (m .0) (m .1);
     }
 family notices =
     record {
@@ -170,14 +170,14 @@ family notices =
       layoutOf = noticeLayout;
       refusalOf = noticeRefusal;
       Representable = NoticeFits;
-      Spells = λ p m. p ≡ noticeLayout m;
+      Encodes = λ p m. p ≡ noticeLayout m;
     }
 
 -- The frame with the payload p in this framing reads back as p in a format: by a single read, whatever follows, and as the one frame that any list of
 -- calls over it hands out.
 pub record FrameReadsBack (f : Framing) (format : Format) (p : List ℕ) : Type 0 where
   pub single : (more : List ℕ) → read format (layout f p ++ more) ≡ frame (length (layout f p)) p
-  pub calls : (out : Output (List ℕ)) → Calls offering (newReader format) (layout f p) out → out ≡ record { frames = p ∷ []; noise = 0 }
+  pub calls : (out : Output (List ℕ)) → Calls offering (newReader format) (layout f p) out → out ≡ output (p ∷ []) 0
 
 -- What a write left: the frame with the payload p in the front of the buffer; it reads back under every format of its framing.
 pub record FrameStands (f : Framing) (p : List ℕ) (len : ℕ) (after : List ℕ) : Type 0 where
@@ -222,4 +222,4 @@ RefusesNoMore = (k : Kind) (m : family k .Message) → family k .ReadAs (family 
 
 -- Reading is exact: what is read as a message is a layout of it with its data, byte for byte.
 abbrev pub ReadingIsExact : Type 0
-ReadingIsExact = (k : Kind) (p : List ℕ) (m : family k .Message) → Bytes p → family k .ReadAs p m → family k .Spells p m
+ReadingIsExact = (k : Kind) (p : List ℕ) (m : family k .Message) → Bytes p → family k .ReadAs p m → family k .Encodes p m

@@ -43,15 +43,15 @@ use Rattle.message.specs.declared.from_module.Outcome.the-variants.{Succ
 use Rattle.message.specs.declared.status.StandardStatus.{StandardStatus}
 use Rattle.message.specs.declared.status.Channel.the-variants.{One, Two, Three, Four}
 
--- What a row says of a call or of a payload: a call's refusal number, 0 for none, the bytes used or taken, the noise and the payloads handed out;
+-- What is answered to a row: a call's refusal number, 0 for none, the bytes used or taken, the noise and the payloads handed out;
 -- a message with its data, in a direction; or a write's refusal number and length.
-pub data Said : Type 0 where
-  call : (number bytes noise : ℕ) → List (List ℕ) → Said
-  to : Meaning Request Order → List ℕ → Said
-  writing : (number len : ℕ) → Said
-  from : Meaning Delivery Notice → List ℕ → Said
+pub data Answer : Type 0 where
+  call : (number bytes noise : ℕ) → List (List ℕ) → Answer
+  to : Meaning Request Order → List ℕ → Answer
+  writing : (number len : ℕ) → Answer
+  from : Meaning Delivery Notice → List ℕ → Answer
 
--- A lent buffer.
+-- A buffer.
 abbrev room : List ℕ
 room = replicate 256 0
 
@@ -61,7 +61,7 @@ handedOut false len buf = []
 handedOut true len buf = take len buf ∷ []
 
 -- A single read, by the definitions that its contract cites.
-abbrev pub singleRead : Verdict → Said
+abbrev pub singleRead : Verdict → Answer
 singleRead v =
     let r : Reading = reading v 256 in
     call (r .number) (r .used) 0 (handedOut (leb 1 (r .len)) (r .len) (readInto v room))
@@ -71,7 +71,7 @@ abbrev having : State → Reader
 having s = record { format = s .format; held = s .held; count = length (s .held); follows = s .follows }
 
 -- A line or a quiet call with this refusal number, by the definitions that their contracts cite.
-abbrev pub readerCall : ℕ → Called → Said
+abbrev pub readerCall : ℕ → Called → Answer
 readerCall number c =
     let v : Values = valuesAt c in
     call number (v .taken) (v .noise) (handedOut (v .isFrame) (v .len) (bufferAt (c .out .frames) room))
@@ -92,7 +92,7 @@ pub data Ask : Type 0 where
   fromModule : List ℕ → Ask
   write : Framing → (k : Kind) → family k .Message → ℕ → Ask
 
-abbrev pub answers : Ask → List Said
+abbrev pub answers : Ask → List Answer
 answers (single m s) = singleRead (read m s) ∷ []
 answers (segment m s) =
     let start : State = stateOf (newReader m) in
@@ -114,13 +114,13 @@ answers (write f k m room) =
     let w : Writing = messageWriting f (family k .refusalOf m) (family k .layoutOf m) room in
     writing (w .number) (w .len) ∷ []
 
--- A row: what is asked, and what is answered.
+-- A row: what is asked, and what is to be answered.
 pub record Row : Type 0 where
   pub ask : Ask
-  pub says : List Said
+  pub expected : List Answer
 
-abbrev row : Ask → List Said → Row
-row ask says = record { ask = ask; says = says }
+abbrev row : Ask → List Answer → Row
+row ask expected = record { ask = ask; expected = expected }
 
 -- The formats: the default of each framing, and binary framing with the footer required.
 abbrev binary : Format
@@ -168,8 +168,8 @@ responsePayload = 0xDB ∷ 0xA1 ∷ 0x80 ∷ 0x01 ∷ []
 abbrev strayLength : List ℕ
 strayLength = 0xA5 ∷ 0x5A ∷ 0x80 ∷ 0x10 ∷ (responseFront ++ (0x04 ∷ []))
 
-abbrev strayStart : List ℕ
-strayStart = 0xA5 ∷ 0x5A ∷ 0xA5 ∷ 0x5A ∷ 0x80 ∷ 0x04 ∷ 0xDB ∷ 0xA1 ∷ 0x01 ∷ 0x01 ∷ 0x7A ∷ 0x04 ∷ []
+abbrev doubledStart : List ℕ
+doubledStart = 0xA5 ∷ 0x5A ∷ 0xA5 ∷ 0x5A ∷ 0x80 ∷ 0x04 ∷ 0xDB ∷ 0xA1 ∷ 0x01 ∷ 0x01 ∷ 0x7A ∷ 0x04 ∷ []
 
 -- The starred rows, with what the payloads of their frames mean, and the rows beside them that concern a single frame or payload. Frames in binary framing are
 -- read in both formats; the rows of 2 for the missing footer and of 5 are those of the format that requires it, and footerRows has what the default says there.
@@ -193,9 +193,9 @@ rows =
     ∷ reads required (0xA5 ∷ 0x5A ∷ 0x81 ∷ 0x00 ∷ (replicate 256 0x11 ++ (0x00 ∷ 0x04 ∷ []))) 262 (replicate 256 0x11)
     ∷ row (segment binary strayLength) (call 0 14 0 [] ∷ call 0 0 0 [] ∷ call 0 0 4 (responsePayload ∷ []) ∷ call 0 0 0 [] ∷ [])
     ∷ row (segment required strayLength) (call 0 14 0 [] ∷ call 0 0 0 [] ∷ call 0 0 4 (responsePayload ∷ []) ∷ call 0 0 0 [] ∷ [])
-    ∷ row (segment binary strayStart)
+    ∷ row (segment binary doubledStart)
     (call 0 11 2 ((0xDB ∷ 0xA1 ∷ 0x01 ∷ 0x01 ∷ []) ∷ []) ∷ call 0 1 0 [] ∷ call 0 0 0 [] ∷ call 0 0 0 [] ∷ [])
-    ∷ row (segment required strayStart)
+    ∷ row (segment required doubledStart)
     (call 0 12 2 ((0xDB ∷ 0xA1 ∷ 0x01 ∷ 0x01 ∷ []) ∷ []) ∷ call 0 0 0 [] ∷ call 0 0 0 [] ∷ call 0 0 0 [] ∷ [])
     ∷ row (fromModule (0xDB ∷ 0xA1 ∷ 0x01 ∷ 0x01 ∷ [])) (from (response 0x01) [] ∷ [])
     ∷ reads ascii (text ":DBA1120171\r\n") 13 (0xDB ∷ 0xA1 ∷ 0x12 ∷ 0x01 ∷ [])
@@ -646,4 +646,4 @@ allRows = rows ++ (footerRows ++ (toRows ++ (fromRows ++ (distinctRows ++ (cause
 
 -- Each row is answered as documents 01 and 02 say.
 abbrev pub Examples : Type 0
-Examples = map (λ (r : Row). answers (r .ask)) allRows ≡ map (λ (r : Row). r .says) allRows
+Examples = map (λ (r : Row). answers (r .ask)) allRows ≡ map (λ (r : Row). r .expected) allRows

@@ -282,7 +282,8 @@ pub fn write_delivery(
     data: &[u8],
     buf: &mut [u8],
 ) -> WriteAnswer
-    ensures { λ r. ⌜ Writes framing (deliveryRefusal delivery (now («data» .entry))) (deliveryLayout delivery (now («data» .entry))) (now (buf .entry)) r (now (buf .exit)) ⌝ }
+    ensures { λ r. ⌜ Writes framing (deliveryRefusal delivery (now («data» .entry))) (deliveryLayout delivery (now («data» .entry)))
+        (now (buf .entry)) r (now (buf .exit)) ⌝ }
 {
     match delivery {
         Delivery::Simple(message) => write_simple(framing, message, data, buf),

@@ -197,7 +197,8 @@ pub(crate) fn write_settings(
     list: &[u8],
     buf: &mut [u8],
 ) -> WriteAnswer
-    ensures { λ r. ⌜ Writes framing (settingsRefusal (now (list .entry))) (settingsLayout command (now (list .entry))) (now (buf .entry)) r (now (buf .exit)) ⌝ }
+    ensures { λ r. ⌜ Writes framing (settingsRefusal (now (list .entry))) (settingsLayout command (now (list .entry)))
+        (now (buf .entry)) r (now (buf .exit)) ⌝ }
 {
     if !settings::is_list(list) {
         return WriteAnswer::Refused(Refusal::Identifier);

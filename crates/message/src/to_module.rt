@@ -228,7 +228,8 @@ fn write_transmission(
 // Writes a message to the module with its data as a frame into the front of buf; the rest of buf stays. The refusals in their order: 8, 9, 10, 17,
 // then 14 where the payload has over 256 bytes, 13 where buf is shorter than the frame. A refusal leaves all of buf.
 pub fn write_request(framing: Framing, request: Request, data: &[u8], buf: &mut [u8]) -> WriteAnswer
-    ensures { λ r. ⌜ Writes framing (requestRefusal request (now («data» .entry))) (requestLayout request (now («data» .entry))) (now (buf .entry)) r (now (buf .exit)) ⌝ }
+    ensures { λ r. ⌜ Writes framing (requestRefusal request (now («data» .entry))) (requestLayout request (now («data» .entry)))
+        (now (buf .entry)) r (now (buf .exit)) ⌝ }
 {
     match request {
         Request::Simple(message) => write_simple(framing, message, data, buf),

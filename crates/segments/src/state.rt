@@ -1,4 +1,4 @@
-// What a call may leave changed: the reader's state, and the buffer that it was lent.
+// What a call may leave changed: the reader's state, and the caller's buffer.
 use frame::Footer;
 use frame::Format;
 use frame::Reader;

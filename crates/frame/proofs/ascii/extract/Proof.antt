@@ -53,7 +53,7 @@ unpack-requires : tie.Need-unpack-requires
 unpack-requires c κs =
     let v = c .before .before in
     let h = payload-named Ascii (start (v .before .before) .args .s .now) (v .verdict .given .0 .0) (v .verdict .given .0 .1 .0) (named v) in
-    (h .packed, omega (arith, h .most))
+    (h .there, omega (arith, h .most))
 
 same-length-2 : tie.Need-same-length-2
 same-length-2 c = search needs

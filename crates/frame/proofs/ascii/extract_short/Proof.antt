@@ -28,13 +28,13 @@ use Rattle.frame.proofs.ascii.extract_short.Tie as tie
 abbrev start : tie.After-decode-two → tie.Start
 start c = c .before .before .before .before
 
--- Where they were decoded, from where the frame was told.
+-- Where they were decoded, from where the verdict was found to be a frame.
 abbrev digits-at : tie.After-enum-told → tie.After-decode-two
 digits-at c = c .before .before .before .before .before
 
--- Where it was told, from the first copy.
-abbrev told : tie.After-copy → tie.After-enum-told
-told c = c .before .before .before
+-- Where it was found so, from the first copy.
+abbrev frame-found : tie.After-copy → tie.After-enum-told
+frame-found c = c .before .before .before
 
 -- The first copy, from the second.
 abbrev first-copy : tie.After-slice-known3 → tie.After-copy
@@ -127,26 +127,26 @@ sub-copy : tie.Need-sub-copy
 sub-copy c = search needs
 
 part-copy-start : tie.Need-part-copy-start
-part-copy-start c = omega (arith, long (digits-at (told (c .before .before))))
+part-copy-start c = omega (arith, long (digits-at (frame-found (c .before .before))))
 
 part-copy-end : tie.Need-part-copy-end
-part-copy-end c = omega (arith, long (digits-at (told (c .before .before))))
+part-copy-end c = omega (arith, long (digits-at (frame-found (c .before .before))))
 
 sub-copy-2 : tie.Need-sub-copy-2
-sub-copy-2 c = omega (arith, start (digits-at (told (c .before .before .before))) .pre .1 .0 .least)
+sub-copy-2 c = omega (arith, start (digits-at (frame-found (c .before .before .before))) .pre .1 .0 .least)
 
 sub-copy-3 : tie.Need-sub-copy-3
-sub-copy-3 c = omega (arith, start (digits-at (told (c .before .before .before))) .pre .1 .0 .most)
+sub-copy-3 c = omega (arith, start (digits-at (frame-found (c .before .before .before))) .pre .1 .0 .most)
 
 part-copy-start-2 : tie.Need-part-copy-start-2
-part-copy-start-2 c = omega (arith, start (digits-at (told (c .before .before .before))) .pre .1 .0 .most)
+part-copy-start-2 c = omega (arith, start (digits-at (frame-found (c .before .before .before))) .pre .1 .0 .most)
 
 part-copy-end-2 : tie.Need-part-copy-end-2
 part-copy-end-2 c = search needs
 
 copy-requires-2 : tie.Need-copy-requires-2
 copy-requires-2 c κs =
-    let d = digits-at (told (c .before .before .before .before)) in
+    let d = digits-at (frame-found (c .before .before .before .before)) in
     let h = start d .pre .1 .0 in
     omega (arith, last-long d, h .least, h .most)
 
@@ -155,7 +155,7 @@ same-length c = search needs
 
 returns : tie.Need-returns
 returns c =
-    let t = told (first-copy c) in
+    let t = frame-found (first-copy c) in
     let d = digits-at t in
     let a = start d .args in
     let h = start d .pre .1 .0 in

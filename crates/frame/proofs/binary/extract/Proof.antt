@@ -36,7 +36,7 @@ unpack-requires c κs =
     let v = c .before .before in
     let a = start c .args in
     let h = payload-named (Binary (a .footer)) (a .s .now) (v .verdict .given .0 .0) (v .verdict .given .0 .1 .0) (named v) in
-    (h .packed, omega (arith, h .most))
+    (h .there, omega (arith, h .most))
 
 same-length : tie.Need-same-length
 same-length c = search needs

@@ -3,7 +3,7 @@
 use Prim.Native.Nat.{_+_}
 use borrow.Author.Needs.{needs}
 use native.Mathlib.Omega.{arith}
-use Rattle.frame.proofs.Words.{word-packed}
+use Rattle.frame.proofs.Words.{word-little-endian}
 use Rattle.frame.proofs.digit.word.Statement.{statement}
 use Rattle.frame.proofs.digit.word.Tie as tie
 
@@ -144,7 +144,7 @@ add-result-14 c =
     omega (arith, g at, g (at + 1), g (at + 2), g (at + 3), g (at + 4), g (at + 5), g (at + 6), g (at + 7))
 
 returns : tie.Need-returns
-returns c = let a = start (c .before .before .before .before) .args in word-packed (a .s .now) (a .at) (omega arith)
+returns c = let a = start (c .before .before .before .before) .args in word-little-endian (a .s .now) (a .at) (omega arith)
 
 pub word-spec : {M : Type 1} → statement M
 word-spec =

@@ -12,7 +12,7 @@ use Rattle.frame.specs.Scan.{stopOf, scanned, stopBuffer}
 use Rattle.frame.specs.declared.scan.ScanEnd.{ScanEnd}
 use Rattle.frame.specs.declared.scan.ScanEnd.the-variants.{Frame, Undecided, Passed}
 use Rattle.frame.specs.declared.framing.Format.{Format}
-use Rattle.frame.proofs.Framings.{payload-there, payload-packed, payload-size}
+use Rattle.frame.proofs.Framings.{payload-there, payload-held, payload-size}
 use Rattle.frame.proofs.Lists.{take-rest}
 use Rattle.frame.proofs.Scanning.{AtFrame, scan-found-from}
 use borrow.Author.Needs.{needs}
@@ -70,7 +70,7 @@ unpack-requires c κs =
     let used = k .before .end .given .0 .0 in
     let len = k .before .end .given .0 .1 .0 in
     let e = at-frame k .is-frame in (
-      subst (λ (l : List ℕ). HasPayload (a .format) l len) (sym (take-rest (a .s .now) place)) (payload-packed (a .format) at used len e),
+      subst (λ (l : List ℕ). HasPayload (a .format) l len) (sym (take-rest (a .s .now) place)) (payload-held (a .format) at used len e),
       omega (arith, payload-there (a .format) at used len e .1, payload-size (a .format) at (payloadAt (a .format) at len) used e .1),
     )
 

@@ -47,7 +47,7 @@ whole : (c : tie.Start) → let a = c .args in let n = length (a .s .now) in
     scanFrom (judging false (a .format)) (n - 0) 0 (a .reach) (a .s .now) ≡ scanFrom (judging false (a .format)) n 0 (a .reach) (a .s .now)
 whole c = let a = c .args in ap (λ (k : ℕ). scanFrom (judging false (a .format)) k 0 (a .reach) (a .s .now)) (sub-zero (length (a .s .now)))
 
--- The verdict on the front of s, where it was told so.
+-- The verdict on the front of s, in the arm of the match that has it.
 verdict-is : (x : tie.After-extract) (r : Judged) → x .extract .result ≡ r →
     let a = start x .args in
     judge (a .format) (a .s .now) ≡ verdictOf (a .format) (a .s .now) r

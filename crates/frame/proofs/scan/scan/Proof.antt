@@ -55,7 +55,7 @@ frame-at c = c .before .before .before .before .before
 abbrev skip-turn : tie.After-larger Inv-loop μ-loop → tie.At-loop Inv-loop μ-loop
 skip-turn c = c .before .before .before .before .before
 
--- The verdict at the present place, where it was told so.
+-- The verdict at the present place, in the arm of the match that has it.
 verdict-is : (j : tie.After-judge-place Inv-loop μ-loop) (r : Judged) → j .judge-place .result ≡ r →
     let at = drop (turn j .loop .place) (start j .args .s .now) in judge (start j .args .format) at ≡ verdictOf (start j .args .format) at r
 verdict-is j r e = j .judge-place .ensures ∙ ap (verdictOf (start j .args .format) (drop (turn j .loop .place) (start j .args .s .now))) e

@@ -9,7 +9,7 @@ use Rattle.frame.specs.Checks.{frame}
 use Rattle.frame.specs.Framing.{judge, read, mayFollow, absorbed}
 use Rattle.frame.specs.Judged.{verdictOf, payloadAt}
 use Rattle.frame.specs.Single.{Reads}
-use Rattle.frame.proofs.Framings.{used-there, payload-there, payload-packed}
+use Rattle.frame.proofs.Framings.{used-there, payload-there, payload-held}
 use Rattle.frame.proofs.Lists.{take-rest}
 use Rattle.frame.proofs.Optional.{behindFrame, absorbed-one, read-judged, read-cut, read-refused}
 use Rattle.frame.proofs.Singles.{reads-cut, reads-refused, reads-short, reads-frame}
@@ -82,7 +82,7 @@ unpack-requires : tie.Need-unpack-requires
 unpack-requires c κs =
     let k = c .before .before in
     let a = start (k .before .before .before) .args in
-    (payload-packed (a .format) (a .s .now) (k .before .used .given .0 .0) (k .before .used .given .0 .1 .0) (found k), c .before .if1 .left)
+    (payload-held (a .format) (a .s .now) (k .before .used .given .0 .0) (k .before .used .given .0 .1 .0) (found k), c .before .if1 .left)
 
 may-follow-requires : tie.Need-may-follow-requires
 may-follow-requires c κs = search needs

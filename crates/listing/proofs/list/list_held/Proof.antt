@@ -17,7 +17,7 @@ use Rattle.listing.specs.Parts.{PartlyDrained, Room, HeldListed}
 use Rattle.listing.specs.declared.list.Part.{Part}
 use Rattle.listing.proofs.Fits.{rest-is}
 use Rattle.listing.proofs.Chunks.{partly-drained, frame-room, frame-noise, frame-step, frame-less, none-noise, none-lists}
-use Rattle.listing.proofs.Chunks.{says-frame, says-none, says-inside, says-taken, says-next, says-refused, feed-free, feed-next, feed-left}
+use Rattle.listing.proofs.Chunks.{reports-frame, reports-none, reports-inside, reports-taken, reports-next, reports-refused, feed-free, feed-next, feed-left}
 use Rattle.listing.proofs.list.list_held.Statement.{statement}
 use Rattle.listing.proofs.list.list_held.Tie as tie
 
@@ -82,12 +82,12 @@ feeds f =
     subst (λ (l : List ℕ). Feeds (loop-at-feed f .loop .state) l (loop-at-feed f .loop .buf) (f .feed .result) (f .feed .last .1 .1 .0))
     (rest-is (entry-at-feed f .args .chunk .now) (loop-at-feed f .loop .done) (loop-at-feed f .loop .inv .1)) (f .feed .ensures)
 
-says : (f : tie.After-feed Inv-loop μ-loop) →
+reports : (f : tie.After-feed Inv-loop μ-loop) →
     let r = loop-at-feed f .loop .state in
     let rest = drop (loop-at-feed f .loop .done) (entry-at-feed f .args .chunk .now) in
     Reports (feedRefusal r (length (loop-at-feed f .loop .buf)) (length rest)) (line (stateOf r) rest) (Holds (after (stateOf r) (line (stateOf r) rest))) r
     (loop-at-feed f .loop .buf) (feedValuesOf (f .feed .result .answer)) (f .feed .result .reader) (f .feed .last .1 .1 .0)
-says f = feed-reports (loop-at-feed f .loop .state) _ (loop-at-feed f .loop .buf) (f .feed .result) _ (feeds f)
+reports f = feed-reports (loop-at-feed f .loop .state) _ (loop-at-feed f .loop .buf) (f .feed .result) _ (feeds f)
 
 free : (f : tie.After-feed Inv-loop μ-loop) →
     feedRefusal (loop-at-feed f .loop .state) (length (loop-at-feed f .loop .buf)) (length (drop (loop-at-feed f .loop .done) (entry-at-feed f .args .chunk .now))) ≡ 0
@@ -112,7 +112,7 @@ taken-inside : (f : tie.After-feed Inv-loop μ-loop) {taken more len : ℕ} → 
 taken-inside f e =
     let chunk = entry-at-feed f .args .chunk .now in
     let done = loop-at-feed f .loop .done in
-    omega (arith, says-taken _ (says f) (free f) e, taken-is-inside (stateOf (loop-at-feed f .loop .state)) (drop done chunk), length-drop done chunk, loop-at-feed f .loop .inv .1)
+    omega (arith, reports-taken _ (reports f) (free f) e, taken-is-inside (stateOf (loop-at-feed f .loop .state)) (drop done chunk), length-drop done chunk, loop-at-feed f .loop .inv .1)
 
 loop-holds : tie.Need-loop-holds Inv-loop μ-loop
 loop-holds c =
@@ -141,11 +141,11 @@ slice-aggregate-whole c = sym (still (feed-at-buf3 c))
 
 slice-aggregate-put-line : tie.Need-slice-aggregate-put-line Inv-loop μ-loop
 slice-aggregate-put-line c =
-    front _ _ (says-inside _ (says (feed-at-put-line-arg c)) (free (feed-at-put-line-arg c)) (ap feedValuesOf (c .before .before .before .answer .given .1)))
+    front _ _ (reports-inside _ (reports (feed-at-put-line-arg c)) (free (feed-at-put-line-arg c)) (ap feedValuesOf (c .before .before .before .answer .given .1)))
 
 put-line-requires : tie.Need-put-line-requires Inv-loop μ-loop
 put-line-requires c κs =
-    frame-room (loop-at-feed (feed-at-put-line-arg2 c) .loop .inv .4) (fits (feed-at-put-line-arg2 c)) _ _ (says-frame _ (says (feed-at-put-line-arg2 c)) (free (feed-at-put-line-arg2 c)) (ap feedValuesOf (c .before .before .before .before .answer .given .1)))
+    frame-room (loop-at-feed (feed-at-put-line-arg2 c) .loop .inv .4) (fits (feed-at-put-line-arg2 c)) _ _ (reports-frame _ (reports (feed-at-put-line-arg2 c)) (free (feed-at-put-line-arg2 c)) (ap feedValuesOf (c .before .before .before .before .answer .given .1)))
 
 add-done : tie.Need-add-done Inv-loop μ-loop
 add-done c =
@@ -153,15 +153,15 @@ add-done c =
 
 add-total : tie.Need-add-total Inv-loop μ-loop
 add-total c =
-    omega (arith, frame-noise (loop-at-feed (feed-at-slice-known2 c) .loop .inv .4) (fits (feed-at-slice-known2 c)) _ _ (says-frame _ (says (feed-at-slice-known2 c)) (free (feed-at-slice-known2 c)) (ap feedValuesOf (answer-at-slice-known2 c .answer .given .1))))
+    omega (arith, frame-noise (loop-at-feed (feed-at-slice-known2 c) .loop .inv .4) (fits (feed-at-slice-known2 c)) _ _ (reports-frame _ (reports (feed-at-slice-known2 c)) (free (feed-at-slice-known2 c)) (ap feedValuesOf (answer-at-slice-known2 c .answer .given .1))))
 
 loop-less : tie.Need-loop-less Inv-loop μ-loop
 loop-less c =
     let f = feed-at-slice-known2 c in
     let l = loop-at-feed (feed-at-slice-known2 c) .loop in
     let e = ap feedValuesOf (answer-at-slice-known2 c .answer .given .1) in
-    let less = frame-less (l .inv .4) (fits f) _ _ (says-frame _ (says f) (free f) e) in
-    let same = feed-left (l .state) (entry-at-feed (feed-at-slice-known2 c) .args .chunk .now) (l .done) _ (f .feed .result .reader) (says-next _ (says f) (free f)) (says-taken _ (says f) (free f) e) in
+    let less = frame-less (l .inv .4) (fits f) _ _ (reports-frame _ (reports f) (free f) e) in
+    let same = feed-left (l .state) (entry-at-feed (feed-at-slice-known2 c) .args .chunk .now) (l .done) _ (f .feed .result .reader) (reports-next _ (reports f) (free f)) (reports-taken _ (reports f) (free f) e) in
     omega (arith, less, ap (λ (st : Settled). length (st .out .frames)) same)
 
 loop-again : tie.Need-loop-again Inv-loop μ-loop
@@ -174,8 +174,8 @@ loop-again c =
       taken-inside f e,
       rw (kept .0) (kept .1),
       kept .0 ∙ l .inv .3,
-      feed-next (l .state) (entry-at-feed (feed-at-slice-known2 c) .args .chunk .now) (l .done) _ (f .feed .result .reader) (says-next _ (says f) (free f)) (says-taken _ (says f) (free f) e)
-          (frame-step (l .inv .4) (fits f) _ _ (says-frame _ (says f) (free f) e) (c .before .before .put-line .ensures)),
+      feed-next (l .state) (entry-at-feed (feed-at-slice-known2 c) .args .chunk .now) (l .done) _ (f .feed .result .reader) (reports-next _ (reports f) (free f)) (reports-taken _ (reports f) (free f) e)
+          (frame-step (l .inv .4) (fits f) _ _ (reports-frame _ (reports f) (free f) e) (c .before .before .put-line .ensures)),
     )
 
 enum-known-answer-2 : tie.Need-enum-known-answer-2 Inv-loop μ-loop
@@ -183,7 +183,7 @@ enum-known-answer-2 c = search needs
 
 add-part-at : tie.Need-add-part-at Inv-loop μ-loop
 add-part-at c =
-    omega (arith, none-noise (loop-at-feed (feed-at-known-told2 c) .loop .inv .4) (fits (c .before .before .before .before .before)) _ (says-none _ (says (c .before .before .before .before .before)) (free (c .before .before .before .before .before)) (ap feedValuesOf (c .before .answer2 .given .1))))
+    omega (arith, none-noise (loop-at-feed (feed-at-known-told2 c) .loop .inv .4) (fits (c .before .before .before .before .before)) _ (reports-none _ (reports (c .before .before .before .before .before)) (free (c .before .before .before .before .before)) (ap feedValuesOf (c .before .answer2 .given .1))))
 
 part-at-requires : tie.Need-part-at-requires Inv-loop μ-loop
 part-at-requires c κs = search needs
@@ -201,8 +201,8 @@ returns c =
     (record {
       inside = l .inv .1;
       format = limits f .0 ∙ l .inv .3;
-      all = λ _. none-lists (l .inv .4) (fits f) _ (says-none _ (says f) (free f) (ap feedValuesOf (c .before .before .answer2 .given .1))) (stateOf (a .reader))
-          (f .feed .result .reader) _ (l .inv .3) (says-next _ (says f) (free f)) refl refl;
+      all = λ _. none-lists (l .inv .4) (fits f) _ (reports-none _ (reports f) (free f) (ap feedValuesOf (c .before .before .answer2 .given .1))) (stateOf (a .reader))
+          (f .feed .result .reader) _ (l .inv .3) (reports-next _ (reports f) (free f)) refl refl;
       some = λ z. absurd (true≢false z);
     })
 
@@ -218,7 +218,7 @@ same-length-2 c =
 
 returns-2 : tie.Need-returns-2 Inv-loop μ-loop
 returns-2 c =
-    absurd (says-refused _ (says (c .before .before .before .before .before)) (free (c .before .before .before .before .before)) (c .before .enum-told .given .0 .0) (ap feedValuesOf (c .before .enum-told .given .1)))
+    absurd (reports-refused _ (reports (c .before .before .before .before .before)) (free (c .before .before .before .before .before)) (c .before .enum-told .given .0 .0) (ap feedValuesOf (c .before .enum-told .given .1)))
 
 part-at-requires-3 : tie.Need-part-at-requires-3 Inv-loop μ-loop
 part-at-requires-3 c κs = search needs

@@ -18,8 +18,8 @@ use Rattle.frame.specs.declared.refusal.Refusal.the-variants.{State, Buffer}
 use Rattle.frame.proofs.Theorems.{quiet-reports, quiet-stays-in-limit}
 use Rattle.listing.specs.Line.{linesOf}
 use Rattle.listing.specs.Parts.{Progress}
-use Rattle.listing.proofs.Chunks.{one, sound-count, quiet-room, progress, progress-room, progress-frame, progress-noise, says-frame, says-none, says-inside}
-use Rattle.listing.proofs.Chunks.{says-next, says-refused, quiet-free, quiet-next, quiet-end, quiet-lists, refused-lists, end-state, end-buffer}
+use Rattle.listing.proofs.Chunks.{one, sound-count, quiet-room, progress, progress-room, progress-frame, progress-noise, reports-frame, reports-none, reports-inside}
+use Rattle.listing.proofs.Chunks.{reports-next, reports-refused, quiet-free, quiet-next, quiet-end, quiet-lists, refused-lists, end-state, end-buffer}
 use Rattle.listing.proofs.list.list_quiet.Statement.{statement}
 use Rattle.listing.proofs.list.list_quiet.Tie as tie
 
@@ -58,11 +58,11 @@ yes : (c : tie.Else1 Inv-loop μ-loop) → sound (c .before .before .before .arg
 yes c = sym (c .before .is-sound .ensures) ∙ not-false _ (c .if1 .left)
 
 -- What the answer of a call says, that it is not refused, and that the buffer keeps its length.
-says : (q : tie.After-quiet Inv-loop μ-loop) →
+reports : (q : tie.After-quiet Inv-loop μ-loop) →
     let r = loop-at-quiet q .loop .state in
     Reports (quietRefusal r (length (loop-at-quiet q .loop .buf))) (quiet (stateOf r)) (AfterQuiet (r .format) (quiet (stateOf r)) (quiet (stateOf r) .out .frames)) r
     (loop-at-quiet q .loop .buf) (quietValuesOf (q .quiet .result .answer)) (q .quiet .result .reader) (q .quiet .last .1 .0)
-says q = quiet-reports (loop-at-quiet q .loop .state) (loop-at-quiet q .loop .buf) (q .quiet .result) _ (q .quiet .ensures)
+reports q = quiet-reports (loop-at-quiet q .loop .state) (loop-at-quiet q .loop .buf) (q .quiet .result) _ (q .quiet .ensures)
 
 free : (q : tie.After-quiet Inv-loop μ-loop) → quietRefusal (loop-at-quiet q .loop .state) (length (loop-at-quiet q .loop .buf)) ≡ 0
 free q = quiet-free (loop-at-quiet q .loop .state) (loop-at-quiet q .loop .buf) (loop-at-quiet q .loop .inv .1) (loop-at-quiet q .loop .inv .0)
@@ -83,7 +83,7 @@ room q = quiet-room (entry-at-quiet q .args .reader) (entry-at-quiet q .args .ou
 -- With a frame: what is left begins with it.
 frame-left : (q : tie.After-quiet Inv-loop μ-loop) {taken more len : ℕ} → quietValuesOf (q .quiet .result .answer) ≡ frameValues taken more len →
     ruleAfter (stateOf (loop-at-quiet q .loop .state)) [] ≡ join (one (take len (q .quiet .last .1 .0)) more) (ruleAfter (stateOf (q .quiet .result .reader)) [])
-frame-left q e = quiet-next (loop-at-quiet q .loop .state) (q .quiet .result .reader) (says-next _ (says q) (free q)) _ _ (says-frame _ (says q) (free q) e)
+frame-left q e = quiet-next (loop-at-quiet q .loop .state) (q .quiet .result .reader) (reports-next _ (reports q) (free q)) _ _ (reports-frame _ (reports q) (free q) e)
 
 frame-few : (q : tie.After-quiet Inv-loop μ-loop) {taken more len : ℕ} → quietValuesOf (q .quiet .result .answer) ≡ frameValues taken more len →
     loop-at-quiet q .loop .total + more ≤ 517
@@ -101,7 +101,7 @@ frame-less q e = omega (arith, ap (λ (o : Output (List ℕ)). length (o .frames
 none-few : (q : tie.After-quiet Inv-loop μ-loop) {taken more : ℕ} → quietValuesOf (q .quiet .result .answer) ≡ noFrameValues taken more →
     loop-at-quiet q .loop .total + more ≤ 517
 none-few q {more = more} e =
-    let end = quiet-end (loop-at-quiet q .loop .state) (q .quiet .result .reader) (says-next _ (says q) (free q)) more (says-none _ (says q) (free q) e) in
+    let end = quiet-end (loop-at-quiet q .loop .state) (q .quiet .result .reader) (reports-next _ (reports q) (free q)) more (reports-none _ (reports q) (free q) e) in
     let l : more ≤ ruleAfter (stateOf (loop-at-quiet q .loop .state)) [] .noise = omega (arith, ap (λ (o : Output (List ℕ)). o .noise) (end .0)) in
     omega (arith, progress-noise (loop-at-quiet q .loop .inv .3) more l, room q .1)
 
@@ -145,7 +145,7 @@ slice-aggregate-whole c = sym (still (quiet-at-buf3 c))
 slice-aggregate-put-line : tie.Need-slice-aggregate-put-line Inv-loop μ-loop
 slice-aggregate-put-line c =
     let q = quiet-at-buf3 (c .before) in
-    front _ _ (says-inside _ (says q) (free q) (ap quietValuesOf (c .before .before .before .answer .given .1)))
+    front _ _ (reports-inside _ (reports q) (free q) (ap quietValuesOf (c .before .before .before .answer .given .1)))
 
 put-line-requires : tie.Need-put-line-requires Inv-loop μ-loop
 put-line-requires c κs =
@@ -189,7 +189,7 @@ returns-3 c =
     let q = quiet-at-lines c in
     let l = loop-at-quiet (quiet-at-lines c) .loop in
     let a = entry-at-quiet (quiet-at-lines c) .args in
-    let e = quiet-end (l .state) (q .quiet .result .reader) (says-next _ (says q) (free q)) _ (says-none _ (says q) (free q) (ap quietValuesOf (c .before .before .answer2 .given .1))) in
+    let e = quiet-end (l .state) (q .quiet .result .reader) (reports-next _ (reports q) (free q)) _ (reports-none _ (reports q) (free q) (ap quietValuesOf (c .before .before .answer2 .given .1))) in
     quiet-lists (a .reader) (a .out .now) (c .lines .result) _ (l .inv .3) (sound-count (a .reader) (yes (quiet-at-lines c .before .before .before .before))) (quiet-at-lines c .before .before .before .if2 .left) (e .0)
     (c .lines .ensures .0 ∙ e .1 ∙ ap newReader (l .inv .2)) (c .lines .ensures .1)
 
@@ -204,7 +204,7 @@ same-length-2 c = loop-at-quiet (quiet-at-refused3 c) .loop .inv .3 .text .long
 
 returns-4 : tie.Need-returns-4 Inv-loop μ-loop
 returns-4 c =
-    absurd (says-refused _ (says (quiet-at-refused3 c)) (free (quiet-at-refused3 c)) (c .before .before .answer3 .given .0 .0) (ap quietValuesOf (c .before .before .answer3 .given .1)))
+    absurd (reports-refused _ (reports (quiet-at-refused3 c)) (free (quiet-at-refused3 c)) (c .before .before .answer3 .given .0 .0) (ap quietValuesOf (c .before .before .answer3 .given .1)))
 
 pub list-quiet-spec : {M : Type 1} → statement M
 list-quiet-spec =

@@ -13,7 +13,7 @@ use Rattle.frame.specs.Drain.{drain}
 use Rattle.frame.proofs.Theorems.{view-reports, view-stays-inside}
 use Rattle.listing.specs.Parts.{PartlyDrained, Room, viewDrain}
 use Rattle.listing.proofs.Chunks.{partly-drained, frame-room, frame-noise, frame-step, frame-less, none-noise, none-lists}
-use Rattle.listing.proofs.Chunks.{says-frame, says-none, says-inside, says-next, says-refused, view-free, view-next, view-left, view-holds}
+use Rattle.listing.proofs.Chunks.{reports-frame, reports-none, reports-inside, reports-next, reports-refused, view-free, view-next, view-left, view-holds}
 use Rattle.listing.proofs.list.list_view.Statement.{statement}
 use Rattle.listing.proofs.list.list_view.Tie as tie
 
@@ -51,12 +51,12 @@ abbrev feed-at-refused : tie.After-refused Inv-loop μ-loop → tie.After-feed I
 feed-at-refused c = c .before .before .before .before .before .before .before
 
 -- What the answer of a call says, that it is not refused, and that the buffer keeps its length.
-says : (f : tie.After-feed Inv-loop μ-loop) →
+reports : (f : tie.After-feed Inv-loop μ-loop) →
     let v = loop-at-feed f .loop .view in
     let chunk = entry-at-feed f .args .chunk .now in
     Reports (viewRefusal v (length (loop-at-feed f .loop .buf)) (length chunk)) (viewCall v chunk) (Follows v chunk (viewCall v chunk)) v (loop-at-feed f .loop .buf)
     (feedValuesOf (f .feed .result .answer)) (f .feed .result .view) (f .feed .last .1 .1 .0)
-says f = view-reports (loop-at-feed f .loop .view) (entry-at-feed f .args .chunk .now) (loop-at-feed f .loop .buf) (f .feed .result) _ (f .feed .ensures)
+reports f = view-reports (loop-at-feed f .loop .view) (entry-at-feed f .args .chunk .now) (loop-at-feed f .loop .buf) (f .feed .result) _ (f .feed .ensures)
 
 free : (f : tie.After-feed Inv-loop μ-loop) → viewRefusal (loop-at-feed f .loop .view) (length (loop-at-feed f .loop .buf)) (length (entry-at-feed f .args .chunk .now)) ≡ 0
 free f = view-free (loop-at-feed f .loop .view) (entry-at-feed f .args .chunk .now) (loop-at-feed f .loop .buf) (loop-at-feed f .loop .inv .1) (loop-at-feed f .loop .inv .0) (entry-at-feed f .pre .small)
@@ -86,24 +86,24 @@ slice-aggregate-whole c = sym (still (feed-at-buf3 c))
 slice-aggregate-put-line : tie.Need-slice-aggregate-put-line Inv-loop μ-loop
 slice-aggregate-put-line c =
     let f = feed-at-buf3 (c .before) in
-    front _ _ (says-inside _ (says f) (free f) (ap feedValuesOf (c .before .before .before .answer .given .1)))
+    front _ _ (reports-inside _ (reports f) (free f) (ap feedValuesOf (c .before .before .before .answer .given .1)))
 
 put-line-requires : tie.Need-put-line-requires Inv-loop μ-loop
 put-line-requires c κs =
     let f = feed-at-buf3 (c .before .before) in
-    frame-room (loop-at-feed f .loop .inv .3) (fits f) _ _ (says-frame _ (says f) (free f) (ap feedValuesOf (c .before .before .before .before .answer .given .1)))
+    frame-room (loop-at-feed f .loop .inv .3) (fits f) _ _ (reports-frame _ (reports f) (free f) (ap feedValuesOf (c .before .before .before .before .answer .given .1)))
 
 add-total : tie.Need-add-total Inv-loop μ-loop
 add-total c =
     let f = feed-at-slice-known2 c in
-    omega (arith, frame-noise (loop-at-feed f .loop .inv .3) (fits f) _ _ (says-frame _ (says f) (free f) (ap feedValuesOf (answer-at-slice-known2 c .answer .given .1))))
+    omega (arith, frame-noise (loop-at-feed f .loop .inv .3) (fits f) _ _ (reports-frame _ (reports f) (free f) (ap feedValuesOf (answer-at-slice-known2 c .answer .given .1))))
 
 loop-less : tie.Need-loop-less Inv-loop μ-loop
 loop-less c =
     let f = feed-at-slice-known2 c in
     let l = loop-at-feed (feed-at-slice-known2 c) .loop in
-    let less = frame-less (l .inv .3) (fits f) _ _ (says-frame _ (says f) (free f) (ap feedValuesOf (answer-at-slice-known2 c .answer .given .1))) in
-    let same = view-left (l .view) (entry-at-feed (feed-at-slice-known2 c) .args .chunk .now) (f .feed .result .view) (says-next _ (says f) (free f)) in
+    let less = frame-less (l .inv .3) (fits f) _ _ (reports-frame _ (reports f) (free f) (ap feedValuesOf (answer-at-slice-known2 c .answer .given .1))) in
+    let same = view-left (l .view) (entry-at-feed (feed-at-slice-known2 c) .args .chunk .now) (f .feed .result .view) (reports-next _ (reports f) (free f)) in
     omega (arith, less, ap (λ (st : Settled). length (st .out .frames)) same)
 
 loop-again : tie.Need-loop-again Inv-loop μ-loop
@@ -111,12 +111,12 @@ loop-again c =
     let f = feed-at-slice-known2 c in
     let l = loop-at-feed (feed-at-slice-known2 c) .loop in
     let a = entry-at-feed (feed-at-slice-known2 c) .args in
-    let next = says-next _ (says f) (free f) in (
+    let next = reports-next _ (reports f) (free f) in (
       still f,
       view-stays-inside (l .view) (a .chunk .now) (l .buf) (f .feed .result) _ (f .feed .ensures) (l .inv .1),
       ap (λ (s : State). s .format) (next .state) ∙ l .inv .2,
       view-next (l .view) (a .chunk .now) (f .feed .result .view) next
-          (frame-step (l .inv .3) (fits f) _ _ (says-frame _ (says f) (free f) (ap feedValuesOf (answer-at-slice-known2 c .answer .given .1))) (c .before .before .put-line .ensures)),
+          (frame-step (l .inv .3) (fits f) _ _ (reports-frame _ (reports f) (free f) (ap feedValuesOf (answer-at-slice-known2 c .answer .given .1))) (c .before .before .put-line .ensures)),
     )
 
 enum-known-answer-2 : tie.Need-enum-known-answer-2 Inv-loop μ-loop
@@ -127,7 +127,7 @@ reader-requires c κs = search needs
 
 add-lines : tie.Need-add-lines Inv-loop μ-loop
 add-lines c =
-    omega (arith, none-noise (loop-at-feed (feed-at-reader c) .loop .inv .3) (fits (feed-at-reader c)) _ (says-none _ (says (feed-at-reader c)) (free (feed-at-reader c)) (ap feedValuesOf (c .before .before .answer2 .given .1))))
+    omega (arith, none-noise (loop-at-feed (feed-at-reader c) .loop .inv .3) (fits (feed-at-reader c)) _ (reports-none _ (reports (feed-at-reader c)) (free (feed-at-reader c)) (ap feedValuesOf (c .before .before .answer2 .given .1))))
 
 lines-requires : tie.Need-lines-requires Inv-loop μ-loop
 lines-requires c κs = search needs
@@ -141,9 +141,9 @@ returns c =
     let f = feed-at-lines c in
     let l = loop-at-feed (feed-at-lines c) .loop in
     let a = entry-at-feed (feed-at-lines c) .args in
-    none-lists (l .inv .3) (fits f) _ (says-none _ (says f) (free f) (ap feedValuesOf (c .before .before .before .answer2 .given .1))) (viewed (a .first) (a .chunk .now))
+    none-lists (l .inv .3) (fits f) _ (reports-none _ (reports f) (free f) (ap feedValuesOf (c .before .before .before .answer2 .given .1))) (viewed (a .first) (a .chunk .now))
     (c .before .reader .result) (c .lines .result) (l .inv .2)
-    (view-holds (l .view) (a .chunk .now) (f .feed .result .view) (c .before .reader .result) (says-next _ (says f) (free f))
+    (view-holds (l .view) (a .chunk .now) (f .feed .result .view) (c .before .reader .result) (reports-next _ (reports f) (free f))
     (view-stays-inside (l .view) (a .chunk .now) (l .buf) (f .feed .result) _ (f .feed .ensures) (l .inv .1)) (c .before .reader .ensures))
     (c .lines .ensures .0) (c .lines .ensures .1)
 
@@ -162,7 +162,7 @@ same-length-2 c =
 
 returns-2 : tie.Need-returns-2 Inv-loop μ-loop
 returns-2 c =
-    absurd (says-refused _ (says (feed-at-refused c)) (free (feed-at-refused c)) (c .before .before .before .answer3 .given .0 .0) (ap feedValuesOf (c .before .before .before .answer3 .given .1)))
+    absurd (reports-refused _ (reports (feed-at-refused c)) (free (feed-at-refused c)) (c .before .before .before .answer3 .given .0 .0) (ap feedValuesOf (c .before .before .before .answer3 .given .1)))
 
 pub list-view-spec : {M : Type 1} → statement M
 list-view-spec =

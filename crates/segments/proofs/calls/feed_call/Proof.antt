@@ -33,8 +33,8 @@ taken-in : (w : tie.After-write-all) →
 taken-in w =
     let f = call w in
     let a = f .before .before .before .before .before .args in
-    let told = feed-reports (a .run .reader) (a .chunk .now) (a .buf .now) (f .feed .result) _ (f .feed .ensures) in
-    omega (arith, told .most, taken-is-inside (stateOf (a .run .reader)) (a .chunk .now))
+    let report = feed-reports (a .run .reader) (a .chunk .now) (a .buf .now) (f .feed .result) _ (f .feed .ensures) in
+    omega (arith, report .most, taken-is-inside (stateOf (a .run .reader)) (a .chunk .now))
 
 feed-requires : tie.Need-feed-requires
 feed-requires c κs = search needs
