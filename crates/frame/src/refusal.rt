@@ -11,7 +11,7 @@ pub enum Refusal {
     Length,
     // 4: the checksum is another one.
     Checksum,
-    // 5: the frame's end is another one.
+    // 5: the frame's end is another one; in binary framing given only where the footer is required.
     Footer,
     // 6: a character that is neither a digit nor CR.
     Character,

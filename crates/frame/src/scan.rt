@@ -34,7 +34,7 @@ pub(crate) struct ScanResult {
 }
 
 // The larger of two numbers.
-pub(crate) fn larger(a: usize, b: usize) -> usize
+fn larger(a: usize, b: usize) -> usize
     ensures { λ r. ⌜ r ≡ max a b ⌝ }
 {
     if a < b { b } else { a }
@@ -132,14 +132,7 @@ fn stopped(place: usize, reach: usize, end: ScanEnd) -> ScanResult
 
 // Judges the places of s from `from` to `stop` in order, up to the first that does not fail; bytes that start no frame are passed at once. Bytes up to
 // `reach` were judged before. Where `ended`, the bytes end the segment, and an undecided place fails too.
-pub(crate) fn scan(
-    format: Format,
-    s: &[u8],
-    from: usize,
-    stop: usize,
-    reach: usize,
-    ended: bool,
-) -> ScanResult
+fn scan(format: Format, s: &[u8], from: usize, stop: usize, reach: usize, ended: bool) -> ScanResult
     requires { ⌜ from ≤ stop ⌝ }
     requires { ⌜ stop ≤ length (now s) ⌝ }
     requires { ⌜ reach ≤ length (now s) ⌝ }
