@@ -12,7 +12,7 @@ use lib.ListN.{length}
 use Rattle.frame.specs.Checks.{Verdict, cut, refused, frame}
 use Rattle.frame.specs.Framing.{read, layout, inFront}
 use Rattle.frame.specs.Refusal.{numberOf}
-use Rattle.frame.specs.Single.{noReading, readingOf, reading, readInto, Reads, noWriting, writable, Writes}
+use Rattle.frame.specs.Single.{noReading, readingOf, reading, readInto, Reads, noWriting, writable, Writes, frameReading, lengthWriting}
 use Rattle.frame.specs.declared.framing.Framing.{Framing}
 use Rattle.frame.specs.declared.framing.Format.{Format}
 use Rattle.frame.specs.declared.refusal.Refusal.{Refusal}
@@ -40,15 +40,15 @@ module _ (f : Format) (s buf : List ℕ) where
     reads-short h =
         let short : leb (length p) (length buf) ≡ false = lt-leb (length p) (length buf) (omega arith) in
         reads-by (frame used p) (ReadRefused Buffer) buf e
-        (ap (λ (q : Bool). cond q (record { number = 0; used = used; len = length p }) (noReading 13)) (sym short))
+        (ap (λ (q : Bool). cond q (frameReading used (length p)) (noReading 13)) (sym short))
         (ap (λ (q : Bool). cond q (inFront p buf) buf) (sym short))
 
     pub reads-frame : len ≤ length buf → Reads f s buf (Frame used len) (inFront p buf)
     reads-frame h =
         let fits : leb (length p) (length buf) ≡ true = le-leb (length p) (length buf) (omega arith) in
         reads-by (frame used p) (Frame used len) (inFront p buf) e
-        (ap (λ (n : ℕ). record { number = 0; used = used; len = n }) (sym l)
-        ∙ ap (λ (q : Bool). cond q (record { number = 0; used = used; len = length p }) (noReading 13)) (sym fits))
+        (ap (λ (n : ℕ). frameReading used n) (sym l)
+        ∙ ap (λ (q : Bool). cond q (frameReading used (length p)) (noReading 13)) (sym fits))
         (ap (λ (q : Bool). cond q (inFront p buf) buf) (sym fits))
 
 module _ (f : Framing) (p buf : List ℕ) where
@@ -60,7 +60,7 @@ module _ (f : Framing) (p buf : List ℕ) where
       (⊎-elim (λ z. inl (lt-leb 1 (length p) (omega arith))) (λ m. inr (lt-leb (length p) 256 m)) h)
       in
       record {
-        answers = ap (λ (q : Bool). cond q (cond (leb (length (layout f p)) (length buf)) (record { number = 0; len = length (layout f p) }) (noWriting 13)) (noWriting 14)) (sym not);
+        answers = ap (λ (q : Bool). cond q (cond (leb (length (layout f p)) (length buf)) (lengthWriting (length (layout f p))) (noWriting 13)) (noWriting 14)) (sym not);
         leaves = ap (λ (q : Bool). cond (q && leb (length (layout f p)) (length buf)) (inFront (layout f p) buf) buf) (sym not);
       }
 

@@ -21,13 +21,17 @@ pub record Reading : Type 0 where
   pub used : ℕ
   pub len : ℕ
 
+-- A frame that was read.
+abbrev pub frameReading : ℕ → ℕ → Reading
+frameReading used len = record { number = 0; used = used; len = len }
+
 -- A refused read.
 abbrev pub noReading : ℕ → Reading
 noReading n = record { number = n; used = 0; len = 0 }
 
 -- The numbers of each answer.
 abbrev pub readingOf : ReadAnswer → Reading
-readingOf (Frame used len) = record { number = 0; used = used; len = len }
+readingOf (Frame used len) = frameReading used len
 readingOf (ReadRefused r) = noReading (numberOf r)
 
 -- What a read answers where the verdict on its bytes is this and the buffer has this length: refusals 1 to 6, then 13.
@@ -35,7 +39,7 @@ abbrev pub reading : Verdict → ℕ → Reading
 reading cut room = noReading 2
 reading (refused judged n) room = noReading n
 reading (frame used p) room =
-    cond (leb (length p) room) (record { number = 0; used = used; len = length p }) (noReading 13)
+    cond (leb (length p) room) (frameReading used (length p)) (noReading 13)
 
 -- What a read leaves in the buffer.
 abbrev pub readInto : Verdict → List ℕ → List ℕ
@@ -53,13 +57,17 @@ pub record Writing : Type 0 where
   pub number : ℕ
   pub len : ℕ
 
+-- What was written has this length.
+abbrev pub lengthWriting : ℕ → Writing
+lengthWriting len = record { number = 0; len = len }
+
 -- A refused write.
 abbrev pub noWriting : ℕ → Writing
 noWriting n = record { number = n; len = 0 }
 
 -- The numbers of each answer.
 abbrev pub writingOf : WriteAnswer → Writing
-writingOf (Written len) = record { number = 0; len = len }
+writingOf (Written len) = lengthWriting len
 writingOf (WriteRefused r) = noWriting (numberOf r)
 
 -- Document 01: 14 for a payload that is empty or over 256 bytes.
@@ -69,7 +77,7 @@ writable p = leb 1 (length p) && leb (length p) 256
 -- What a write of the payload p answers where the output is `out` and the buffer has this length: 14, then 13.
 abbrev pub writing : List ℕ → List ℕ → ℕ → Writing
 writing p out room =
-    cond (writable p) (cond (leb (length out) room) (record { number = 0; len = length out }) (noWriting 13)) (noWriting 14)
+    cond (writable p) (cond (leb (length out) room) (lengthWriting (length out)) (noWriting 13)) (noWriting 14)
 
 -- What it leaves in the buffer.
 abbrev pub writeInto : List ℕ → List ℕ → List ℕ → List ℕ

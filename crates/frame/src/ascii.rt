@@ -136,7 +136,7 @@ fn extract_short(s: &[u8], count: usize, buf: &mut [u8]) -> Judged
 {
     let n = count / 2;
     let end = 1 + count;
-    let two = hex::decode_two(&s[1..end], 0, count - 32);
+    let two = hex::decode_two(&s[1..end], count - 32);
     let whole = &two[..];
     let verdict = judge_end(s, count, hex::sum_of_two(whole, 48 - n));
     if let Judged::Frame { used: _, len: _ } = verdict {

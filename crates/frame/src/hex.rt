@@ -158,15 +158,14 @@ pub(crate) fn decode(src: &[u8], dst: &mut [u8])
     decode_blocks(src, dst);
 }
 
-// The 16 bytes whose digits begin at `first`, and the 16 whose digits begin at `last`.
-pub(crate) fn decode_two(s: &[u8], first: usize, last: usize) -> [u8; 32]
-    requires { ⌜ first + 32 ≤ length (now s) ⌝ }
+// The 16 bytes whose digits are in the front of s, and the 16 whose digits begin at `last`.
+pub(crate) fn decode_two(s: &[u8], last: usize) -> [u8; 32]
     requires { ⌜ last + 32 ≤ length (now s) ⌝ }
     requires { ⌜ Digits (now s) ⌝ }
-    ensures { λ r. ⌜ r ≡ decoded (take 32 (drop first (now (s .entry)))) ++ decoded (take 32 (drop last (now (s .entry)))) ⌝ }
+    ensures { λ r. ⌜ r ≡ decoded (take 32 (now (s .entry))) ++ decoded (take 32 (drop last (now (s .entry)))) ⌝ }
 {
     let mut two = [0u8; 32];
-    let block = decode_block(s, first);
+    let block = decode_block(s, 0);
     bytes::copy(&block, &mut two);
     let block = decode_block(s, last);
     bytes::copy(&block, &mut two[16..]);

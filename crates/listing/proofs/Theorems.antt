@@ -15,7 +15,7 @@ use Rattle.frame.specs.Binary.{binary, body}
 use Rattle.frame.specs.Framing.{inFront}
 use Rattle.frame.specs.Rule.{Output, join, places, outFrom, rule}
 use Rattle.frame.specs.Reader.{stateOf, sound}
-use Rattle.frame.specs.Single.{Writing, writingOf}
+use Rattle.frame.specs.Single.{Writing, lengthWriting, noWriting, writingOf}
 use Rattle.frame.specs.Drain.{drain, ruleAfter}
 use Rattle.frame.specs.declared.reader.Reader.{Reader}
 use Rattle.settings.specs.List.{widthOf, listFrom, isList}
@@ -109,7 +109,7 @@ total-is-small noise out a out′ p = by (leb 27 (length out)) refl (p .answers)
   where
     by :
         (q : Bool) → leb 27 (length out) ≡ q →
-        writingOf a ≡ cond q (record { number = 0; len = length (noiseLine noise) }) (record { number = 13; len = 0 }) →
+        writingOf a ≡ cond q (lengthWriting (length (noiseLine noise))) (noWriting 13) →
         out′ ≡ cond q (inFront (noiseLine noise) out) out → (writingOf a .len ≤ length out) × (length out′ ≡ length out)
     by true h e l =
         let room = noise-room noise out (leb-true 27 (length out) h) in

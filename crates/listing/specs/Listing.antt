@@ -9,7 +9,7 @@ use Rattle.frame.specs.Framing.{inFront}
 use Rattle.frame.specs.Refusal.{numberOf}
 use Rattle.frame.specs.Rule.{Output}
 use Rattle.frame.specs.Reader.{Settled, stateOf, newReader, Holds, sound, Promise}
-use Rattle.frame.specs.Single.{noWriting, writingOf}
+use Rattle.frame.specs.Single.{lengthWriting, noWriting, writingOf}
 use Rattle.frame.specs.Drain.{drain, afterDrain, ruleAfter}
 use Rattle.frame.specs.declared.reader.Reader.{Reader}
 use Rattle.frame.specs.declared.single.WriteAnswer.{WriteAnswer}
@@ -63,5 +63,5 @@ ListsQuiet r out a out′ = Lists (endRefusal r (length out)) (ruleAfter (stateO
 
 -- The total of noise: 13 for a buffer under 27 bytes, which any 64-bit number's line fits in.
 pub record ListsTotal (noise : ℕ) (out : List ℕ) (a : WriteAnswer) (out′ : List ℕ) : Type 0 where
-  pub answers : writingOf a ≡ cond (leb 27 (length out)) (record { number = 0; len = length (noiseLine noise) }) (noWriting 13)
+  pub answers : writingOf a ≡ cond (leb 27 (length out)) (lengthWriting (length (noiseLine noise))) (noWriting 13)
   pub leaves : out′ ≡ cond (leb 27 (length out)) (inFront (noiseLine noise) out) out

@@ -12,7 +12,7 @@ use lib.ListN.{length, take, drop, set}
 use lib.Seq.{paste, take-at, take-length, take-paste, take-append-add, length-paste}
 use Rattle.frame.specs.Framing.{layout, inFront}
 use Rattle.frame.specs.Refusal.{numberOf as frameNumber}
-use Rattle.frame.specs.Single.{Writing, noWriting, writing, writingOf, Writes as FrameWrites}
+use Rattle.frame.specs.Single.{Writing, lengthWriting, noWriting, writing, writingOf, Writes as FrameWrites}
 use Rattle.frame.specs.declared.framing.Framing.{Framing}
 use Rattle.frame.specs.declared.refusal.Refusal.{Refusal as FrameRefusal}
 use Rattle.frame.specs.declared.refusal.Refusal.the-variants.{Start, Cut, Length as FrameLength, Checksum, Footer, Character}
@@ -70,7 +70,7 @@ and-fails true b e = e
 and-fails false b e = refl
 
 -- A refusal of a write that is not 14 is 13.
-only-buffer : (w l : Bool) (n len : ℕ) → noWriting n ≡ cond w (cond l (record { number = 0; len = len }) (noWriting 13)) (noWriting 14)
+only-buffer : (w l : Bool) (n len : ℕ) → noWriting n ≡ cond w (cond l (lengthWriting len) (noWriting 13)) (noWriting 14)
     → 1 ≤ n → (n ≡ 14 → ⊥) → n ≡ 13
 only-buffer true true n len e h k = let zero : n ≡ 0 = ap (λ (x : Writing). x .number) e in omega arith
 only-buffer true false n len e h k = ap (λ (x : Writing). x .number) e
@@ -99,7 +99,7 @@ module _ (f : Framing) (p buf : List ℕ) where
       let small : Bool = leb (length p) 256 in
       let over : (leb 1 (length p) && small) ≡ false = and-fails (leb 1 (length p)) small (lt-leb (length p) 256 h) in
       record {
-        answers = ap (λ (q : Bool). cond q (cond fits (record { number = 0; len = n }) (noWriting 13)) (noWriting 14)) (sym over);
+        answers = ap (λ (q : Bool). cond q (cond fits (lengthWriting n) (noWriting 13)) (noWriting 14)) (sym over);
         leaves = ap (λ (q : Bool). cond (q && fits) (inFront (layout f p) buf) buf) (sym over);
       }
 

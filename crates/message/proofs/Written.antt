@@ -10,19 +10,15 @@ use lib.ListN.{length, take, drop}
 use lib.Seq.{take-at}
 use borrow.Author.Tests.{leb-true, le-leb, eqb-true, eq-eqb}
 use Rattle.frame.specs.Framing.{layout, inFront}
-use Rattle.frame.specs.Single.{Writing, noWriting, writable}
+use Rattle.frame.specs.Single.{Writing, lengthWriting, noWriting, writable}
 use Rattle.frame.specs.declared.framing.Framing.{Framing}
 use Rattle.message.specs.Write.{Writes}
 use Rattle.message.specs.declared.write.WriteAnswer.the-variants.{Written}
 use Rattle.message.proofs.Numbers.{both-true}
 
--- The answer with a length.
-abbrev answered : ℕ → Writing
-answered len = record { number = 0; len = len }
-
 -- A write that answers with a length was not refused.
-went-on : (t : Bool) (n : ℕ) {x : Writing} {len : ℕ} → (t ≡ false → n ≡ 0 → ⊥) → answered len ≡ cond t x (noWriting n) →
-    (t ≡ true) × (answered len ≡ x)
+went-on : (t : Bool) (n : ℕ) {x : Writing} {len : ℕ} → (t ≡ false → n ≡ 0 → ⊥) → lengthWriting len ≡ cond t x (noWriting n) →
+    (t ≡ true) × (lengthWriting len ≡ x)
 went-on true n numbered e = (refl, e)
 went-on false n numbered e = absurd (numbered refl (sym (ap (λ (w : Writing). w .number) e)))
 

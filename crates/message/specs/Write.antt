@@ -6,7 +6,7 @@ use mathlib.Core.Bool.{cond}
 use lib.Dec.{eqb}
 use lib.ListN.{length}
 use Rattle.frame.specs.Framing.{layout}
-use Rattle.frame.specs.Single.{Writing, noWriting, writing, writeInto}
+use Rattle.frame.specs.Single.{Writing, lengthWriting, noWriting, writing, writeInto}
 use Rattle.frame.specs.declared.framing.Framing.{Framing}
 use Rattle.message.specs.Refusal.{numberOf}
 use Rattle.message.specs.declared.write.WriteAnswer.{WriteAnswer}
@@ -14,7 +14,7 @@ use Rattle.message.specs.declared.write.WriteAnswer.the-variants.{Writte
 
 -- The number and the length of each answer.
 abbrev pub writtenOf : WriteAnswer → Writing
-writtenOf (Written len) = record { number = 0; len = len }
+writtenOf (Written len) = lengthWriting len
 writtenOf (Refused r) = noWriting (numberOf r)
 
 -- The numbers of a write of a message with the payload p, which is refused with `refusal`, 0 for none, into a buffer with `room` bytes: the message's own

@@ -95,7 +95,7 @@ decode-two-requires c κs = let a = c .before .before .before .args in
     let long : length (take (1 + a .count - 1) (drop 1 (a .s .now))) ≡ 1 + a .count - 1 =
     length-take-le (1 + a .count - 1) (drop 1 (a .s .now)) (omega (arith, length-drop 1 (a .s .now), h .inside))
     in
-    (omega (arith, long, h .least), (omega (arith, long, h .least), line-all-digits (a .s .now) (a .count) (c .before .before .before .pre .0)))
+    (omega (arith, long, h .least), line-all-digits (a .s .now) (a .count) (c .before .before .before .pre .0))
 
 slice-aggregate-whole : tie.Need-slice-aggregate-whole
 slice-aggregate-whole c = sym (long (c .before))

@@ -57,7 +57,7 @@ returns c =
     let last = c .before .before .before .before .decode-block2 in
     copied-at (p .copy .last .1 .0) (last .result) _ 16 16 (omega (arith, p .copy .kept .1 .0)) (c .before .copy2 .ensures .1)
     ∙ ap (λ (d : List _). paste d 16 (last .result) (length (last .result))) (copied _ (first .result) _ (p .copy .ensures .1))
-    ∙ two-blocks _ (first .result) (last .result) (omega arith) (ap length (first .ensures) ∙ length-block (a .s .now) (a .first) (omega arith))
+    ∙ two-blocks _ (first .result) (last .result) (omega arith) (ap length (first .ensures) ∙ length-block (a .s .now) 0 (omega arith))
     (ap length (last .ensures) ∙ length-block (a .s .now) (a .last) (omega arith))
     ∙ ap₂ (λ (x y : List _). x ++ y) (first .ensures) (last .ensures)
 

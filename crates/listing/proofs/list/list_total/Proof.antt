@@ -5,6 +5,7 @@ use mathlib.Core.Path.{refl}
 use borrow.Author.Needs.{needs}
 use borrow.Author.Tests.{le-leb, lt-leb}
 use lib.ListN.{length, length-append}
+use Rattle.frame.specs.Single.{lengthWriting}
 use Rattle.listing.specs.Line.{noiseLine}
 use Rattle.listing.proofs.Texts.{both-put}
 use Rattle.listing.proofs.Lines.{decimal-few, noise-parts, noise-room}
@@ -45,7 +46,7 @@ returns-2 c =
     let room = noise-room (s .args .noise) o (i .if1 .left) in
     let front = puts-front o (noiseLine (s .args .noise)) _ _ (both-put (noise-parts _) room (t .put-text .ensures) (d .put-decimal .ensures)) in
     record {
-      answers = rw long (λ i. record { number = 0; len = front .0 i });
+      answers = rw long (λ i. lengthWriting (front .0 i));
       leaves = rw long (front .1);
     }
 
