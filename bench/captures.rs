@@ -99,6 +99,12 @@ fn setup(rng: &mut Rng) -> Vec<u8> {
     }
 }
 
+/// A short message.
+fn short(rng: &mut Rng) -> Vec<u8> {
+    let len = rng.below(8);
+    if rng.one_in(2) { simple(rng, len) } else { response(rng) }
+}
+
 /// A payload of 256 bytes, the longest.
 fn longest(rng: &mut Rng) -> Vec<u8> {
     if rng.one_in(2) { simple(rng, 254) } else { extended(rng, 242) }
@@ -262,6 +268,42 @@ fn footers(rng: &mut Rng, framing: Framing) -> Vec<u8> {
     [claims, frame(rng, framing, response), vec![0x04; more]].concat()
 }
 
+/// What a terminal sends at the end of a line: CR, LF or both, and once in four times more of them.
+fn line_end(rng: &mut Rng) -> &'static [u8] {
+    match rng.below(16) {
+        0..=3 => b"\r",
+        4..=7 => b"\n",
+        8..=11 => b"\r\n",
+        12 => b"\n\n",
+        13 => b"\n\r",
+        14 => b"\r\n\n",
+        _ => b"\r\r\n",
+    }
+}
+
+/// A line of a terminal: a short frame, once in 16 times with a wrong checksum, with any ending behind it.
+fn line(rng: &mut Rng, framing: Framing) -> Vec<u8> {
+    let error = if rng.one_in(16) { 1 + rng.below(255) as u8 } else { 0 };
+    let mut line = frame_off_by(rng, framing, short, error);
+    line.truncate(line.len() - 2);
+    line.extend(line_end(rng));
+    line
+}
+
+/// Lines of terminals. One in 16 is cut short, one in 16 is corrupted, and before one in 16 there is noise, half of it CRs and LFs.
+fn endings(rng: &mut Rng, framing: Framing) -> Vec<u8> {
+    let mut next = line(rng, framing);
+    let len = 1 + rng.below(8);
+    match rng.below(32) {
+        0 | 1 => next.truncate(1 + rng.below(next.len() - 1)),
+        2 | 3 => corrupt(rng, &mut next),
+        4 => return [rng.bytes(len), next].concat(),
+        5 => return [(0..len).map(|_| b"\r\n"[rng.below(2)]).collect(), next].concat(),
+        _ => (),
+    }
+    next
+}
+
 fn random(rng: &mut Rng, _: Framing) -> Vec<u8> {
     rng.bytes(4096)
 }
@@ -276,6 +318,7 @@ fn sources(framing: Framing) -> Vec<(&'static str, Source)> {
             ("truncated", truncated),
             ("colons", colons),
             ("setup", setups),
+            ("endings", endings),
         ],
         Binary => vec![
             ("mixed", mixed),

@@ -33,8 +33,9 @@ fn in_front(bytes: &[u8], buf: &[u8]) -> Vec<u8> {
 fn format_number(format: Format) -> u8 {
     match format {
         Format::Optional => 0,
-        Format::Ascii => 1,
+        Format::Strict => 1,
         Format::Required => 2,
+        Format::AnyEnding => 3,
     }
 }
 
@@ -54,16 +55,17 @@ fn unknown_number(r: &mut Random, first: u8) -> u8 {
 /// A format and its number, or now and then a number that stands for none.
 fn any_format(r: &mut Random) -> (Option<Format>, u8) {
     if r.once_in(50) {
-        return (None, unknown_number(r, 3));
+        return (None, unknown_number(r, 4));
     }
     let f = random::format(r);
     (Some(f), format_number(f))
 }
 
-/// A framing and its number, or now and then a number that stands for none: 2, which stands for a format, does not.
+/// A framing and its number, or now and then a number that stands for none: 2 and 3, which stand for formats, do not.
 fn any_framing(r: &mut Random) -> (Option<Framing>, u8) {
     if r.once_in(50) {
-        return (None, unknown_number(r, 2));
+        let first = r.pick(&[2, 3]);
+        return (None, unknown_number(r, first));
     }
     let f = random::framing(r);
     (Some(f), framing_number(f))
@@ -82,7 +84,7 @@ fn room_for(r: &mut Random, need: usize) -> usize {
 /// A single read of a segment's front.
 pub fn single_read(r: &mut Random, tally: &mut Tally) -> Outcome {
     let (f, number) = any_format(r);
-    let s = random::segment(r, f.unwrap_or(Format::Ascii).framing());
+    let s = random::segment(r, f.unwrap_or(Format::Strict).framing());
     let need = f.and_then(|f| frames::read_frame(f, &s, 256).ok()).map_or(8, |x| x.1.len());
     let room = room_for(r, need);
     let before = patterned(r, room);
@@ -94,7 +96,7 @@ pub fn single_read(r: &mut Random, tally: &mut Tally) -> Outcome {
     let mut buf = before;
     let got = library::read_frame(number, &s, &mut buf);
     tally.refusal(got.refusal);
-    tally.single_read(f, got);
+    tally.single_read(f, &s, got);
     let input = || format!("read_frame format {number} room {room} bytes {}", hex(&s));
     same("answer", &input, got, answer)?;
     same("buffer", &input, buf, after)
@@ -325,7 +327,8 @@ impl Pair {
         let call = frames::feed(self.format, &self.state, chunk);
         let (taken, is_frame) = (call.taken, call.payload.is_some());
         tally.add("line calls that give a frame", is_frame);
-        tally.footer_in_line(self.format, &self.state, chunk);
+        tally.add("line calls that give a frame that ends with an LF alone", self.format == Format::AnyEnding && is_frame && !call.state.follows);
+        tally.optional_in_line(self.format, &self.state, chunk);
         self.answered(call, false, &input, got, &buf, &before)?;
         Ok((taken, is_frame))
     }
@@ -352,7 +355,7 @@ impl Pair {
         let call = frames::quiet(self.format, &self.state);
         let is_frame = call.payload.is_some();
         tally.add("quiet calls that give a frame", is_frame);
-        tally.footer_in_quiet(self.format, &self.state, &call);
+        tally.optional_in_quiet(self.format, &self.state, &call);
         self.answered(call, !is_frame, &input, got, &buf, &before)?;
         Ok(is_frame)
     }
@@ -382,8 +385,8 @@ impl Pair {
 
     /// A whole chunk: its rest again until more bytes are needed.
     fn chunk(&mut self, r: &mut Random, tally: &mut Tally, mut rest: &[u8]) -> Outcome {
-        let is_split = self.state.held.is_empty() && self.state.meets_footer(self.format, rest);
-        tally.add("footers that a chunk's end parts from their frames", is_split);
+        let is_split = self.state.held.is_empty() && self.state.meets_optional(self.format, rest);
+        tally.optional_apart(self.format, is_split);
         loop {
             self.maybe_refused(r, tally)?;
             let room = 256 + r.below(8);
@@ -440,7 +443,7 @@ fn cuts(r: &mut Random, n: usize) -> Vec<usize> {
     sizes
 }
 
-/// Feeds a segment in cuts, then the quiet. Gives whether a footer might have followed when the quiet came.
+/// Feeds a segment in cuts, then the quiet. Gives whether an optional byte might have followed when the quiet came.
 fn drive(pair: &mut Pair, r: &mut Random, tally: &mut Tally, segment: &[u8]) -> Result<bool, String> {
     let mut rest = segment;
     for size in cuts(r, segment.len()) {
@@ -462,7 +465,7 @@ pub fn segment(r: &mut Random, tally: &mut Tally) -> Outcome {
     let mut was_marked = false;
     for _ in 0..r.within(1, 2) {
         let s = random::next_segment(r, pair.format.framing());
-        tally.add("footers after a quiet, which are noise", was_marked && s.first() == Some(&0x04));
+        tally.optional_after_quiet(pair.format, was_marked && s.first().copied() == pair.format.optional());
         was_marked = drive(&mut pair, r, tally, &s)?;
         pair.by_rule(&State::default(), &s, tally)?;
         pair.frames.clear();
@@ -505,7 +508,7 @@ pub fn made_state(r: &mut Random, tally: &mut Tally) -> Outcome {
 
 /// A state whose format number stands for none, with any mark.
 pub fn unknown_format(r: &mut Random, tally: &mut Tally) -> Outcome {
-    let number = unknown_number(r, 3);
+    let number = unknown_number(r, 4);
     let mut reader = library::new_reader(number);
     same("new reader", &|| format!("format {number}"), reader, Reader { format: number, held: [0; 517], count: 0, follows: 0 })?;
     let bytes = r.bytes(517);

@@ -1,5 +1,5 @@
-//! Document 01's frames, leftmost rule and line reader, with CR 2 of document 02, byte by byte. Nothing is shared with the library: this is a second
-//! reading of the same text.
+//! Document 01's frames, leftmost rule and line reader, with CR 2 and CR 9 of document 02, byte by byte. Nothing is shared with the library: this is a
+//! second reading of the same text.
 
 /// How frames are written.
 #[derive(Clone, Copy, Debug, PartialEq)]
@@ -8,21 +8,22 @@ pub enum Framing {
     Ascii,
 }
 
-/// How frames are read: binary ones whose 04 may be missing, or may not, or ASCII ones.
+/// How frames are read: binary ones whose 04 may be missing, or may not; ASCII ones that end with CR LF, or with any of CR, LF and both.
 #[derive(Clone, Copy, Debug, PartialEq)]
 pub enum Format {
     Optional,
     Required,
-    Ascii,
+    Strict,
+    AnyEnding,
 }
 
 impl Format {
-    pub const ALL: [Format; 3] = [Format::Optional, Format::Required, Format::Ascii];
+    pub const ALL: [Format; 4] = [Format::Optional, Format::Required, Format::Strict, Format::AnyEnding];
 
     pub fn framing(self) -> Framing {
         match self {
             Format::Optional | Format::Required => Framing::Binary,
-            Format::Ascii => Framing::Ascii,
+            Format::Strict | Format::AnyEnding => Framing::Ascii,
         }
     }
 
@@ -31,6 +32,24 @@ impl Format {
         match self.framing() {
             Framing::Binary => 262,
             Framing::Ascii => 517,
+        }
+    }
+
+    /// The byte that, next to a complete frame, may belong to it.
+    pub fn optional(self) -> Option<u8> {
+        match self {
+            Format::Optional => Some(0x04),
+            Format::AnyEnding => Some(0x0A),
+            Format::Required | Format::Strict => None,
+        }
+    }
+
+    /// Whether such a byte belongs to a complete frame that ends with `last`: an LF only where that is a CR.
+    fn may_follow(self, last: u8) -> bool {
+        match self {
+            Format::Optional => true,
+            Format::AnyEnding => last == 0x0D,
+            Format::Required | Format::Strict => false,
         }
     }
 }
@@ -49,7 +68,8 @@ pub fn judge(format: Format, s: &[u8]) -> Verdict {
     match format {
         Format::Optional => judge_binary(s, false),
         Format::Required => judge_binary(s, true),
-        Format::Ascii => judge_ascii(s),
+        Format::Strict => judge_ascii(s, false),
+        Format::AnyEnding => judge_ascii(s, true),
     }
 }
 
@@ -84,7 +104,7 @@ fn judge_binary(s: &[u8], needs_footer: bool) -> Verdict {
     Verdict::Cut
 }
 
-fn judge_ascii(s: &[u8]) -> Verdict {
+fn judge_ascii(s: &[u8], takes_any_ending: bool) -> Verdict {
     let mut digits: Vec<u8> = Vec::new();
     let mut payload: Option<Vec<u8>> = None;
     for (i, &b) in s.iter().enumerate() {
@@ -102,8 +122,9 @@ fn judge_ascii(s: &[u8]) -> Verdict {
                 return Verdict::Fails(3);
             }
             digits.push(b);
-        } else if b == 0x0D {
+        } else if b == 0x0D || (takes_any_ending && b == 0x0A) {
             match line(&digits) {
+                Ok(payload) if takes_any_ending => return Verdict::Frame { size: i + 1, payload },
                 Ok(bytes) => payload = Some(bytes),
                 Err(number) => return Verdict::Fails(number),
             }
@@ -148,9 +169,9 @@ pub fn frame(framing: Framing, payload: &[u8]) -> Vec<u8> {
     }
 }
 
-/// Whether the byte next to a frame belongs to it although the frame is complete without it.
-fn is_footer(format: Format, next: Option<&u8>) -> bool {
-    format == Format::Optional && next == Some(&0x04)
+/// Whether the byte next to the frame of `size` bytes at the front of `s` belongs to it although the frame is complete without it.
+fn has_optional(format: Format, s: &[u8], size: usize) -> bool {
+    format.may_follow(s[size - 1]) && s.get(size).copied() == format.optional()
 }
 
 /// A single read into a buffer of `room` bytes: bytes used and payload, or the refusal.
@@ -159,7 +180,7 @@ pub fn read_frame(format: Format, s: &[u8], room: usize) -> Result<(usize, Vec<u
         Verdict::Cut => Err(2),
         Verdict::Fails(number) => Err(number),
         Verdict::Frame { payload, .. } if room < payload.len() => Err(13),
-        Verdict::Frame { size, payload } => Ok((size + is_footer(format, s.get(size)) as usize, payload)),
+        Verdict::Frame { size, payload } => Ok((size + has_optional(format, s, size) as usize, payload)),
     }
 }
 
@@ -184,8 +205,7 @@ fn rule(format: Format, segment: &[u8]) -> (Vec<Vec<u8>>, usize) {
         match judge(format, &segment[place..]) {
             Verdict::Frame { size, payload } => {
                 frames.push(payload);
-                place += size;
-                place += is_footer(format, segment.get(place)) as usize;
+                place += size + has_optional(format, &segment[place..], size) as usize;
             }
             _ => {
                 noise += 1;
@@ -196,7 +216,7 @@ fn rule(format: Format, segment: &[u8]) -> (Vec<Vec<u8>>, usize) {
     (frames, noise)
 }
 
-/// What a reader remembers between calls: undecided bytes, and whether the footer of the frame that it gave last may follow.
+/// What a reader remembers between calls: undecided bytes, and whether the optional byte of the frame that it gave last may follow.
 #[derive(Clone, Debug, Default, PartialEq)]
 pub struct State {
     pub held: Vec<u8>,
@@ -204,15 +224,16 @@ pub struct State {
 }
 
 impl State {
-    /// Whether the next byte of the line, the first held one or else the first of `chunk`, is the footer that may follow.
-    pub fn meets_footer(&self, format: Format, chunk: &[u8]) -> bool {
-        self.follows && is_footer(format, self.held.iter().chain(chunk).next())
+    /// Whether the next byte of the line, the first held one or else the first of `chunk`, is the optional byte that may follow.
+    pub fn meets_optional(&self, format: Format, chunk: &[u8]) -> bool {
+        let next = self.held.iter().chain(chunk).next();
+        self.follows && next.is_some() && next.copied() == format.optional()
     }
 
     /// The rule from this state on, where `rest` is what is to come of the segment.
     pub fn rule(&self, format: Format, rest: &[u8]) -> (Vec<Vec<u8>>, usize) {
         let line = [&self.held, rest].concat();
-        rule(format, &line[self.meets_footer(format, rest) as usize..])
+        rule(format, &line[self.meets_optional(format, rest) as usize..])
     }
 }
 
@@ -226,12 +247,12 @@ pub struct Call {
 }
 
 /// The line call by the taking rule: a further byte is taken only while the held bytes are empty or have passed every check without completing a frame.
-/// Before that the footer that may follow is passed over; it is taken if it was not held.
+/// Before that the optional byte that may follow is passed over; it is taken if it was not held.
 pub fn feed(format: Format, state: &State, chunk: &[u8]) -> Call {
     let mut held = state.held.clone();
     let mut taken = 0;
     let mut noise = 0;
-    if state.meets_footer(format, chunk) {
+    if state.meets_optional(format, chunk) {
         if held.is_empty() {
             taken += 1;
         } else {
@@ -247,8 +268,9 @@ pub fn feed(format: Format, state: &State, chunk: &[u8]) -> Call {
                     noise += 1;
                 }
                 Verdict::Frame { size, payload } => {
+                    let follows = format.may_follow(held[size - 1]);
                     held.drain(..size);
-                    return Call { taken, noise, payload: Some(payload), state: State { held, follows: format == Format::Optional } };
+                    return Call { taken, noise, payload: Some(payload), state: State { held, follows } };
                 }
             }
         }
@@ -262,17 +284,18 @@ pub fn feed(format: Format, state: &State, chunk: &[u8]) -> Call {
     Call { taken, noise, payload: None, state: State { held, follows: state.follows && nothing_came } }
 }
 
-/// The quiet call: the held bytes end the segment, so an unfinished frame fails like any other, and no footer comes any more but a held one.
+/// The quiet call: the held bytes end the segment, so an unfinished frame fails like any other, and no optional byte comes any more but a held one.
 pub fn quiet(format: Format, state: &State) -> Call {
     let mut held = state.held.clone();
     let mut noise = 0;
-    if state.meets_footer(format, &[]) {
+    if state.meets_optional(format, &[]) {
         held.remove(0);
     }
     while !held.is_empty() {
         if let Verdict::Frame { size, payload } = judge(format, &held) {
+            let follows = format.may_follow(held[size - 1]);
             held.drain(..size);
-            return Call { taken: 0, noise, payload: Some(payload), state: State { held, follows: format == Format::Optional } };
+            return Call { taken: 0, noise, payload: Some(payload), state: State { held, follows } };
         }
         held.remove(0);
         noise += 1;

@@ -30,38 +30,113 @@ impl Tally {
         *self.calls.entry(what).or_default() += seen as usize;
     }
 
-    /// A single read, told apart by its format.
-    pub fn single_read(&mut self, format: Option<Format>, reading: Reading) {
+    /// A single read of `s`, told apart by its format.
+    pub fn single_read(&mut self, format: Option<Format>, s: &[u8], reading: Reading) {
         let is_frame = reading.refusal == 0;
         let has_footer = reading.used == reading.len + 6;
         self.add("single reads of a frame with an optional footer", format == Some(Format::Optional) && is_frame && has_footer);
         self.add("single reads of a frame without one", format == Some(Format::Optional) && is_frame && !has_footer);
         self.add("single reads of a frame with a required footer", format == Some(Format::Required) && is_frame);
-        self.add("single reads of an ASCII frame", format == Some(Format::Ascii) && is_frame);
+        self.add("single reads of an ASCII frame", format == Some(Format::Strict) && is_frame);
         self.add("single reads with a required footer refused with 5", format == Some(Format::Required) && reading.refusal == 5);
-        self.add("single reads in ASCII refused with 5", format == Some(Format::Ascii) && reading.refusal == 5);
+        self.add("single reads in ASCII refused with 5", format == Some(Format::Strict) && reading.refusal == 5);
+        if format == Some(Format::AnyEnding) {
+            self.single_read_of_any_ending(s, reading);
+        }
     }
 
-    /// What a line call makes of the mark and of a footer.
-    pub fn footer_in_line(&mut self, format: Format, state: &State, chunk: &[u8]) {
+    fn single_read_of_any_ending(&mut self, s: &[u8], reading: Reading) {
+        let is_frame = reading.refusal == 0;
+        let has_both = reading.used == 2 * reading.len + 5;
+        let end = s.iter().skip(1).take(515).find(|b| !matches!(b, b'0'..=b'9' | b'A'..=b'F'));
+        let is_cr = end == Some(&0x0D);
+        let is_lf = end == Some(&0x0A);
+        self.add("single reads with any ending of a frame with CR LF", is_frame && is_cr && has_both);
+        self.add("single reads with any ending of a frame with CR", is_frame && is_cr && !has_both);
+        self.add("single reads with any ending of a frame with LF", is_frame && is_lf);
+        self.add("single reads with any ending refused with 3 at LF", is_lf && reading.refusal == 3);
+        self.add("single reads with any ending refused with 4 at LF", is_lf && reading.refusal == 4);
+        self.add("single reads with any ending refused with 6", reading.refusal == 6);
+    }
+
+    /// What a line call makes of the mark and of an optional byte.
+    pub fn optional_in_line(&mut self, format: Format, state: &State, chunk: &[u8]) {
+        let words = Words::of(format);
         let is_held = !state.held.is_empty();
-        let meets = state.meets_footer(format, chunk);
-        let has_mark = state.follows && format == Format::Optional;
+        let meets = state.meets_optional(format, chunk);
+        let has_mark = state.follows && format.optional().is_some();
         let nothing_came = !is_held && chunk.is_empty();
-        self.add("footers taken from a chunk", meets && !is_held);
-        self.add("held footers dropped by a line call", meets && is_held);
-        self.add("footers with a second one behind them", meets && state.held.iter().chain(chunk).nth(1) == Some(&0x04));
-        self.add("marks kept by an empty chunk", has_mark && nothing_came);
-        self.add("marks that another byte ends", has_mark && !meets && !nothing_came);
+        let second = state.held.iter().chain(chunk).nth(1);
+        self.add(words.taken, meets && !is_held);
+        self.add(words.dropped, meets && is_held);
+        self.add(words.doubled, meets && second.copied() == format.optional());
+        self.add(words.kept, has_mark && nothing_came);
+        self.add(words.ended, has_mark && !meets && !nothing_came);
         self.add("marks without a meaning", state.follows && !has_mark);
     }
 
     /// The same of a quiet call.
-    pub fn footer_in_quiet(&mut self, format: Format, state: &State, call: &Call) {
-        self.add("held footers dropped by a quiet call", state.meets_footer(format, &[]));
-        self.add("frames of a quiet with a held footer behind them", call.payload.is_some() && call.state.meets_footer(format, &[]));
+    pub fn optional_in_quiet(&mut self, format: Format, state: &State, call: &Call) {
+        let words = Words::of(format);
+        self.add(words.dropped_by_quiet, state.meets_optional(format, &[]));
+        self.add(words.behind_quiet, call.payload.is_some() && call.state.meets_optional(format, &[]));
+    }
+
+    pub fn optional_apart(&mut self, format: Format, seen: bool) {
+        self.add(Words::of(format).apart, seen);
+    }
+
+    pub fn optional_after_quiet(&mut self, format: Format, seen: bool) {
+        self.add(Words::of(format).after_quiet, seen);
     }
 }
+
+/// What is counted of optional bytes, in words.
+struct Words {
+    taken: &'static str,
+    dropped: &'static str,
+    doubled: &'static str,
+    kept: &'static str,
+    ended: &'static str,
+    dropped_by_quiet: &'static str,
+    behind_quiet: &'static str,
+    apart: &'static str,
+    after_quiet: &'static str,
+}
+
+impl Words {
+    /// The words for a format: where it has no optional byte, those for footers, of which none is seen there.
+    fn of(format: Format) -> &'static Words {
+        match format {
+            Format::AnyEnding => &LINE_FEEDS,
+            Format::Optional | Format::Required | Format::Strict => &FOOTERS,
+        }
+    }
+}
+
+static FOOTERS: Words = Words {
+    taken: "footers taken from a chunk",
+    dropped: "held footers dropped by a line call",
+    doubled: "footers with a second one behind them",
+    kept: "marks of a footer kept by an empty chunk",
+    ended: "marks of a footer that another byte ends",
+    dropped_by_quiet: "held footers dropped by a quiet call",
+    behind_quiet: "frames of a quiet with a held footer behind them",
+    apart: "footers that a chunk's end parts from their frames",
+    after_quiet: "footers after a quiet, which are noise",
+};
+
+static LINE_FEEDS: Words = Words {
+    taken: "LFs taken from a chunk",
+    dropped: "held LFs dropped by a line call",
+    doubled: "LFs with a second one behind them",
+    kept: "marks of an LF kept by an empty chunk",
+    ended: "marks of an LF that another byte ends",
+    dropped_by_quiet: "held LFs dropped by a quiet call",
+    behind_quiet: "frames of a quiet with a held LF behind them",
+    apart: "LFs that a chunk's end parts from their frames",
+    after_quiet: "LFs after a quiet, which are noise",
+};
 
 type Case = fn(&mut Random, &mut Tally) -> compare::Outcome;
 

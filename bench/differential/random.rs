@@ -123,19 +123,31 @@ fn long_line(r: &mut Random) -> Vec<u8> {
     [b":".to_vec(), vec![b'0'; n], end.to_vec()].concat()
 }
 
-/// A frame; in binary framing with its footer, or without, or with some bytes too many that look like one.
+/// A frame; in binary framing with its footer, or without, or with some bytes too many that look like one; in ASCII framing with any ending.
 fn sent(r: &mut Random, f: Framing) -> Vec<u8> {
     let mut s = frame(f, &payload(r));
     match (f, r.below(8)) {
         (Framing::Binary, 0..=2) => drop(s.pop()),
-        (Framing::Binary, 3) => s.extend(footers(r)),
+        (Framing::Binary, 3) => s.extend(optional(r, f)),
+        (Framing::Ascii, 0..=3) => {
+            s.truncate(s.len() - 2);
+            s.extend(r.pick(&ENDINGS));
+        }
         _ => {}
     }
     s
 }
 
-fn footers(r: &mut Random) -> Vec<u8> {
-    vec![0x04; r.within(1, 3)]
+/// What may stand behind the digits of a frame in place of CR LF, which other frames have.
+const ENDINGS: [&[u8]; 10] = [b"\r", b"\r", b"\n", b"\n", b"\n\n", b"\n\r", b"\r\r\n", b"\r\n\n", b"\r\n\r\n", b""];
+
+/// Bytes that look like the optional one of a frame before them: its footer, or the LF behind its CR.
+fn optional(r: &mut Random, f: Framing) -> Vec<u8> {
+    let byte = match f {
+        Framing::Binary => 0x04,
+        Framing::Ascii => 0x0A,
+    };
+    vec![byte; r.within(1, 3)]
 }
 
 /// A frame with one thing wrong.
@@ -167,8 +179,8 @@ fn part(r: &mut Random, f: Framing) -> Vec<u8> {
             garbage(r, f, n)
         }
         7 | 8 => stray_start(r, f),
+        _ if r.once_in(2) => optional(r, f),
         _ if f == Framing::Ascii => long_line(r),
-        _ if r.once_in(2) => footers(r),
         _ => frame(Framing::Ascii, &payload(r)),
     }
 }
@@ -183,12 +195,9 @@ pub fn segment(r: &mut Random, f: Framing) -> Vec<u8> {
     s
 }
 
-/// A segment, in binary framing often with bytes in front that look like the footer of a frame before it.
+/// A segment, often with bytes in front that look like the optional one of a frame before it.
 pub fn next_segment(r: &mut Random, f: Framing) -> Vec<u8> {
-    let front = match f {
-        Framing::Binary if r.once_in(3) => footers(r),
-        _ => Vec::new(),
-    };
+    let front = if r.once_in(3) { optional(r, f) } else { Vec::new() };
     [front, segment(r, f)].concat()
 }
 

@@ -5,6 +5,14 @@ pub const MAX_FRAME: usize = 517;
 
 const MAX_DIGITS: usize = 514;
 
+/// What ends a frame: CR LF, or any of CR, LF and both.
+#[allow(dead_code)] // booth-list reads frames that end with CR LF alone.
+#[derive(Clone, Copy)]
+pub enum Ending {
+    CrLf,
+    Any,
+}
+
 pub enum Judged {
     /// The bytes end before a decision.
     Undecided,
@@ -53,20 +61,27 @@ pub fn decode(digits: &[u8], to: &mut [u8]) -> u32 {
     sum
 }
 
-/// Judges what begins with the colon at the front of `s`. `sum` gives the sum of the bytes that digits stand for.
+/// Judges what begins with the colon at the front of `s`. With any ending, a frame is complete at a CR or an LF. `sum` gives the sum of the bytes that digits
+/// stand for.
 #[inline]
-pub fn judge(s: &[u8], sum: impl FnOnce(&[u8]) -> u32) -> Judged {
+pub fn judge(s: &[u8], ending: Ending, sum: impl FnOnce(&[u8]) -> u32) -> Judged {
     let digits = digit_run(&s[1..s.len().min(MAX_DIGITS + 2)]);
     if digits > MAX_DIGITS {
         return Judged::Failed(1 + digits);
     }
     let (run, rest) = s[1..].split_at(digits);
-    match rest {
-        [] => Judged::Undecided,
-        [b'\r', ..] if digits < 4 || digits % 2 != 0 || sum(run) % 256 != 0 => Judged::Failed(2 + digits),
-        [b'\r'] => Judged::Undecided,
-        [b'\r', b'\n', ..] => Judged::Frame { used: 3 + digits, len: digits / 2 - 1 },
-        [b'\r', ..] => Judged::Failed(3 + digits),
-        _ => Judged::Failed(2 + digits),
+    let ends = match (rest, ending) {
+        ([], _) => return Judged::Undecided,
+        ([b'\r', ..], _) | ([b'\n', ..], Ending::Any) => true,
+        _ => false,
+    };
+    if !ends || digits < 4 || digits % 2 != 0 || sum(run) % 256 != 0 {
+        return Judged::Failed(2 + digits);
+    }
+    match (rest, ending) {
+        (_, Ending::Any) => Judged::Frame { used: 2 + digits, len: digits / 2 - 1 },
+        ([_], _) => Judged::Undecided,
+        ([_, b'\n', ..], _) => Judged::Frame { used: 3 + digits, len: digits / 2 - 1 },
+        _ => Judged::Failed(3 + digits),
     }
 }

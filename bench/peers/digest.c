@@ -1,5 +1,5 @@
 // digest FORMAT SIZE: feeds standard input to a line reader in chunks of SIZE bytes and prints what came out of it. FORMAT is binary, where the footer may be
-// missing, required, where it may not, or ascii.
+// missing, required, where it may not, ascii, where frames end with CR LF, or any, where they end with CR, LF or both.
 
 #include <inttypes.h>
 #include <stdio.h>
@@ -55,9 +55,9 @@ static void quiet_all(struct reader *r, struct totals *t)
 // The number of the format that a word names, or else of none.
 static int format_named(const char *word)
 {
-    static const char *const names[] = {[BINARY] = "binary", [REQUIRED] = "required", [ASCII] = "ascii"};
+    static const char *const names[] = {[BINARY] = "binary", [REQUIRED] = "required", [ASCII] = "ascii", [ANY] = "any"};
     int format = BINARY;
-    while (format <= ASCII && strcmp(word, names[format]) != 0)
+    while (format <= ANY && strcmp(word, names[format]) != 0)
         format++;
     return format;
 }
@@ -65,10 +65,10 @@ static int format_named(const char *word)
 int main(int argc, char **argv)
 {
     static uint8_t input[MAX_CHUNK];
-    int format = argc == 3 ? format_named(argv[1]) : ASCII + 1;
+    int format = argc == 3 ? format_named(argv[1]) : ANY + 1;
     size_t size = argc == 3 ? strtoul(argv[2], NULL, 10) : 0;
-    if (format > ASCII || size < 1 || size > MAX_CHUNK) {
-        fprintf(stderr, "usage: digest binary|required|ascii SIZE\n");
+    if (format > ANY || size < 1 || size > MAX_CHUNK) {
+        fprintf(stderr, "usage: digest binary|required|ascii|any SIZE\n");
         return 2;
     }
     init_tables();

@@ -1,10 +1,11 @@
 //! digest FORMAT SIZE: feeds standard input to a line reader in chunks of SIZE bytes and prints what came out of it. FORMAT is binary, where the footer may
-//! be missing, required, where it may not, or ascii.
+//! be missing, required, where it may not, ascii, where frames end with CR LF, or any, where they end with CR, LF or both.
 
 mod ascii;
 mod find;
 mod reader;
 
+use ascii::Ending;
 use reader::{FeedAnswer, Footer, Format, Framing, QuietAnswer, Reader};
 use std::io::{self, Read};
 
@@ -68,12 +69,13 @@ impl Totals {
 
 fn main() {
     let args: Vec<String> = std::env::args().collect();
-    let usage = "usage: digest binary|required|ascii SIZE";
+    let usage = "usage: digest binary|required|ascii|any SIZE";
     let [_, format, size] = &args[..] else { panic!("{usage}") };
     let mut reader = match &format[..] {
         "binary" => Reader::new(Framing::Binary),
         "required" => Reader::open(Format::Binary(Footer::Required)),
         "ascii" => Reader::new(Framing::Ascii),
+        "any" => Reader::open(Format::Ascii(Ending::Any)),
         _ => panic!("{usage}"),
     };
     let size: usize = size.parse().expect(usage);

@@ -171,7 +171,7 @@ static size_t print_frames(const uint8_t *s, size_t n)
             }
             at = (size_t)(colon - s);
         }
-        struct judged j = judge_ascii(s + at, n - at, payload);
+        struct judged j = judge_ascii(s + at, n - at, false, payload);
         if (j.verdict == UNDECIDED)
             break;
         if (j.verdict == FRAME) {

@@ -3,7 +3,7 @@
 mod ascii;
 mod find;
 
-use ascii::{decode, judge, Judged, MAX_FRAME};
+use ascii::{decode, judge, Ending, Judged, MAX_FRAME};
 use find::find;
 use std::io::{self, Read, Write};
 
@@ -201,7 +201,7 @@ fn print_frames(s: &[u8], out: &mut Output) -> (usize, usize) {
             let Some(skipped) = find(b':', &s[at..]) else { return (s.len(), framed) };
             at += skipped;
         }
-        match judge(&s[at..], |digits| decode(digits, &mut payload)) {
+        match judge(&s[at..], Ending::CrLf, |digits| decode(digits, &mut payload)) {
             Judged::Undecided => break,
             // The next place is one behind the colon, but up to the failing byte stand digits or a CR, which start no frame.
             Judged::Failed(judged) => at += judged - 1,

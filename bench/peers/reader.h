@@ -7,8 +7,8 @@
 
 #include "ascii.h"
 
-// How frames are read: in binary framing the footer may be missing, or is required.
-enum format { BINARY, REQUIRED, ASCII };
+// How frames are read: in binary framing the footer may be missing, or is required; in ASCII framing they end with CR LF, or with any ending.
+enum format { BINARY, REQUIRED, ASCII, ANY };
 
 enum { MAX_PAYLOAD = 256, MAX_BINARY = 262, MAX_CHUNK = 65536 };
 
@@ -16,9 +16,9 @@ enum { FOOTER = 0x04 };
 
 struct reader {
     enum format format;
-    bool follows; // the footer of the frame that was handed out last may follow
-    size_t count; // of held bytes
-    size_t due;   // while fewer bytes are held, no check falls due but that ASCII ones are digits
+    uint8_t optional; // byte of the frame that was handed out last, which may follow: its footer, or the LF behind its CR; 0: none
+    size_t count;     // of held bytes
+    size_t due;       // while fewer bytes are held, no check falls due but that ASCII ones are digits
     uint8_t held[MAX_ASCII];
 };
 
@@ -26,6 +26,12 @@ struct answer {
     size_t taken, noise;
     size_t len; // of the payload in the buffer; 0: needs more, or empty
 };
+
+// The ASCII formats are the last ones.
+static inline bool is_ascii(enum format format)
+{
+    return format >= ASCII;
+}
 
 static inline uint8_t xor_of(const uint8_t *s, size_t n)
 {
@@ -82,7 +88,7 @@ static inline size_t larger(size_t a, size_t b)
 static inline __attribute__((always_inline)) struct found
 scan_as(enum format format, const uint8_t *s, size_t n, size_t stop, size_t reach, bool ended, uint8_t *payload)
 {
-    const uint8_t start = format == ASCII ? ':' : 0xA5;
+    const uint8_t start = is_ascii(format) ? ':' : 0xA5;
     size_t place = 0;
     while (place < stop) {
         if (s[place] != start) {
@@ -91,7 +97,8 @@ scan_as(enum format format, const uint8_t *s, size_t n, size_t stop, size_t reac
                 break;
             place = (size_t)(next - s);
         }
-        struct judged j = format == ASCII ? judge_ascii(s + place, n - place, payload) : judge_binary(s + place, n - place, format == REQUIRED);
+        struct judged j = is_ascii(format) ? judge_ascii(s + place, n - place, format == ANY, payload)
+                                           : judge_binary(s + place, n - place, format == REQUIRED);
         if (j.verdict == FRAME || (j.verdict == UNDECIDED && !ended))
             return (struct found){place, larger(reach, place + j.judged), j};
         reach = larger(reach, place + j.judged);
@@ -108,8 +115,10 @@ static struct found scan(enum format format, const uint8_t *s, size_t n, size_t 
         return scan_as(BINARY, s, n, stop, reach, ended, payload);
     case REQUIRED:
         return scan_as(REQUIRED, s, n, stop, reach, ended, payload);
-    default:
+    case ASCII:
         return scan_as(ASCII, s, n, stop, reach, ended, payload);
+    default:
+        return scan_as(ANY, s, n, stop, reach, ended, payload);
     }
 }
 
@@ -124,19 +133,27 @@ static inline void hold(struct reader *r, const uint8_t *s, size_t n)
 static inline void await(struct reader *r, const uint8_t *s, size_t n)
 {
     hold(r, s, n);
-    if (r->format != ASCII && n >= 4)
+    if (!is_ascii(r->format) && n >= 4)
         r->due = length_at(r->held) + 5;
-    if (r->format == ASCII && n >= 1 && r->held[n - 1] != '\r')
+    if (is_ascii(r->format) && n >= 1 && r->held[n - 1] != '\r')
         r->due = MAX_DIGITS + 2;
+}
+
+// The byte that may follow a complete frame whose last byte is given, and belongs to it; 0: none.
+static inline uint8_t optional_behind(enum format format, uint8_t last)
+{
+    if (format == BINARY)
+        return FOOTER;
+    return format == ANY && last == '\r' ? '\n' : 0;
 }
 
 // Hands out the frame that was found in s, and holds the bytes behind it up to `end`.
 static inline void hand_out(struct reader *r, const uint8_t *s, const struct found *f, size_t end, const uint8_t *payload, uint8_t *buf)
 {
     size_t next = f->place + f->judged.judged;
-    memcpy(buf, r->format == ASCII ? payload : s + f->place + 4, f->judged.len);
+    memcpy(buf, is_ascii(r->format) ? payload : s + f->place + 4, f->judged.len);
+    r->optional = optional_behind(r->format, s[next - 1]);
     hold(r, s + next, end - next);
-    r->follows = r->format == BINARY;
 }
 
 // Finds the next frame in a chunk, where nothing is held.
@@ -156,7 +173,7 @@ static struct answer feed_chunk(struct reader *r, const uint8_t *chunk, size_t s
 // the longest frame, which decides its first place, and is moved up as places fail.
 static struct answer feed_held(struct reader *r, const uint8_t *chunk, size_t size, uint8_t *buf)
 {
-    const size_t limit = r->format == ASCII ? MAX_ASCII : MAX_BINARY;
+    const size_t limit = is_ascii(r->format) ? MAX_ASCII : MAX_BINARY;
     uint8_t payload[MAX_PAYLOAD + 1];
     size_t old = r->count; // bytes held before this call
     size_t reach = 0;      // judged bytes of the chunk
@@ -190,28 +207,29 @@ static inline bool goes_on(const struct reader *r, const uint8_t *chunk, size_t 
 {
     if (r->count + size >= r->due)
         return false;
-    if (r->format == ASCII)
+    if (is_ascii(r->format))
         for (size_t i = 0; i < size; i++)
             if (digit_value[chunk[i]] < 0)
                 return false;
     return true;
 }
 
-// Passes over a footer that follows the last frame: the first held byte or, where none is held, the first of the chunk. Gives how many bytes of the chunk it
-// is. Without a byte of either it may still follow.
-static inline size_t pass_footer(struct reader *r, const uint8_t *chunk, size_t size)
+// Passes over the optional byte that follows the last frame: the first held byte or, where none is held, the first of the chunk. Gives how many bytes of the
+// chunk it is. Without a byte of either it may still follow.
+static inline size_t pass_optional(struct reader *r, const uint8_t *chunk, size_t size)
 {
-    if (!r->follows || r->count + size == 0)
+    const uint8_t optional = r->optional;
+    if (optional == 0 || r->count + size == 0)
         return 0;
-    r->follows = false;
+    r->optional = 0;
     if (r->count == 0)
-        return chunk[0] == FOOTER;
-    if (r->held[0] == FOOTER)
+        return chunk[0] == optional;
+    if (r->held[0] == optional)
         hold(r, r->held + 1, r->count - 1);
     return 0;
 }
 
-// Finds the next frame where no footer follows.
+// Finds the next frame where no optional byte follows.
 static inline struct answer feed_next(struct reader *r, const uint8_t *chunk, size_t size, uint8_t *buf)
 {
     if (r->count == 0)
@@ -226,9 +244,9 @@ static inline struct answer feed_next(struct reader *r, const uint8_t *chunk, si
 // Takes bytes of a chunk up to the end of the next frame, whose payload goes to the front of the 256 bytes at buf.
 static struct answer feed(struct reader *r, const uint8_t *chunk, size_t size, uint8_t *buf)
 {
-    size_t footer = pass_footer(r, chunk, size);
-    struct answer a = feed_next(r, chunk + footer, size - footer, buf);
-    a.taken += footer;
+    size_t passed = pass_optional(r, chunk, size);
+    struct answer a = feed_next(r, chunk + passed, size - passed, buf);
+    a.taken += passed;
     return a;
 }
 
@@ -236,8 +254,8 @@ static struct answer feed(struct reader *r, const uint8_t *chunk, size_t size, u
 static struct answer quiet(struct reader *r, uint8_t *buf)
 {
     uint8_t payload[MAX_PAYLOAD + 1];
-    pass_footer(r, NULL, 0);
-    r->follows = false;
+    pass_optional(r, NULL, 0);
+    r->optional = 0;
     struct found f = scan(r->format, r->held, r->count, r->count, 0, true, payload);
     if (f.judged.verdict == FRAME)
         hand_out(r, r->held, &f, r->count, payload, buf);

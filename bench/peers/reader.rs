@@ -3,7 +3,7 @@
 
 #![allow(dead_code)] // The interface is whole, even where the digest does not ask.
 
-use crate::ascii::{self, Judged};
+use crate::ascii::{self, Ending, Judged};
 use crate::find::find;
 
 /// How a frame is written.
@@ -24,7 +24,7 @@ pub enum Footer {
 #[derive(Clone, Copy)]
 pub enum Format {
     Binary(Footer),
-    Ascii,
+    Ascii(Ending),
 }
 
 pub enum Refusal {
@@ -36,7 +36,8 @@ pub enum Refusal {
     State,
 }
 
-/// The first `count` of `held` are the held bytes. Where `follows`, the optional footer of the frame that was handed out last may follow.
+/// The first `count` of `held` are the held bytes. Where `follows`, the optional byte of the frame that was handed out last may follow: its footer, or the LF
+/// behind its CR.
 pub struct Reader {
     pub format: Format,
     pub held: [u8; Reader::MAX_ASCII],
@@ -95,7 +96,7 @@ impl Framing {
     pub fn format(self) -> Format {
         match self {
             Framing::Binary => Format::Binary(Footer::Optional),
-            Framing::Ascii => Format::Ascii,
+            Framing::Ascii => Format::Ascii(Ending::CrLf),
         }
     }
 }
@@ -104,27 +105,40 @@ impl Format {
     fn start(self) -> u8 {
         match self {
             Format::Binary(_) => 0xA5,
-            Format::Ascii => b':',
+            Format::Ascii(_) => b':',
         }
     }
 
     fn limit(self) -> usize {
         match self {
             Format::Binary(_) => Reader::MAX_BINARY,
-            Format::Ascii => Reader::MAX_ASCII,
+            Format::Ascii(_) => Reader::MAX_ASCII,
         }
     }
 
-    /// Whether a frame may be followed by a byte that belongs to it.
-    fn has_optional_footer(self) -> bool {
-        matches!(self, Format::Binary(Footer::Optional))
+    /// The byte that may follow a complete frame and belongs to it.
+    fn optional(self) -> Option<u8> {
+        match self {
+            Format::Binary(Footer::Optional) => Some(FOOTER),
+            Format::Ascii(Ending::Any) => Some(b'\n'),
+            _ => None,
+        }
+    }
+
+    /// Whether it may follow a frame whose last byte is `last`: an LF belongs to the frame only behind its CR.
+    fn may_follow(self, last: u8) -> bool {
+        match self {
+            Format::Binary(Footer::Optional) => true,
+            Format::Ascii(Ending::Any) => last == b'\r',
+            _ => false,
+        }
     }
 
     /// Judges what begins with the start byte at the front of `s`.
     fn judge(self, s: &[u8]) -> Judged {
         match self {
             Format::Binary(footer) => judge_binary(footer, s),
-            Format::Ascii => ascii::judge(s, |digits| ascii::decode(digits, &mut [0; 257])),
+            Format::Ascii(ending) => ascii::judge(s, ending, |digits| ascii::decode(digits, &mut [0; 257])),
         }
     }
 
@@ -132,7 +146,7 @@ impl Format {
     fn unpack(self, s: &[u8], payload: &mut [u8]) {
         match self {
             Format::Binary(_) => payload.copy_from_slice(&s[4..4 + payload.len()]),
-            Format::Ascii => {
+            Format::Ascii(_) => {
                 ascii::decode(&s[1..1 + 2 * payload.len()], payload);
             }
         }
@@ -222,7 +236,7 @@ impl Reader {
         if let End::Frame { used, len } = end {
             self.format.unpack(&chunk[place..], &mut buf[..len]);
             self.hold(&chunk[place + used..reach]);
-            self.follows = self.format.has_optional_footer();
+            self.follows = self.format.may_follow(chunk[place + used - 1]);
             return FeedAnswer::Frame { taken: reach, noise, len };
         }
         self.hold(&chunk[place..]);
@@ -246,8 +260,8 @@ impl Reader {
             match end {
                 End::Frame { used, len } => {
                     self.format.unpack(&self.held[place..], &mut buf[..len]);
+                    self.follows = self.format.may_follow(self.held[place + used - 1]);
                     self.keep(place + used, reach);
-                    self.follows = self.format.has_optional_footer();
                     return FeedAnswer::Frame { taken: judged, noise: settled, len };
                 }
                 End::Passed => {
@@ -265,17 +279,22 @@ impl Reader {
         }
     }
 
-    /// Passes over the footer of the last frame, if it follows: the first held byte or, where none is held, the first of the chunk. Gives how many bytes of
-    /// the chunk it is. Without a byte of either the mark stays.
-    fn pass_footer(&mut self, chunk: &[u8]) -> usize {
-        let follows = self.follows && self.format.has_optional_footer();
-        self.follows &= self.count == 0 && chunk.is_empty();
-        match (&self.held[..self.count], chunk) {
-            ([], [FOOTER, ..]) if follows => return 1,
-            ([FOOTER, ..], _) if follows => self.keep(1, self.count),
-            _ => (),
+    /// Passes over the optional byte of the last frame, if it follows: the first held byte or, where none is held, the first of the chunk. Gives how many
+    /// bytes of the chunk it is. Without a byte of either the mark stays.
+    fn pass_optional(&mut self, chunk: &[u8]) -> usize {
+        if !self.follows {
+            return 0;
         }
-        0
+        self.follows = self.count == 0 && chunk.is_empty();
+        let optional = self.format.optional();
+        match (&self.held[..self.count], chunk) {
+            ([], [next, ..]) => usize::from(optional == Some(*next)),
+            ([next, ..], _) if optional == Some(*next) => {
+                self.keep(1, self.count);
+                0
+            }
+            _ => 0,
+        }
     }
 
     /// Takes bytes of a chunk until the next frame is settled, whose payload goes to the front of `buf`. Inlined, it does not copy the state.
@@ -284,7 +303,7 @@ impl Reader {
         if let Some(refusal) = self.refusal(chunk, buf) {
             return Fed { reader: self, answer: FeedAnswer::Refused(refusal) };
         }
-        let from = self.pass_footer(chunk);
+        let from = self.pass_optional(chunk);
         let answer = if self.count == 0 { self.feed_chunk(chunk, from, 0, 0, buf) } else { self.feed_held(chunk, buf) };
         Fed { reader: self, answer }
     }
@@ -294,14 +313,14 @@ impl Reader {
         if let Some(refusal) = self.refusal(&[], buf) {
             return Quieted { reader: self, answer: QuietAnswer::Refused(refusal) };
         }
-        self.pass_footer(&[]);
+        self.pass_optional(&[]);
         let Found { place, end, .. } = scan(self.format, &self.held[..self.count], 0, self.count, 0, true);
         let End::Frame { used, len } = end else {
             return Quieted { reader: Reader::open(self.format), answer: QuietAnswer::Empty { noise: place } };
         };
         self.format.unpack(&self.held[place..], &mut buf[..len]);
+        self.follows = self.format.may_follow(self.held[place + used - 1]);
         self.keep(place + used, self.count);
-        self.follows = self.format.has_optional_footer();
         Quieted { reader: self, answer: QuietAnswer::Frame { noise: place, len } }
     }
 }

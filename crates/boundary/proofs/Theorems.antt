@@ -10,6 +10,7 @@ use Rattle.frame.specs.Framing.{formatOf as defaultFormat}
 use Rattle.frame.specs.declared.framing.Framing.{Framing}
 use Rattle.frame.specs.declared.framing.Framing.the-variants.{Binary as BinaryFraming, Ascii as AsciiFraming}
 use Rattle.frame.specs.declared.framing.Footer.the-variants.{Optional, Required}
+use Rattle.frame.specs.declared.framing.Ending.the-variants.{CrLf, Any}
 use Rattle.frame.specs.declared.framing.Format.{Format}
 use Rattle.frame.specs.declared.framing.Format.the-variants.{Binary, Ascii}
 use Rattle.frame.specs.declared.reader.Reader.{Reader}
@@ -57,7 +58,8 @@ format : (m : Format) → formatOf (formatNumber m) ≡ KnownFormat m
 unfolding formatOf
 format (Binary Optional) = refl
 format (Binary Required) = refl
-format Ascii = refl
+format (Ascii CrLf) = refl
+format (Ascii Any) = refl
 
 framing : (f : Framing) → framingOf (formatNumber (defaultFormat f)) ≡ KnownFraming f
 unfolding framingOf
@@ -67,9 +69,9 @@ framing AsciiFraming = refl
 above : (n k : ℕ) → k < n → eqb n k ≡ false
 above n k l = ne-eqb n k (λ (e : n ≡ k). let z : ⊥ = omega arith in z)
 
-no-format : (n : ℕ) → 2 < n → formatOf n ≡ NoFormat
+no-format : (n : ℕ) → 3 < n → formatOf n ≡ NoFormat
 unfolding formatOf
-no-format n l = rw (above n 0 (omega arith), above n 1 (omega arith), above n 2 l)
+no-format n l = rw (above n 0 (omega arith), above n 1 (omega arith), above n 2 (omega arith), above n 3 l)
 
 no-framing : (n : ℕ) → 1 < n → framingOf n ≡ NoFraming
 unfolding framingOf
@@ -96,7 +98,8 @@ unfolding formatOf
 format-back zero m e = cc
 format-back (suc zero) m e = cc
 format-back (suc (suc zero)) m e = cc
-format-back (suc (suc (suc n))) m e = cc (no-format (suc (suc (suc n))) (omega arith))
+format-back (suc (suc (suc zero))) m e = cc
+format-back (suc (suc (suc (suc n)))) m e = cc (no-format (suc (suc (suc (suc n)))) (omega arith))
 
 mark-back : (n : ℕ) → leb n 1 ≡ true → markNumber (markIn n) ≡ n
 mark-back zero e = refl
@@ -222,6 +225,7 @@ crosses-back =
       format = format;
       framing = framing;
       required = refl;
+      anyEnding = refl;
       noFormat = no-format;
       noFraming = no-framing;
       readerFormat = reader-format;

@@ -6,8 +6,9 @@ use Rattle.frame.specs.Framing.{formatOf as defaultFormat}
 use Rattle.frame.specs.Reader.{newReader}
 use Rattle.frame.specs.declared.framing.Framing.{Framing}
 use Rattle.frame.specs.declared.framing.Footer.the-variants.{Required}
+use Rattle.frame.specs.declared.framing.Ending.the-variants.{Any}
 use Rattle.frame.specs.declared.framing.Format.{Format}
-use Rattle.frame.specs.declared.framing.Format.the-variants.{Binary}
+use Rattle.frame.specs.declared.framing.Format.the-variants.{Binary, Ascii}
 use Rattle.frame.specs.declared.reader.Reader.{Reader}
 use Rattle.message.specs.Setup.{commandOf}
 use Rattle.message.specs.ToModule.{changeRefusal}
@@ -32,9 +33,10 @@ pub record CrossesBack : Type 0 where
   -- The number of a format stands for it; that of a framing's default stands for the framing in a write.
   pub format : (m : Format) → formatOf (formatNumber m) ≡ KnownFormat m
   pub framing : (f : Framing) → framingOf (formatNumber (defaultFormat f)) ≡ KnownFraming f
-  -- Binary with the footer required is 2; numbers above it stand for no format, numbers above 1 for no framing.
+  -- Binary with the footer required is 2, ASCII with any ending 3; numbers above it stand for no format, numbers above 1 for no framing.
   pub required : formatNumber (Binary Required) ≡ 2
-  pub noFormat : (n : ℕ) → 2 < n → formatOf n ≡ NoFormat
+  pub anyEnding : formatNumber (Ascii Any) ≡ 3
+  pub noFormat : (n : ℕ) → 3 < n → formatOf n ≡ NoFormat
   pub noFraming : (n : ℕ) → 1 < n → framingOf n ≡ NoFraming
   -- The numbers of a state stand for it; those of a new one are a new reader's.
   pub readerFormat : (r : Reader) → formatIn (flatReader r) ≡ KnownFormat (r .format)

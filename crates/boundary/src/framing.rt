@@ -1,5 +1,6 @@
 // Framings and formats as numbers. Writing takes a framing: 0 is binary, 1 is ASCII. Reading takes a format: 0 and 1 are the defaults of these framings, 2 is
-// binary with the footer required.
+// binary with the footer required, 3 is ASCII with any ending.
+use frame::Ending;
 use frame::Footer;
 use frame::Format;
 use frame::Framing;
@@ -33,8 +34,9 @@ pub(crate) fn format_of(number: u8) -> NamedFormat
 {
     match number {
         0 => NamedFormat::Known(Format::Binary(Footer::Optional)),
-        1 => NamedFormat::Known(Format::Ascii),
+        1 => NamedFormat::Known(Format::Ascii(Ending::CrLf)),
         2 => NamedFormat::Known(Format::Binary(Footer::Required)),
+        3 => NamedFormat::Known(Format::Ascii(Ending::Any)),
         _ => NamedFormat::Unknown,
     }
 }
@@ -47,6 +49,9 @@ pub(crate) fn format_number(format: Format) -> u8
             Footer::Optional => 0,
             Footer::Required => 2,
         },
-        Format::Ascii => 1,
+        Format::Ascii(ending) => match ending {
+            Ending::CrLf => 1,
+            Ending::Any => 3,
+        },
     }
 }

@@ -1,10 +1,11 @@
 // Drives the line reader over standard input: `digest FORMAT SIZE` feeds it in chunks of SIZE bytes and prints how many frames and how many bytes of noise
-// came out, and a digest of the payloads. FORMAT is `binary`, in which the footer is optional, `required`, binary with the footer required, or `ascii`. The
-// end of the input is the quiet. bench/ compares it with other programs.
+// came out, and a digest of the payloads. FORMAT is `binary`, in which the footer is optional, `required`, binary with the footer required, `ascii`, in which
+// the ending is CR LF, or `any`, ASCII with any ending. The end of the input is the quiet. bench/ compares it with other programs.
 use console::front;
 use console::hex_u64;
 use console::number;
 use console::smaller;
+use frame::Ending;
 use frame::Fed;
 use frame::FeedAnswer;
 use frame::Footer;
@@ -234,16 +235,17 @@ fn drive_quiet(start: Driven) -> Tally {
     tally
 }
 
-// The format that an argument names by its first letter.
+// The format that an argument names by its second letter, in which the names differ.
 fn format_named(word: &[u8]) -> Format {
-    if word.len() == 0 {
-        return Format::Ascii;
+    if word.len() < 2 {
+        return Format::Ascii(Ending::CrLf);
     }
-    let first = word[0];
-    match first {
-        b'b' => Format::Binary(Footer::Optional),
-        b'r' => Format::Binary(Footer::Required),
-        _ => Format::Ascii,
+    let second = word[1];
+    match second {
+        b'i' => Format::Binary(Footer::Optional),
+        b'e' => Format::Binary(Footer::Required),
+        b'n' => Format::Ascii(Ending::Any),
+        _ => Format::Ascii(Ending::CrLf),
     }
 }
 
@@ -279,7 +281,10 @@ fn main() {
     let length = os::arg(2, &mut word);
     let size = number(&word[..length]);
     if size == 0 {
-        io::write_all(STDOUT_FILENO, b"usage: digest binary|required|ascii SIZE\n");
+        io::write_all(
+            STDOUT_FILENO,
+            b"usage: digest binary|required|ascii|any SIZE\n",
+        );
         return;
     }
     let tally = drive_input(format, size);

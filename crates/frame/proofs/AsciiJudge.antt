@@ -14,15 +14,16 @@ use lib.Seq.{drop-drop, getD-drop, length-take-le, split-at, take-all, take-take
 use Rattle.frame.specs.Checks.{Checks, fails, Verdict, cut, refused, frame, behind, run}
 use Rattle.frame.specs.Digit.{digitValue}
 use Rattle.frame.specs.Hex.{sumOf}
-use Rattle.frame.specs.Ascii.{colon, carriageReturn, hexDigits, digitCount, afterDigits, ascii, lineEnd, crLf}
+use Rattle.frame.specs.Ascii.{colon, hexDigits, digitCount, afterDigits, ascii, endsDigits, behindDigits, lineEnding}
 use Rattle.frame.specs.DigitRuns.{digitRun, Digits, decoded}
+use Rattle.frame.specs.declared.framing.Ending.{Ending}
 use Rattle.frame.proofs.Numbers.{and-fails}
 use Rattle.frame.proofs.Lists.{drop-last-take}
 use Rattle.frame.proofs.Trees.{behind-behind, pass-byte, fail-byte, cut-byte, frame-behind, refused≢frame, Keeps}
 use Rattle.frame.proofs.DigitLaws.{Counted, counted}
 use Rattle.frame.proofs.HexLaws.{length-decoded, decoded-take}
 use Rattle.frame.proofs.AsciiLaws.{is-digit-count, digits-end, digits-cut, digits-many, after-count, after-sum, after-end}
-use Rattle.frame.proofs.AsciiLaws.{crlf-character, crlf-return}
+use Rattle.frame.proofs.AsciiLaws.{ending-character, ending-judges}
 
 module _ (room : ℕ) (t : List ℕ → ℕ → Checks) (s : List ℕ) (r : ℕ) (h : Counted (suc room) s r) where
   -- r digits are taken.
@@ -171,14 +172,15 @@ module _ {s : List ℕ} {count n : ℕ} (h : Summed s count n) where
         by-sum false q =
             absurd (refused≢frame (1 + count + 1) 4 used p (sym (line-checksum (eqb-false (n % 256) 0 q)) ∙ e))
 
--- Another character than CR stands behind the digits.
-pub line-character : {s : List ℕ} {count : ℕ} → Stopped s count → (getD s (1 + count) 0 ≡ carriageReturn → ⊥)
-    → line crLf s ≡ refused (1 + count + 1) 6
-line-character {s} {count} h f = line-fails h crLf 6 (crlf-character (values s count) (getD s (1 + count) 0) f)
+-- A character stands behind the digits that does not end them.
+pub line-character : (ending : Ending) {s : List ℕ} {count : ℕ} → Stopped s count → endsDigits ending (getD s (1 + count) 0) ≡ false
+    → line (lineEnding ending) s ≡ refused (1 + count + 1) 6
+line-character ending {s} {count} h e = line-fails h (lineEnding ending) 6 (ending-character ending (values s count) (getD s (1 + count) 0) e)
 
--- CR stands there.
-pub line-return : (s : List ℕ) (count : ℕ) → getD s (1 + count) 0 ≡ carriageReturn → JudgesAt crLf lineEnd s count
-line-return s count r = crlf-return (values s count) (getD s (1 + count) 0) r
+-- One that ends them.
+pub line-judges : (ending : Ending) (s : List ℕ) (count : ℕ) → endsDigits ending (getD s (1 + count) 0) ≡ true
+    → JudgesAt (lineEnding ending) (behindDigits ending) s count
+line-judges ending s count e = ending-judges ending (values s count) (getD s (1 + count) 0) e
 
 -- The colon, whatever the ending.
 module _ (end : List ℕ → ℕ → Checks) (s : List ℕ) where

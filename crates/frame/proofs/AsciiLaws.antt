@@ -1,30 +1,33 @@
 -- Laws of ASCII framing: its layout and its checks belong together, and how long a frame can be.
 -- Assumes nothing.
 use Prim.Native.Nat.{ℕ, zero, suc, _+_, _-_, _*_, _/_, _%_, _≤_, _<_, zero-le, suc-le-suc}
-use native.Mathlib.Nat.{zero-add, suc-add, le-of-suc-le-suc, not-suc-le-zero}
+use native.Mathlib.Nat.{zero-add, add-zero, suc-add, le-of-suc-le-suc, not-suc-le-zero}
 use native.Mathlib.Numerals.{one-add}
 use native.Mathlib.Omega.{arith}
 use mathlib.Core.Path.{_≡_, refl, sym, ap, _∙_, subst}
 use mathlib.Core.List.{List, [], _∷_, _++_, append-assoc, map, dropLast}
-use mathlib.Core.Bool.{Bool, true, false, cond}
+use mathlib.Core.Bool.{Bool, true, false, cond, _||_}
+use mathlib.Core.Logic.{_⊎_, inl, inr, ⊎-elim}
 use borrow.Author.Tests.{le-leb, leb-true, eq-eqb, ne-eqb, eqb-true}
 use lib.Dec.{leb, eqb}
 use lib.ListN.{length, getD, take, drop, length-append, length-map}
 use lib.Seq.{take-at}
-use Rattle.frame.specs.Checks.{Checks, fails, whole, byte, Verdict, cut, refused, frame, behind, run}
+use Rattle.frame.specs.Checks.{Checks, fails, whole, Verdict, cut, refused, frame, behind, run}
 use Rattle.frame.specs.Framing.{layout}
 use Rattle.frame.specs.Digit.{isDigit, digitValue}
 use Rattle.frame.specs.Hex.{hex, pairs, sumOf}
 use Rattle.frame.specs.Ascii.{colon, carriageReturn, lineFeed, checksumOf, asciiFront, asciiEnding}
-use Rattle.frame.specs.Ascii.{hexDigits, digitCount, afterDigits, ascii, lineEnd, crLf}
+use Rattle.frame.specs.Ascii.{hexDigits, digitCount, afterDigits, ascii, endsDigits, lineEnd, behindDigits, lineEnding}
 use Rattle.frame.specs.Elements.{Bytes}
 use Rattle.frame.specs.declared.framing.Framing.the-variants.{Ascii as AsciiFraming}
+use Rattle.frame.specs.declared.framing.Ending.{Ending}
+use Rattle.frame.specs.declared.framing.Ending.the-variants.{CrLf, Any}
 use Rattle.frame.specs.Claims.{Payload}
 use Rattle.frame.specs.DigitRuns.{Digits, decoded}
 use Rattle.frame.proofs.Numbers.{both-true, and-true}
 use Rattle.frame.proofs.Lists.{bytes-left, bytes-right, bytes-append, drop-last-snoc, drop-last-of}
 use Rattle.frame.proofs.Trees.{behind-behind, Within, within-byte, within-test, within-more, within-whole, run-byte, pass-test}
-use Rattle.frame.proofs.Trees.{fail-test, Behind, took-next, took-byte, took-test, took-both, refused≢frame, Keeps, keeps-byte, used-last}
+use Rattle.frame.proofs.Trees.{fail-test, Behind, took-next, took-byte, took-test, took-both, took-whole, refused≢frame, Keeps, keeps-byte, used-last}
 use Rattle.frame.proofs.HexLaws.{hex-digits, decoded-hex, hex-decoded, decoded-bytes, length-decoded, length-hex, hex-append, sum-append}
 
 -- The front of a frame, as it is written.
@@ -256,66 +259,112 @@ module _ (end : List ℕ → ℕ → Checks) where
       ∙ ap (take (2 * length p)) (simp append-assoc)
       ∙ take-at (hex p) (check ++ ((h .char ∷ []) ++ (h .ends .rest))) (2 * length p) (length-hex p)
 
--- The ending CR LF at the character c.
-module _ (ds : List ℕ) (c : ℕ) where
-  -- Any character other than CR is refusal 6.
-  pub crlf-character : (c ≡ carriageReturn → ⊥) → crLf ds c ≡ fails 6
-  unfolding crLf
-  crlf-character e = fail-test _ 6 _ (ne-eqb c carriageReturn e)
+-- The ending at the character c.
+module _ (ending : Ending) (ds : List ℕ) (c : ℕ) where
+  -- Where it does not end digits it is refusal 6.
+  pub ending-character : endsDigits ending c ≡ false → lineEnding ending ds c ≡ fails 6
+  unfolding lineEnding
+  ending-character e = fail-test _ 6 _ e
 
-  -- At CR the digits are judged.
-  pub crlf-return : c ≡ carriageReturn → crLf ds c ≡ afterDigits ds lineEnd
-  unfolding crLf
-  crlf-return e = pass-test _ 6 _ (eq-eqb c carriageReturn e)
+  -- Where it does, they are judged.
+  pub ending-judges : endsDigits ending c ≡ true → lineEnding ending ds c ≡ afterDigits ds (behindDigits ending)
+  unfolding lineEnding
+  ending-judges e = pass-test _ 6 _ e
 
-  -- It takes one byte behind that character.
-  pub crlf-within : Within 1 (crLf ds c)
-  unfolding crLf lineEnd
-  crlf-within =
-      within-test 1 6 _ _ (λ _. after-within ds lineEnd 1 (λ p. within-byte 0 lineFeed 5 (whole p) (within-whole 0 p)))
+  -- Where it takes a frame, the character ends digits.
+  took-ending : (s p : List ℕ) (used : ℕ) → run (lineEnding ending ds c) s ≡ frame used p
+      → (endsDigits ending c ≡ true) × (run (afterDigits ds (behindDigits ending)) s ≡ frame used p)
+  unfolding lineEnding
+  took-ending s p used e = took-test (endsDigits ending c) 6 _ s p used e
 
-  -- Where it takes a frame, the character is CR.
-  took-crlf : (s p : List ℕ) (used : ℕ) → run (crLf ds c) s ≡ frame used p → (c ≡ carriageReturn) × (run (afterDigits ds lineEnd) s ≡ frame used p)
-  unfolding crLf
-  took-crlf s p used e = let h = took-test (eqb c carriageReturn) 6 _ s p used e in (eqb-true c carriageReturn (h .0), h .1)
-
--- LF hands on the payload.
-pub line-end-keeps : Keeps lineEnd
+-- What stands behind that character takes one byte at most.
+behind-within : (ending : Ending) (p : List ℕ) → Within 1 (behindDigits ending p)
 unfolding lineEnd
-line-end-keeps = keeps-byte lineFeed 5
+behind-within CrLf p = within-byte 0 lineFeed 5 (whole p) (within-whole 0 p)
+behind-within Any p = within-whole 1 p
 
-pub crlf-keeps : KeepsDigits crLf
-crlf-keeps ds c s p used e = took-after ds lineEnd line-end-keeps s p used (took-crlf ds c s p used e .1)
+pub line-within : (ending : Ending) (ds : List ℕ) (c : ℕ) → Within 1 (lineEnding ending ds c)
+unfolding lineEnding
+line-within ending ds c = within-test 1 6 _ _ (λ _. after-within ds (behindDigits ending) 1 (behind-within ending))
+
+-- It hands on the payload.
+pub behind-keeps : (ending : Ending) → Keeps (behindDigits ending)
+unfolding lineEnd
+behind-keeps CrLf q s p used e = keeps-byte lineFeed 5 q s p used e
+behind-keeps Any q s p used e = took-whole q s p used e .1
+
+pub line-keeps : (ending : Ending) → KeepsDigits (lineEnding ending)
+line-keeps ending ds c s p used e = took-after ds (behindDigits ending) (behind-keeps ending) s p used (took-ending ending ds c s p used e .1)
+
+-- Under any ending, CR and LF end digits, and no other character does.
+pub any-ends : (c : ℕ) → endsDigits Any c ≡ true → (c ≡ carriageReturn) ⊎ (c ≡ lineFeed)
+any-ends c e = by (eqb c carriageReturn) refl
+  where
+    by : (q : Bool) → eqb c carriageReturn ≡ q → (c ≡ carriageReturn) ⊎ (c ≡ lineFeed)
+    by true q = inl (eqb-true c carriageReturn q)
+    by false q = inr (eqb-true c lineFeed (sym (ap (λ (x : Bool). x || eqb c lineFeed) q) ∙ e))
+
+-- They are no digits.
+no-digit : (c : ℕ) → endsDigits Any c ≡ true → isDigit c ≡ false
+unfolding isDigit
+no-digit c e = ⊎-elim (λ (h : c ≡ carriageReturn). ap isDigit h) (λ (h : c ≡ lineFeed). ap isDigit h) (any-ends c e)
+
+-- A frame is what stands behind its front, where this has passed the checks up to the digits' end.
+took-line : (ending : Ending) (s p : List ℕ) (used : ℕ) → run (ascii (lineEnding ending)) s ≡ frame used p
+    → (c : ℕ) × (endsDigits ending c ≡ true) × Behind (behindDigits ending p) (asciiFront p ++ (c ∷ [])) s used p × Payload p
+took-line ending s p used e =
+    let h = took-ascii (lineEnding ending) (line-keeps ending) s p used e in
+    let (ends, goes) = took-ending ending (digitsOf p) (h .char) (h .ends .rest) p (h .ends .left) (h .ends .goes) in (
+      h .char,
+      ends,
+      record {
+        rest = h .ends .rest;
+        left = h .ends .left;
+        split = h .ends .split;
+        count = h .ends .count;
+        goes = ap (λ (t : Checks). run t (h .ends .rest)) (sym (after-payload p (behindDigits ending) (h .payload))) ∙ goes;
+      },
+      h .payload,
+    )
 
 -- What the layout gives is read as that frame.
-pub ascii-layout-reads : (p more : List ℕ) → Payload p → run (ascii crLf) (layout AsciiFraming p ++ more) ≡ frame (length (layout AsciiFraming p)) p
+pub ascii-layout-reads : (p more : List ℕ) → Payload p
+    → run (ascii (lineEnding CrLf)) (layout AsciiFraming p ++ more) ≡ frame (length (layout AsciiFraming p)) p
 unfolding isDigit lineEnd
 ascii-layout-reads p more h =
     let n : ℕ = length (asciiFront p) in
-    ap (run (ascii crLf)) (append-assoc (asciiFront p) asciiEnding more)
-    ∙ ascii-front-reads crLf p (lineFeed ∷ more) carriageReturn h refl
-    ∙ ap (λ (t : Checks). behind (n + 1) (run t (lineFeed ∷ more))) (crlf-return (digitsOf p) carriageReturn refl ∙ after-payload p lineEnd h)
+    ap (run (ascii (lineEnding CrLf))) (append-assoc (asciiFront p) asciiEnding more)
+    ∙ ascii-front-reads (lineEnding CrLf) p (lineFeed ∷ more) carriageReturn h refl
+    ∙ ap (λ (t : Checks). behind (n + 1) (run t (lineFeed ∷ more))) (ending-judges CrLf (digitsOf p) carriageReturn refl ∙ after-payload p lineEnd h)
     ∙ ap (behind (n + 1)) (run-byte lineFeed 5 (whole p) more)
     ∙ ap (λ (k : ℕ). frame k p) (omega (arith, length-append (asciiFront p) asciiEnding))
 
 -- What is judged a frame is the layout of its payload.
-pub ascii-is-layout : (s p : List ℕ) (used : ℕ) → run (ascii crLf) s ≡ frame used p
+pub ascii-is-layout : (s p : List ℕ) (used : ℕ) → run (ascii (lineEnding CrLf)) s ≡ frame used p
     → (take used s ≡ layout AsciiFraming p) × (used ≡ length (layout AsciiFraming p)) × Payload p
 unfolding lineEnd
 ascii-is-layout s p used e =
-    let h = took-ascii crLf crlf-keeps s p used e in
-    let (return, goes) = took-crlf (digitsOf p) (h .char) (h .ends .rest) p (h .ends .left) (h .ends .goes) in
-    let last : Behind (byte lineFeed 5 (whole p)) (asciiFront p ++ (h .char ∷ [])) s used p =
-    record {
-      rest = h .ends .rest;
-      left = h .ends .left;
-      split = h .ends .split;
-      count = h .ends .count;
-      goes = ap (λ (t : Checks). run t (h .ends .rest)) (sym (after-payload p lineEnd (h .payload))) ∙ goes;
-    }
+    let (c, ends, h, payload) = took-line CrLf s p used e in
+    let l = used-last lineFeed 5 p (asciiFront p ++ (c ∷ [])) s used h in
+    let same : (asciiFront p ++ (c ∷ [])) ++ (lineFeed ∷ []) ≡ layout AsciiFraming p =
+    append-assoc (asciiFront p) (c ∷ []) (lineFeed ∷ [])
+    ∙ ap (λ (x : ℕ). asciiFront p ++ (x ∷ lineFeed ∷ [])) (eqb-true c carriageReturn ends)
     in
-    let l = used-last lineFeed 5 p (asciiFront p ++ (h .char ∷ [])) s used last in
-    let same : (asciiFront p ++ (h .char ∷ [])) ++ (lineFeed ∷ []) ≡ layout AsciiFraming p =
-    append-assoc (asciiFront p) (h .char ∷ []) (lineFeed ∷ []) ∙ ap (λ (c : ℕ). asciiFront p ++ (c ∷ lineFeed ∷ [])) return
-    in
-    (l .0 ∙ same, l .1 ∙ ap length same, h .payload)
+    (l .0 ∙ same, l .1 ∙ ap length same, payload)
+
+-- Under any ending, the front and a character that ends digits are read as that frame.
+pub any-front : (p more : List ℕ) (c : ℕ) → Payload p → endsDigits Any c ≡ true
+    → run (ascii (lineEnding Any)) (asciiFront p ++ (c ∷ more)) ≡ frame (length (asciiFront p) + 1) p
+any-front p more c h e =
+    let n : ℕ = length (asciiFront p) in
+    ascii-front-reads (lineEnding Any) p more c h (no-digit c e)
+    ∙ ap (λ (t : Checks). behind (n + 1) (run t more)) (ending-judges Any (digitsOf p) c e ∙ after-payload p whole h)
+    ∙ ap (λ (k : ℕ). frame k p) (add-zero (n + 1))
+
+-- What is judged a frame is the front of its payload and such a character.
+pub any-is-front : (s p : List ℕ) (used : ℕ) → run (ascii (lineEnding Any)) s ≡ frame used p
+    → (c : ℕ) × (rest : List ℕ) × (endsDigits Any c ≡ true) × (s ≡ (asciiFront p ++ (c ∷ [])) ++ rest) × (used ≡ length (asciiFront p) + 1) × Payload p
+any-is-front s p used e =
+    let (c, ends, h, payload) = took-line Any s p used e in
+    let w = took-whole p (h .rest) p (h .left) (h .goes) in
+    (c, h .rest, ends, h .split, h .count ∙ simp length-append (omega (arith, w .0)), payload)

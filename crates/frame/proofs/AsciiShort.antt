@@ -10,6 +10,7 @@ use Rattle.frame.specs.Hex.{sumOf}
 use Rattle.frame.specs.Framing.{inFront}
 use Rattle.frame.specs.DigitRuns.{decoded, digitRun}
 use Rattle.frame.specs.Judged.{Short}
+use Rattle.frame.specs.declared.framing.Ending.{Ending}
 use Rattle.frame.proofs.Lists.{wrote-part}
 use Rattle.frame.proofs.AsciiJudge.{Summed}
 use Rattle.frame.proofs.HexLaws.{length-decoded, decoded-take, decoded-drop, sum-split}
@@ -75,7 +76,7 @@ module _ (ds : List ℕ) (count : ℕ) (l : length ds ≡ count) (e : count % 2 
       ∙ ap (λ (k : ℕ). take k (decoded ds) ++ drop k buf) end
 
 -- The same of a short frame, where `total` is the sum of those bytes.
-module _ (s : List ℕ) (count : ℕ) (h : Short s count) (two : List ℕ)
+module _ (ending : Ending) (s : List ℕ) (count : ℕ) (h : Short ending s count) (two : List ℕ)
     (is : two ≡ decoded (take 32 (take count (drop 1 s))) ++ decoded (take 32 (drop (count - 32) (take count (drop 1 s))))) where
   digits-long : length (take count (drop 1 s)) ≡ count
   digits-long = length-take-le count (drop 1 s) (omega (arith, length-drop 1 s, h .inside))
@@ -102,9 +103,9 @@ module _ (s : List ℕ) (count : ℕ) (h : Short s count) (two : List ℕ)
 
 -- A short frame's sum is made.
 pub short-summed :
-    (s : List ℕ) (count total : ℕ) → count ≡ digitRun 515 (drop 1 s) → Short s count → total ≡ sumOf (decoded (take count (drop 1 s))) →
+    (ending : Ending) (s : List ℕ) (count total : ℕ) → count ≡ digitRun 515 (drop 1 s) → Short ending s count → total ≡ sumOf (decoded (take count (drop 1 s))) →
     Summed s count total
-short-summed s count total r h e =
+short-summed ending s count total r h e =
     record {
       stopped = record { count-is = r; room = omega (arith, h .most); there = h .inside };
       enough = omega (arith, h .least);

@@ -8,6 +8,7 @@ use Rattle.frame.specs.Framing.{read}
 use Rattle.frame.specs.Rule.{Output, output, join, Found, rule, payloads}
 use Rattle.frame.specs.Recovery.{payloadIn, foundsFrom, payloadsOf, AsciiCallsRecover, BinaryCallsRecover, CleanCalls}
 use Rattle.frame.specs.declared.framing.Footer.{Footer}
+use Rattle.frame.specs.declared.framing.Ending.{Ending}
 use Rattle.frame.specs.declared.framing.Format.{Format}
 use Rattle.frame.specs.declared.framing.Format.the-variants.{Binary, Ascii}
 use Rattle.frame.proofs.Rules.{payloads-join}
@@ -22,14 +23,15 @@ founds-payloads f place [] = refl
 founds-payloads f place (g ∷ gs) = ap (λ (ps : List (List ℕ)). payloadIn (read f g) ∷ ps) (founds-payloads f (place + length g) gs)
 
 -- In ASCII framing: what the damage alone gives, then every good frame's payload.
-pub ascii-calls-recover : AsciiCallsRecover
-ascii-calls-recover damage gs out st calls =
-    calls-follow-rule Ascii (damage ++ flatten gs) out calls
-    ∙ ap payloads (ascii-recovers damage gs st)
-    ∙ payloads-join (rule Ascii damage) (output (foundsFrom Ascii (length damage) gs) 0)
+pub ascii-calls-recover : (ending : Ending) → AsciiCallsRecover ending
+ascii-calls-recover ending damage gs out st calls =
+    let f : Format = Ascii ending in
+    calls-follow-rule f (damage ++ flatten gs) out calls
+    ∙ ap payloads (ascii-recovers ending damage gs st)
+    ∙ payloads-join (rule f damage) (output (foundsFrom f (length damage) gs) 0)
     ∙ ap
-    (λ (ps : List (List ℕ)). join (payloads (rule Ascii damage)) (output ps 0))
-    (founds-payloads Ascii (length damage) gs)
+    (λ (ps : List (List ℕ)). join (payloads (rule f damage)) (output ps 0))
+    (founds-payloads f (length damage) gs)
 
 -- In binary framing: the frames that begin in the damage, then the good ones clear of them.
 pub binary-calls-recover : (footer : Footer) → BinaryCallsRecover footer

@@ -1,26 +1,27 @@
 -- Laws of what the calls over one chunk, or of one quiet, give together.
 -- Assumes nothing.
-use Prim.Native.Nat.{ℕ, zero, suc, pred, _+_, _≤_, zero-le}
+use Prim.Native.Nat.{ℕ, zero, suc, pred, _+_, _≤_, zero-le, suc-le-suc}
 use native.Mathlib.Nat.{le-of-suc-le-suc, not-suc-le-zero, le-trans}
 use native.Mathlib.Omega.{arith}
-use mathlib.Core.Path.{_≡_, refl, sym, ap, _∙_, subst}
+use mathlib.Core.Path.{_≡_, refl, sym, ap, ap₂, _∙_, subst}
 use mathlib.Core.List.{List, [], _∷_, _++_, append-nil, append-assoc}
 use mathlib.Core.Logic.{⊎-elim}
 use mathlib.Core.Bool.{Bool, true, false, cond}
 use lib.ListN.{length, drop, length-append}
 use lib.Seq.{drop-append-le}
 use Rattle.frame.specs.Checks.{Verdict, cut, refused, frame}
-use Rattle.frame.specs.Framing.{judge, read, mayFollow, isOptional, behindOptional}
+use Rattle.frame.specs.Framing.{judge, read, isOpen, isOptional, behindOptional}
 use Rattle.frame.specs.Rule.{Output, nothing, noiseByte, handed, join, passAfter, outAt, payloads}
 use Rattle.frame.specs.Reader.{Settled, settled, Called, line}
 use Rattle.frame.specs.Drain.{before, drainAs, followsAfter, drainFrom}
 use Rattle.frame.specs.Draining.{LineDrains, NeedsMoreIsDrained, DrainFollowsRule, DrainIsSized}
 use Rattle.frame.specs.Draining.{overhead, sizeOf, RuleIsSized}
 use Rattle.frame.specs.declared.framing.Footer.the-variants.{Optional, Required}
+use Rattle.frame.specs.declared.framing.Ending.the-variants.{CrLf, Any}
 use Rattle.frame.specs.declared.framing.Format.{Format}
 use Rattle.frame.specs.declared.framing.Format.the-variants.{Binary, Ascii}
 use Rattle.frame.proofs.Framings.{judgedLength, frame-sized, used-is, payload-size}
-use Rattle.frame.proofs.Optional.{read-frame, read-sized}
+use Rattle.frame.proofs.Optional.{open-append, read-frame, read-sized}
 use Rattle.frame.proofs.Rules.{join-nothing, join-assoc, ruleFrom, rule-walk, given, givenBehind, given-failed, given-judged}
 use Rattle.frame.proofs.Settling.{line-over, line-unmarked, needs-more-is-true}
 use Rattle.frame.proofs.Shapes.{NoFrame, IsRefused, judge-stands}
@@ -50,14 +51,14 @@ module _ (f : Format) where
       by-byte :
           (q : Bool) →
           cond q (drainFrom f false 0 s)
-          (drainAs (judge f (b ∷ s)) (b ∷ s) (drainFrom f (followsAfter f (judge f (b ∷ s))) (passAfter (judge f (b ∷ s))) s))
+          (drainAs (judge f (b ∷ s)) (b ∷ s) (drainFrom f (followsAfter f (judge f (b ∷ s)) (b ∷ s)) (passAfter (judge f (b ∷ s))) s))
           ≡ drainFrom f false 0 (drop (cond q 1 0) (b ∷ s))
       by-byte true = refl
       by-byte false = refl
 
   -- What is drained at a place of this verdict.
   abbrev drainedAs : Verdict → ℕ → List ℕ → Settled
-  drainedAs v b s = drainAs v (b ∷ s) (drainFrom f (followsAfter f v) (passAfter v) s)
+  drainedAs v b s = drainAs v (b ∷ s) (drainFrom f (followsAfter f v (b ∷ s)) (passAfter v) s)
 
   drain-here : (b : ℕ) (s : List ℕ) (v : Verdict) → judge f (b ∷ s) ≡ v → drainFrom f false 0 (b ∷ s) ≡ drainedAs v b s
   unfolding drainFrom
@@ -74,10 +75,10 @@ module _ (f : Format) where
 
   -- A frame is handed out, and the rule goes on behind it, where an optional byte may follow.
   drain-frame :
-      (used : ℕ) (p s : List ℕ) → judge f s ≡ frame used p → drainFrom f false 0 s ≡ before (handed p) (drainFrom f (mayFollow f) 0 (drop used s))
+      (used : ℕ) (p s : List ℕ) → judge f s ≡ frame used p → drainFrom f false 0 s ≡ before (handed p) (drainFrom f (isOpen f used s) 0 (drop used s))
   drain-frame used p [] e = absurd (not-suc-le-zero (le-trans (frame-sized f [] p used e .some) (frame-sized f [] p used e .there)))
   drain-frame zero p (b ∷ s) e = absurd (not-suc-le-zero (frame-sized f (b ∷ s) p zero e .some))
-  drain-frame (suc used) p (b ∷ s) e = drain-here b s (frame (suc used) p) e ∙ ap (before (handed p)) (drain-pass (mayFollow f) used s)
+  drain-frame (suc used) p (b ∷ s) e = drain-here b s (frame (suc used) p) e ∙ ap (before (handed p)) (drain-pass (isOpen f (suc used) (b ∷ s)) used s)
 
   -- Undecided bytes stay.
   drain-cut : (s : List ℕ) → judge f s ≡ cut → drainFrom f false 0 s ≡ settled nothing s false
@@ -108,10 +109,13 @@ module _ (f : Format) where
   drain-at b s more (frame zero p) e later = absurd (not-suc-le-zero (frame-sized f (b ∷ s) p zero e .some))
   drain-at b s more (frame (suc used) p) e later =
       let inside : used ≤ length s = omega (arith, frame-sized f (b ∷ s) p (suc used) e .there) in
-      let st : Settled = drainFrom f (mayFollow f) used s in
+      let q : Bool = isOpen f (suc used) (b ∷ s) in
+      let st : Settled = drainFrom f q used s in
       given-judged f (suc used) p ((b ∷ s) ++ more) (judge-stands f (b ∷ s) more (frame (suc used) p) tt e)
-      ∙ ap (λ (t : List ℕ). join (handed p) (givenBehind f (mayFollow f) t)) (drop-append-le used s more inside)
-      ∙ ap (join (handed p)) (later (mayFollow f) used inside)
+      ∙ ap₂ (λ (x : Bool) (t : List ℕ). join (handed p) (givenBehind f x t))
+      (open-append f (suc used) (suc-le-suc zero-le) (b ∷ s) more (suc-le-suc inside))
+      (drop-append-le used s more inside)
+      ∙ ap (join (handed p)) (later q used inside)
       ∙ sym (join-assoc (handed p) (st .out) (givenBehind f (st .follows) (st .rest ++ more)))
 
   -- At a place where an optional byte may stand.
@@ -145,7 +149,8 @@ module _ (f : Format) where
       holds : (g : Format) → used ≡ judgedLength g (length p) → 1 ≤ length p → length p + overhead g ≤ used
       holds (Binary Optional) e some = omega arith
       holds (Binary Required) e some = omega arith
-      holds Ascii e some = omega arith
+      holds (Ascii CrLf) e some = omega arith
+      holds (Ascii Any) e some = omega arith
 
 -- A line call gives the first part of what its bytes give.
 pub line-drains : LineDrains
@@ -193,7 +198,7 @@ module _ (f : Format) where
   drained-at b s (frame used p) e later =
       let h = frame-sized f (b ∷ s) p used e in
       let l : pred used ≤ length s = omega (arith, h .some, h .there) in
-      omega (arith, later (mayFollow f) (pred used) l, h .some, frame-holds f (b ∷ s) p used e)
+      omega (arith, later (isOpen f used (b ∷ s)) (pred used) l, h .some, frame-holds f (b ∷ s) p used e)
 
   drained-first :
       (follows : Bool) (b : ℕ) (s : List ℕ) →

@@ -12,9 +12,10 @@ use lib.Dec.{eqb}
 use lib.ListN.{length, getD, take, drop}
 use Rattle.frame.specs.Checks.{Checks, whole, byte, test, Verdict, cut, refused, frame, behind, run}
 use Rattle.frame.specs.Binary.{xorOf, body}
-use Rattle.frame.specs.Ascii.{lineFeed, hexDigits, lineEnd, crLf}
+use Rattle.frame.specs.Ascii.{hexDigits, behindDigits, lineEnding}
 use Rattle.frame.specs.Judged.{endChecks}
 use Rattle.frame.specs.DigitRuns.{decoded}
+use Rattle.frame.specs.declared.framing.Ending.{Ending}
 use Rattle.frame.proofs.Trees.{behind-behind, pass-byte, fail-byte, cut-byte}
 use Rattle.frame.proofs.BinaryJudge.{body-checksum, body-passed}
 use Rattle.frame.proofs.AsciiJudge.{JudgesAt, Summed, line-checksum, line-ends}
@@ -69,14 +70,17 @@ body-ending rest s n h true q =
 body-ending rest s n h false q =
     body-checksum rest s n h (λ e. eqb-false _ _ q (sym e)) ∙ sym (ending-wrong rest (take n (drop 4 s)) s (4 + n))
 
--- ASCII framing: behind the CR, where n is the sum of the bytes that the digits stand for.
+-- ASCII framing: behind the character that ends the digits, where n is the sum of the bytes that they stand for.
 pub line-ending :
-    {s : List ℕ} {count n : ℕ} → Summed s count n → JudgesAt crLf lineEnd s count → (right : Bool) → eqb (n % 256) 0 ≡ right →
-    behind 1 (run (hexDigits 514 crLf) (drop 1 s)) ≡ endingAt (lastByte lineFeed) (decoded (take (2 * (count / 2 - 1)) (drop 1 s))) s (1 + count) right
-unfolding lineEnd test
-line-ending {s} {count} h r true q =
+    (ending : Ending) {s : List ℕ} {count n : ℕ} → Summed s count n → JudgesAt (lineEnding ending) (behindDigits ending) s count →
+    (right : Bool) → eqb (n % 256) 0 ≡ right →
+    behind 1 (run (hexDigits 514 (lineEnding ending)) (drop 1 s))
+    ≡ endingAt (behindDigits ending) (decoded (take (2 * (count / 2 - 1)) (drop 1 s))) s (1 + count) right
+unfolding test
+line-ending ending {s} {count} h r true q =
     let size : 1 + suc count ≡ 1 + count + 1 = omega arith in
-    line-ends h crLf lineEnd r (eqb-true _ _ q)
-    ∙ ap (λ (k : ℕ). behind k (run (lineEnd (decoded (take (2 * (count / 2 - 1)) (drop 1 s)))) (drop (1 + count + 1) s))) size
-line-ending {s} {count} h r false q =
-    line-checksum h crLf lineEnd r (eqb-false _ _ q) ∙ sym (ending-wrong lineEnd (decoded (take (2 * (count / 2 - 1)) (drop 1 s))) s (1 + count))
+    line-ends h (lineEnding ending) (behindDigits ending) r (eqb-true _ _ q)
+    ∙ ap (λ (k : ℕ). behind k (run (behindDigits ending (decoded (take (2 * (count / 2 - 1)) (drop 1 s)))) (drop (1 + count + 1) s))) size
+line-ending ending {s} {count} h r false q =
+    line-checksum h (lineEnding ending) (behindDigits ending) r (eqb-false _ _ q)
+    ∙ sym (ending-wrong (behindDigits ending) (decoded (take (2 * (count / 2 - 1)) (drop 1 s))) s (1 + count))

@@ -3,11 +3,11 @@
 use mathlib.Core.Path.{refl}
 use Rattle.frame.specs.Checks.{byte, test, word, bytes}
 use Rattle.frame.specs.Binary.{binary, body, footer}
-use Rattle.frame.specs.Digit.{isDigit}
-use Rattle.frame.specs.Ascii.{hexDigits, ascii}
+use Rattle.frame.specs.Digit.{isDigit, digitValue}
+use Rattle.frame.specs.Ascii.{hexDigits, lineEnding, afterDigits, ascii}
 use Rattle.frame.specs.Rule.{join, places, outFrom, rule}
 use Rattle.frame.specs.Reader.{settle, lineFrom, lineOn, quietHeld}
-use Rattle.frame.specs.MarkExamples.{NextCallTakesIt, OtherFormats, HeldBehindTheFrame, QuietEndsIt}
+use Rattle.frame.specs.MarkExamples.{NextCallTakesIt, OtherFormats, HeldBehindTheFrame, QuietEndsIt, AnyEnding}
 
 pub next-call-takes-it : NextCallTakesIt
 unfolding lineOn lineFrom settle join binary body footer byte test word bytes
@@ -25,3 +25,18 @@ held-behind-the-frame = record { first = refl; next = refl; atQuiet = refl; all 
 pub quiet-ends-it : QuietEndsIt
 unfolding lineOn lineFrom settle quietHeld join binary body footer byte test word bytes
 quiet-ends-it = record { waits = refl; found = refl; dropped = refl; none = refl; after = refl }
+
+pub any-ending : AnyEnding
+unfolding lineOn lineFrom settle quietHeld join ascii hexDigits isDigit digitValue lineEnding afterDigits byte test
+any-ending =
+    record {
+      atReturn = refl;
+      cut = refl;
+      taken = refl;
+      once = refl;
+      other = refl;
+      atFeed = refl;
+      behindFeed = refl;
+      held = refl;
+      atQuiet = refl;
+    }

@@ -1,30 +1,33 @@
 -- Laws of the optional byte: what is read is what is judged, with the optional byte that follows; and the layouts that are read.
 -- Assumes nothing.
-use Prim.Native.Nat.{ℕ, zero, suc, _+_, _-_, _*_, _≤_, zero-le, suc-le-suc}
-use native.Mathlib.Nat.{add-zero}
+use Prim.Native.Nat.{ℕ, zero, suc, _+_, _-_, _*_, _%_, _≤_, zero-le, suc-le-suc}
+use native.Mathlib.Nat.{add-zero, le-refl}
 use native.Mathlib.Omega.{arith}
-use mathlib.Core.Path.{_≡_, refl, sym, ap, _∙_, subst}
+use mathlib.Core.Path.{_≡_, refl, sym, ap, ap₂, _∙_, subst}
 use mathlib.Core.List.{List, [], _∷_, _++_, append-assoc, append-nil, List·Memᴰ, List·Memᴰ·head, List·Memᴰ·tail, List·Memᴰ·cases-cons, List·Memᴰ·not-nil}
-use mathlib.Core.Logic.{⊎-elim}
-use mathlib.Core.Bool.{Bool, true, false, cond}
+use mathlib.Core.Logic.{_⊎_, inl, inr, ⊎-elim}
+use mathlib.Core.Bool.{Bool, true, false, cond, false≢true}
 use borrow.Author.Tests.{eqb-true}
 use lib.Dec.{eqb}
-use lib.ListN.{length, take, drop, length-append, length-drop}
-use lib.Seq.{drop-append-seam, drop-append-le, drop-at, take-at}
+use lib.ListN.{length, getD, take, drop, length-append, length-drop}
+use lib.Seq.{getD-take, getD-drop, getD-append-seam, take-append-seam, drop-append-seam, drop-append-le, drop-at, take-at}
 use Rattle.frame.specs.Checks.{Checks, next, fails, whole, byte, test, word, bytes, Verdict, cut, refused, frame, behind, run}
 use Rattle.frame.specs.Binary.{xorOf, binaryFront, binaryEnding, lengthWord, body, binary, footerByte}
-use Rattle.frame.specs.Ascii.{asciiEnding}
-use Rattle.frame.specs.Framing.{judge, read, withOptional, mayFollow, isOptional, absorbed, front, layout, framingOf, limit}
+use Rattle.frame.specs.Digit.{isDigit, digitValue}
+use Rattle.frame.specs.Hex.{pairs, sumOf}
+use Rattle.frame.specs.Ascii.{colon, carriageReturn, lineFeed, asciiFront, asciiEnding, hexDigits, digitCount, afterDigits, ascii, endsDigits, lineEnding}
+use Rattle.frame.specs.Framing.{judge, read, withOptional, mayFollow, isOptional, isOpen, absorbed, front, layout, framingOf, limit}
 use Rattle.frame.specs.Claims.{Payload, LayoutReads, endings, EndingsRead, NeverFive, IsLayout, FrameIsLayout, Sized, ReadIsSized}
 use Rattle.frame.specs.declared.framing.Framing.the-variants.{Binary as BinaryFraming, Ascii as AsciiFraming}
 use Rattle.frame.specs.declared.framing.Footer.the-variants.{Optional, Required}
+use Rattle.frame.specs.declared.framing.Ending.the-variants.{CrLf, Any}
 use Rattle.frame.specs.declared.framing.Format.{Format}
 use Rattle.frame.specs.declared.framing.Format.the-variants.{Binary, Ascii}
 use Rattle.frame.proofs.Trees.{cut≢frame, cut≢refused, refused≢frame}
 use Rattle.frame.proofs.BinaryLaws.{optional-front, required-layout, optional-is-layout, required-is-layout}
-use Rattle.frame.proofs.AsciiLaws.{ascii-layout-reads, ascii-is-layout}
+use Rattle.frame.proofs.AsciiLaws.{ascii-layout-reads, ascii-is-layout, any-ends, any-front, any-is-front}
 use Rattle.frame.proofs.Shapes.{NoFrame, judge-stands}
-use Rattle.frame.proofs.Framings.{frame-sized, used-is, payload-size}
+use Rattle.frame.proofs.Framings.{frame-sized, some-used, used-is, payload-size}
 
 -- At most one byte is absorbed, and no more than there are.
 one-or-none : (q : Bool) → cond q 1 0 ≤ 1
@@ -51,14 +54,30 @@ pub absorbed-front : (m : Format) (follows : Bool) (b : ℕ) (s more : List ℕ)
 absorbed-front m false b s more = refl
 absorbed-front m true b s more = refl
 
--- Nor is what follows, where it does not begin with an optional byte.
-absorbed-same : (m : Format) (follows : Bool) (s more : List ℕ) → absorbed m follows more ≡ 0 → absorbed m follows (s ++ more) ≡ absorbed m follows s
-absorbed-same m follows [] more plain = plain ∙ sym (absorbed-nil m follows)
+-- Nor is what follows, where the first byte is there, or it does not begin with an optional byte.
+absorbed-same :
+    (m : Format) (follows : Bool) (s more : List ℕ) → (length s ≡ 0 → absorbed m follows more ≡ 0) →
+    absorbed m follows (s ++ more) ≡ absorbed m follows s
+absorbed-same m follows [] more plain = plain refl ∙ sym (absorbed-nil m follows)
 absorbed-same m follows (b ∷ s) more plain = absorbed-front m follows b (s ++ more) s
+
+-- Whether an optional byte may follow a frame goes by the frame's own bytes.
+module _ (m : Format) (used : ℕ) (some : 1 ≤ used) where
+  pub open-take : (far : ℕ) (s : List ℕ) → used ≤ far → isOpen m used (take far s) ≡ isOpen m used s
+  open-take far s l = ap (mayFollow m) (getD-take far s (used - 1) 0 (omega arith))
+
+  pub open-append : (s more : List ℕ) → used ≤ length s → isOpen m used (s ++ more) ≡ isOpen m used s
+  open-append s more l = sym (open-take (length s) (s ++ more) l) ∙ ap (isOpen m used) (take-append-seam s more)
+
+  -- By the frame's last byte among those that hold the frame at a place.
+  pub open-at : (place : ℕ) (s : List ℕ) → mayFollow m (getD s (place + used - 1) 0) ≡ isOpen m used (drop place s)
+  open-at place s =
+      let last : place + used - 1 ≡ place + (used - 1) = omega arith in
+      ap (λ (k : ℕ). mayFollow m (getD s k 0)) last ∙ ap (mayFollow m) (sym (getD-drop place s (used - 1) 0))
 
 -- How many bytes behind a frame of so many judged ones belong to it.
 abbrev pub behindFrame : Format → List ℕ → ℕ → ℕ
-behindFrame m s used = absorbed m (mayFollow m) (drop used s)
+behindFrame m s used = absorbed m (isOpen m used s) (drop used s)
 
 module _ (m : Format) (s : List ℕ) where
   -- A frame that is judged is read with the optional byte.
@@ -96,26 +115,41 @@ module _ (m : Format) (s : List ℕ) where
   pub no-frame-read : NoFrame (judge m s) → NoFrame (read m s)
   no-frame-read h = no-frame-with (judge m s) h
 
--- A frame is read the same where what follows does not begin with an optional byte.
+-- A frame is read the same where more bytes stand behind it than were judged, or what follows does not begin with an optional byte.
 pub read-stands :
-    (m : Format) (s more : List ℕ) (used : ℕ) (p : List ℕ) → judge m s ≡ frame used p → absorbed m (mayFollow m) more ≡ 0 →
+    (m : Format) (s more : List ℕ) (used : ℕ) (p : List ℕ) → judge m s ≡ frame used p → (used ≡ length s → absorbed m (isOpen m used s) more ≡ 0) →
     read m (s ++ more) ≡ read m s
 read-stands m s more used p e plain =
+    let h : Sized m s used = frame-sized m s p used e in
     let alike : behindFrame m (s ++ more) used ≡ behindFrame m s used =
-    ap (absorbed m (mayFollow m)) (drop-append-le used s more (frame-sized m s p used e .there))
-    ∙ absorbed-same m (mayFollow m) (drop used s) more plain in
+    ap₂ (absorbed m) (open-append m used (h .some) s more (h .there)) (drop-append-le used s more (h .there))
+    ∙ absorbed-same m (isOpen m used s) (drop used s) more (λ l. plain (omega (arith, h .there, length-drop used s))) in
     read-judged m (s ++ more) used p (judge-stands m s more (frame used p) tt e)
     ∙ ap (λ (k : ℕ). frame (used + k) p) alike
     ∙ sym (read-judged m s used p e)
 
+-- The count of a frame that is read two ways.
+frame-size : {a b : ℕ} {p : List ℕ} → frame a p ≡ frame b p → a ≡ b
+frame-size e = cc
+
+-- What is read where the bytes t are judged a frame, and `rest` stands behind them.
+read-front :
+    (m : Format) (t rest p : List ℕ) → judge m (t ++ rest) ≡ frame (length t) p →
+    read m (t ++ rest) ≡ frame (length t + absorbed m (isOpen m (length t) t) rest) p
+read-front m t rest p e =
+    read-judged m (t ++ rest) (length t) p e
+    ∙ ap₂ (λ (q : Bool) (u : List ℕ). frame (length t + absorbed m q u) p)
+    (open-append m (length t) (some-used m (t ++ rest) p (length t) e) t rest (le-refl (length t)))
+    (drop-append-seam t rest)
+
 -- A format without an optional byte reads what it judges.
-as-judged : (m : Format) (s : List ℕ) → mayFollow m ≡ false → (v : Verdict) → withOptional m s v ≡ v
+as-judged : (m : Format) (s : List ℕ) → ((last : ℕ) → mayFollow m last ≡ false) → (v : Verdict) → withOptional m s v ≡ v
 as-judged m s e cut = refl
 as-judged m s e (refused judged n) = refl
 as-judged m s e (frame used p) =
-    ap (λ (q : Bool). frame (used + absorbed m q (drop used s)) p) e ∙ ap (λ (k : ℕ). frame k p) (add-zero used)
+    ap (λ (q : Bool). frame (used + absorbed m q (drop used s)) p) (e (getD s (used - 1) 0)) ∙ ap (λ (k : ℕ). frame k p) (add-zero used)
 
-pub read-is-judge : (m : Format) (s : List ℕ) → mayFollow m ≡ false → read m s ≡ judge m s
+pub read-is-judge : (m : Format) (s : List ℕ) → ((last : ℕ) → mayFollow m last ≡ false) → read m s ≡ judge m s
 read-is-judge m s e = as-judged m s e (judge m s)
 
 -- A frame that is read uses at most as many bytes as the longest has.
@@ -123,66 +157,102 @@ read-most : (m : Format) (s p : List ℕ) (judged : ℕ) → judge m s ≡ frame
 read-most (Binary Optional) s p judged e =
     omega (arith, used-is (Binary Optional) s p judged e, payload-size (Binary Optional) s p judged e .1, absorbed-one (Binary Optional) true (drop judged s))
 read-most (Binary Required) s p judged e = omega (arith, frame-sized (Binary Required) s p judged e .most)
-read-most Ascii s p judged e = omega (arith, frame-sized Ascii s p judged e .most)
+read-most (Ascii CrLf) s p judged e = omega (arith, frame-sized (Ascii CrLf) s p judged e .most)
+read-most (Ascii Any) s p judged e =
+    omega (arith, used-is (Ascii Any) s p judged e, payload-size (Ascii Any) s p judged e .1, absorbed-one (Ascii Any) (isOpen (Ascii Any) judged s) (drop judged s))
 
 pub read-sized : (m : Format) → ReadIsSized m
 read-sized m s p used e =
     let (judged, is, size) = read-frame m s used p e in
     let h : Sized m s judged = frame-sized m s p judged is in
-    let more : behindFrame m s judged ≤ length s - judged = subst (λ (k : ℕ). behindFrame m s judged ≤ k) (length-drop judged s) (absorbed-there m (mayFollow m) (drop judged s)) in
+    let more : behindFrame m s judged ≤ length s - judged = subst (λ (k : ℕ). behindFrame m s judged ≤ k) (length-drop judged s) (absorbed-there m (isOpen m judged s) (drop judged s)) in
     record {
       some = omega (arith, h .some);
       most = subst (λ (k : ℕ). k ≤ limit m) (sym size) (read-most m s p judged is);
       there = omega (arith, h .there);
     }
 
+-- Where the footer is optional, the front is read with a footer that follows.
+front-reads :
+    (p more : List ℕ) → Payload p → read (Binary Optional) (binaryFront p ++ more) ≡ frame (length (binaryFront p) + absorbed (Binary Optional) true more) p
+front-reads p more h = read-front (Binary Optional) (binaryFront p) more p (optional-front p more h)
+
+-- Under any ending, a front and a character that ends its digits.
+abbrev closed : List ℕ → ℕ → List ℕ
+closed p c = asciiFront p ++ (c ∷ [])
+
+length-closed : (p : List ℕ) (c : ℕ) → length (closed p c) ≡ length (asciiFront p) + 1
+length-closed p c = length-append (asciiFront p) (c ∷ [])
+
+-- An LF may follow where the character is CR.
+closed-open : (p : List ℕ) (c : ℕ) → isOpen (Ascii Any) (length (closed p c)) (closed p c) ≡ eqb c carriageReturn
+closed-open p c =
+    let last : length (closed p c) - 1 ≡ length (asciiFront p) = omega (arith, length-closed p c) in
+    ap (λ (k : ℕ). eqb (getD (closed p c) k 0) carriageReturn) last ∙ ap (λ (x : ℕ). eqb x carriageReturn) (getD-append-seam (asciiFront p) c [] 0)
+
+-- They are read with an LF that follows a CR.
+closed-reads :
+    (p more : List ℕ) (c : ℕ) → Payload p → endsDigits Any c ≡ true →
+    read (Ascii Any) (closed p c ++ more) ≡ frame (length (closed p c) + absorbed (Ascii Any) (eqb c carriageReturn) more) p
+closed-reads p more c h e =
+    let split : closed p c ++ more ≡ asciiFront p ++ (c ∷ more) = append-assoc (asciiFront p) (c ∷ []) more in
+    read-front (Ascii Any) (closed p c) more p
+    (ap (judge (Ascii Any)) split ∙ any-front p more c h e ∙ ap (λ (k : ℕ). frame k p) (sym (length-closed p c)))
+    ∙ ap (λ (q : Bool). frame (length (closed p c) + absorbed (Ascii Any) q more) p) (closed-open p c)
+
 -- What the layout gives is read as that frame, whatever follows.
 pub layout-reads : (m : Format) → LayoutReads m
 layout-reads (Binary Optional) p more h =
-    let s : List ℕ = layout BinaryFraming p ++ more in
-    let split : s ≡ binaryFront p ++ (footerByte ∷ more) = append-assoc (binaryFront p) binaryEnding more in
-    ap (read (Binary Optional)) split
-    ∙ read-judged (Binary Optional) (binaryFront p ++ (footerByte ∷ more)) (length (binaryFront p)) p (optional-front p (footerByte ∷ more) h)
-    ∙ ap (λ (t : List ℕ). frame (length (binaryFront p) + absorbed (Binary Optional) true t) p) (drop-append-seam (binaryFront p) (footerByte ∷ more))
+    ap (read (Binary Optional)) (append-assoc (binaryFront p) binaryEnding more)
+    ∙ front-reads p (footerByte ∷ more) h
     ∙ ap (λ (k : ℕ). frame k p) (sym (length-append (binaryFront p) binaryEnding))
 layout-reads (Binary Required) p more h =
-    read-is-judge (Binary Required) (layout BinaryFraming p ++ more) refl ∙ required-layout p more h
-layout-reads Ascii p more h = read-is-judge Ascii (layout AsciiFraming p ++ more) refl ∙ ascii-layout-reads p more h
+    read-is-judge (Binary Required) (layout BinaryFraming p ++ more) (λ _. refl) ∙ required-layout p more h
+layout-reads (Ascii CrLf) p more h = read-is-judge (Ascii CrLf) (layout AsciiFraming p ++ more) (λ _. refl) ∙ ascii-layout-reads p more h
+layout-reads (Ascii Any) p more h =
+    let split : layout AsciiFraming p ++ more ≡ closed p carriageReturn ++ (lineFeed ∷ more) =
+    append-assoc (asciiFront p) asciiEnding more ∙ sym (append-assoc (asciiFront p) (carriageReturn ∷ []) (lineFeed ∷ more)) in
+    ap (read (Ascii Any)) split
+    ∙ closed-reads p (lineFeed ∷ more) carriageReturn h refl
+    ∙ ap (λ (k : ℕ). frame k p) (omega (arith, length-closed p carriageReturn, length-append (asciiFront p) asciiEnding))
 
 -- The layout alone.
 layout-alone : (m : Format) (p : List ℕ) → Payload p → read m (layout (framingOf m) p) ≡ frame (length (layout (framingOf m) p)) p
 layout-alone m p h = rw append-nil at (layout-reads m p [] h)
 
--- The only element of a list.
-only : {A : Type 0} {x y : A} → List·Memᴰ x (y ∷ []) → x ≡ y
-only h = ⊎-elim (λ e. e) (λ k. absurd (List·Memᴰ·not-nil k)) (List·Memᴰ·cases-cons h)
+-- A character that ends digits alone.
+closed-alone : (p : List ℕ) (c : ℕ) → Payload p → endsDigits Any c ≡ true → read (Ascii Any) (closed p c) ≡ frame (length (closed p c)) p
+closed-alone p c h e =
+    rw append-nil at (closed-reads p [] c h e)
+    ∙ ap (λ (k : ℕ). frame (length (closed p c) + k) p) (absorbed-nil (Ascii Any) (eqb c carriageReturn))
+    ∙ ap (λ (k : ℕ). frame k p) (add-zero (length (closed p c)))
 
--- A frame with any of its endings is read, where nothing follows.
-endings-alone :
-    (m : Format) (p e : List ℕ) → Payload p → List·Memᴰ e (endings m) →
-    let whole : List ℕ = front (framingOf m) p ++ e in read m whole ≡ frame (length whole) p
+-- The front alone.
+front-alone : (p : List ℕ) → Payload p → read (Binary Optional) (binaryFront p ++ []) ≡ frame (length (binaryFront p ++ [])) p
+front-alone p h =
+    front-reads p [] h ∙ ap (λ (k : ℕ). frame k p) (add-zero (length (binaryFront p)) ∙ ap length (sym (append-nil (binaryFront p))))
+
+-- What holds of each element of a list holds of any.
+module _ (P : List ℕ → Type 0) {x y : List ℕ} where
+  of-one : List·Memᴰ x (y ∷ []) → P y → P x
+  of-one h p = ⊎-elim (λ e. subst P (sym e) p) (λ k. absurd (List·Memᴰ·not-nil k)) (List·Memᴰ·cases-cons h)
+
+  of-more : {l : List (List ℕ)} → List·Memᴰ x (y ∷ l) → P y → (List·Memᴰ x l → P x) → P x
+  of-more h p k = ⊎-elim (λ e. subst P (sym e) p) k (List·Memᴰ·cases-cons h)
+
+-- A frame with this ending is read, where nothing follows.
+abbrev EndedReads : Format → List ℕ → List ℕ → Type 0
+EndedReads m p e = read m (front (framingOf m) p ++ e) ≡ frame (length (front (framingOf m) p ++ e)) p
+
+endings-alone : (m : Format) (p e : List ℕ) → Payload p → List·Memᴰ e (endings m) → EndedReads m p e
 endings-alone (Binary Optional) p e h k =
-    ⊎-elim
-    (λ (q : e ≡ binaryEnding).
-    ap (λ (x : List ℕ). read (Binary Optional) (binaryFront p ++ x)) q
-    ∙ layout-alone (Binary Optional) p h
-    ∙ ap (λ (x : List ℕ). frame (length (binaryFront p ++ x)) p) (sym q))
-    (λ (l : List·Memᴰ e ([] ∷ [])).
-    ap (λ (x : List ℕ). read (Binary Optional) (binaryFront p ++ x)) (only l)
-    ∙ read-judged (Binary Optional) (binaryFront p ++ []) (length (binaryFront p)) p (optional-front p [] h)
-    ∙ ap (λ (t : List ℕ). frame (length (binaryFront p) + absorbed (Binary Optional) true t) p) (drop-append-seam (binaryFront p) [])
-    ∙ ap (λ (k : ℕ). frame k p) (add-zero (length (binaryFront p)))
-    ∙ ap (λ (x : List ℕ). frame (length x) p) (sym (append-nil (binaryFront p)))
-    ∙ ap (λ (x : List ℕ). frame (length (binaryFront p ++ x)) p) (sym (only l)))
-    (List·Memᴰ·cases-cons k)
-endings-alone (Binary Required) p e h k =
-    ap (λ (x : List ℕ). read (Binary Required) (binaryFront p ++ x)) (only k)
-    ∙ layout-alone (Binary Required) p h
-    ∙ ap (λ (x : List ℕ). frame (length (binaryFront p ++ x)) p) (sym (only k))
-endings-alone Ascii p e h k =
-    ap (λ (x : List ℕ). read Ascii (front AsciiFraming p ++ x)) (only k)
-    ∙ layout-alone Ascii p h
-    ∙ ap (λ (x : List ℕ). frame (length (front AsciiFraming p ++ x)) p) (sym (only k))
+    of-more (EndedReads (Binary Optional) p) k (layout-alone (Binary Optional) p h) (λ l. of-one (EndedReads (Binary Optional) p) l (front-alone p h))
+endings-alone (Binary Required) p e h k = of-one (EndedReads (Binary Required) p) k (layout-alone (Binary Required) p h)
+endings-alone (Ascii CrLf) p e h k = of-one (EndedReads (Ascii CrLf) p) k (layout-alone (Ascii CrLf) p h)
+endings-alone (Ascii Any) p e h k =
+    of-more (EndedReads (Ascii Any) p) k (layout-alone (Ascii Any) p h)
+    (λ l. of-more (EndedReads (Ascii Any) p) l (closed-alone p carriageReturn h refl)
+    (λ j. of-one (EndedReads (Ascii Any) p) j (closed-alone p lineFeed h refl)))
 
 -- Nor does it matter what follows, but for an optional byte.
 pub endings-read : (m : Format) → EndingsRead m
@@ -190,7 +260,7 @@ endings-read m p e more h k plain =
     let whole : List ℕ = front (framingOf m) p ++ e in
     let alone : read m whole ≡ frame (length whole) p = endings-alone m p e h k in
     let (judged, is, size) = read-frame m whole (length whole) p alone in
-    read-stands m whole more judged p is plain ∙ alone
+    read-stands m whole more judged p is (λ all. ap (λ (n : ℕ). absorbed m (isOpen m n whole) more) all ∙ plain) ∙ alone
 
 -- The front and an ending stand in front of s.
 layout-with :
@@ -205,25 +275,49 @@ layout-with m s p ending more used payload ends e size =
       payload = payload;
     }
 
--- Behind the front stands what may be the optional byte.
-layout-optional :
-    (s p rest : List ℕ) (used : ℕ) → Payload p → s ≡ binaryFront p ++ rest →
-    used ≡ length (binaryFront p) + absorbed (Binary Optional) true rest → IsLayout (Binary Optional) s used p
-layout-optional s p [] used h e size =
-    layout-with (Binary Optional) s p [] [] used h (List·Memᴰ·tail (List·Memᴰ·head refl))
-    (e ∙ sym (append-nil (binaryFront p ++ []) ∙ refl))
-    (size ∙ sym (length-append (binaryFront p) []))
-layout-optional s p (b ∷ rest) used h e size = by (eqb b footerByte) refl
-  where
-    by : (q : Bool) → eqb b footerByte ≡ q → IsLayout (Binary Optional) s used p
-    by true q =
-        layout-with (Binary Optional) s p binaryEnding rest used h (List·Memᴰ·head refl)
-        (e ∙ ap (λ (x : ℕ). binaryFront p ++ (x ∷ rest)) (eqb-true b footerByte q) ∙ sym (append-assoc (binaryFront p) binaryEnding rest))
-        (size ∙ ap (λ (x : Bool). length (binaryFront p) + cond x 1 0) q ∙ sym (length-append (binaryFront p) binaryEnding))
-    by false q =
-        layout-with (Binary Optional) s p [] (b ∷ rest) used h (List·Memᴰ·tail (List·Memᴰ·head refl))
-        (e ∙ sym (append-assoc (binaryFront p) [] (b ∷ rest)))
-        (size ∙ ap (λ (x : Bool). length (binaryFront p) + cond x 1 0) q ∙ sym (length-append (binaryFront p) []))
+-- Behind the front and the ending `short`, where an optional byte makes it longer, stands what may be that byte.
+module _ (m : Format) (b : ℕ) (is : (x : ℕ) → isOptional m x ≡ true → x ≡ b) (s p short : List ℕ) (used : ℕ) (h : Payload p)
+    (ends : List·Memᴰ short (endings m)) where
+  layout-open :
+      (q : Bool) (rest : List ℕ) → (q ≡ true → List·Memᴰ (short ++ (b ∷ [])) (endings m)) → s ≡ (front (framingOf m) p ++ short) ++ rest →
+      used ≡ length (front (framingOf m) p ++ short) + absorbed m q rest → IsLayout m s used p
+  layout-open false rest longer e size = layout-with m s p short rest used h ends e (size ∙ add-zero (length (front (framingOf m) p ++ short)))
+  layout-open true [] longer e size = layout-with m s p short [] used h ends e (size ∙ add-zero (length (front (framingOf m) p ++ short)))
+  layout-open true (x ∷ rest) longer e size = by (isOptional m x) refl
+    where
+      all : List ℕ
+      all = front (framingOf m) p ++ short
+
+      long : front (framingOf m) p ++ (short ++ (b ∷ [])) ≡ all ++ (b ∷ [])
+      long = sym (append-assoc (front (framingOf m) p) short (b ∷ []))
+
+      by : (q : Bool) → isOptional m x ≡ q → IsLayout m s used p
+      by true q =
+          layout-with m s p (short ++ (b ∷ [])) rest used h (longer refl)
+          (e
+          ∙ ap (λ (y : ℕ). all ++ (y ∷ rest)) (is x q)
+          ∙ sym (append-assoc all (b ∷ []) rest)
+          ∙ ap (λ (t : List ℕ). t ++ rest) (sym long))
+          (size ∙ ap (λ (y : Bool). length all + cond y 1 0) q ∙ sym (length-append all (b ∷ [])) ∙ ap length (sym long))
+      by false q =
+          layout-with m s p short (x ∷ rest) used h ends e
+          (size ∙ ap (λ (y : Bool). length all + cond y 1 0) q ∙ add-zero (length all))
+
+-- Under any ending, an LF makes the ending CR longer, and no other.
+closed-layout :
+    (s p rest : List ℕ) (used c : ℕ) → Payload p → (c ≡ carriageReturn) ⊎ (c ≡ lineFeed) → s ≡ closed p c ++ rest →
+    used ≡ length (closed p c) + absorbed (Ascii Any) (eqb c carriageReturn) rest → IsLayout (Ascii Any) s used p
+closed-layout s p rest used c h (inl k) e size =
+    layout-open (Ascii Any) lineFeed (λ x q. eqb-true x lineFeed q) s p (carriageReturn ∷ []) used h (List·Memᴰ·tail (List·Memᴰ·head refl)) true rest
+    (λ _. List·Memᴰ·head refl)
+    (e ∙ ap (λ (x : ℕ). closed p x ++ rest) k)
+    (size ∙ ap (λ (x : ℕ). length (closed p x) + absorbed (Ascii Any) (eqb x carriageReturn) rest) k)
+closed-layout s p rest used c h (inr k) e size =
+    layout-open (Ascii Any) lineFeed (λ x q. eqb-true x lineFeed q) s p (lineFeed ∷ []) used h
+    (List·Memᴰ·tail (List·Memᴰ·tail (List·Memᴰ·head refl))) false rest
+    (λ z. absurd (false≢true z))
+    (e ∙ ap (λ (x : ℕ). closed p x ++ rest) k)
+    (size ∙ ap (λ (x : ℕ). length (closed p x) + absorbed (Ascii Any) (eqb x carriageReturn) rest) k)
 
 -- Of bytes, what is read as a frame is the layout of its payload, with an ending.
 pub frame-is-layout : (m : Format) → FrameIsLayout m
@@ -231,13 +325,24 @@ frame-is-layout (Binary Optional) s p used b e =
     let (judged, is, size) = read-frame (Binary Optional) s used p e in
     let (rest, split, count, payload) = optional-is-layout s p judged b is in
     let behind : drop judged s ≡ rest = ap (drop judged) split ∙ drop-at (binaryFront p) rest judged (sym count) in
-    layout-optional s p rest used payload split (size ∙ (λ i. count i + absorbed (Binary Optional) true (behind i)))
+    let all : binaryFront p ++ [] ≡ binaryFront p = append-nil (binaryFront p) in
+    layout-open (Binary Optional) footerByte (λ x q. eqb-true x footerByte q) s p [] used payload (List·Memᴰ·tail (List·Memᴰ·head refl)) true rest
+    (λ _. List·Memᴰ·head refl)
+    (split ∙ ap (λ (t : List ℕ). t ++ rest) (sym all))
+    (size ∙ (λ i. count i + absorbed (Binary Optional) true (behind i)) ∙ ap (λ (t : List ℕ). length t + absorbed (Binary Optional) true rest) (sym all))
 frame-is-layout (Binary Required) s p used b e =
-    let (bytes, count, payload) = required-is-layout s p used b (sym (read-is-judge (Binary Required) s refl) ∙ e) in
+    let (bytes, count, payload) = required-is-layout s p used b (sym (read-is-judge (Binary Required) s (λ _. refl)) ∙ e) in
     record { ending = binaryEnding; ends = List·Memᴰ·head refl; bytes = bytes; count = count; payload = payload }
-frame-is-layout Ascii s p used b e =
-    let (bytes, count, payload) = ascii-is-layout s p used (sym (read-is-judge Ascii s refl) ∙ e) in
+frame-is-layout (Ascii CrLf) s p used b e =
+    let (bytes, count, payload) = ascii-is-layout s p used (sym (read-is-judge (Ascii CrLf) s (λ _. refl)) ∙ e) in
     record { ending = asciiEnding; ends = List·Memᴰ·head refl; bytes = bytes; count = count; payload = payload }
+frame-is-layout (Ascii Any) s p used b e =
+    let (judged, is, size) = read-frame (Ascii Any) s used p e in
+    let (c, rest, ends, split, count, payload) = any-is-front s p judged is in
+    let long : judged ≡ length (closed p c) = count ∙ sym (length-closed p c) in
+    let reads : read (Ascii Any) s ≡ frame (length (closed p c) + absorbed (Ascii Any) (eqb c carriageReturn) rest) p =
+    ap (read (Ascii Any)) split ∙ closed-reads p rest c payload ends in
+    closed-layout s p rest used c payload (any-ends c ends) split (frame-size (sym e ∙ reads))
 
 -- No check of the tree fails with this number.
 abbrev Never : ℕ → Checks → Type 0
@@ -262,6 +367,10 @@ never-cond : (n k : ℕ) (q : Bool) (t : Checks) → Never n t → (k ≡ n → 
 never-cond n k true t h l = h
 never-cond n k false t h l = l
 
+never-either : (q : Bool) (t u : Checks) → Never 5 t → Never 5 u → Never 5 (cond q t u)
+never-either true t u h k = h
+never-either false t u h k = k
+
 never-bytes : (n k : ℕ) (t : List ℕ → Checks) → ((p : List ℕ) → Never n (t p)) → Never n (bytes k t)
 unfolding bytes
 never-bytes n zero t h = h []
@@ -277,12 +386,36 @@ never-five =
     (never-bytes 5 (high * 256 + low - 0x8000) _ (λ p x. never-cond 5 4 (eqb x (xorOf p)) (whole p) tt (λ e. omega arith)))
     (λ e. omega arith)) (λ e. omega arith)) (λ e. omega arith)
 
+-- Digits fail with 3 alone.
+never-digits :
+    (room : ℕ) (t : List ℕ → ℕ → Checks) → ((ds : List ℕ) (c : ℕ) → Never 5 (t ds c)) → Never 5 (hexDigits room t)
+unfolding hexDigits
+never-digits zero t h = λ c. never-either (isDigit c) (fails 3) (t [] c) (λ e. omega arith) (h [] c)
+never-digits (suc room) t h =
+    λ c. never-either (isDigit c) (hexDigits room (λ ds e. t (digitValue c ∷ ds) e)) (t [] c)
+    (never-digits room (λ ds e. t (digitValue c ∷ ds) e) (λ ds e. h (digitValue c ∷ ds) e))
+    (h [] c)
+
+-- The checks of a frame under any ending fail with 1, 3, 4 and 6 alone.
+never-five-any : Never 5 (ascii (lineEnding Any))
+unfolding ascii lineEnding afterDigits byte test
+never-five-any =
+    λ a. never-cond 5 1 (eqb a colon) _
+    (never-digits 514 (lineEnding Any) (λ ds c. never-cond 5 6 (endsDigits Any c) _
+    (never-cond 5 3 (digitCount (length ds)) _ (never-cond 5 4 (eqb (sumOf (pairs ds) % 256) 0) _ tt (λ e. omega arith)) (λ e. omega arith))
+    (λ e. omega arith)))
+    (λ e. omega arith)
+
 refused-from : (m : Format) (s : List ℕ) (v : Verdict) (judged n : ℕ) → withOptional m s v ≡ refused judged n → v ≡ refused judged n
 refused-from m s cut judged n e = e
 refused-from m s (refused i k) judged n e = e
 refused-from m s (frame used p) judged n e = absurd (refused≢frame judged n (used + behindFrame m s used) p (sym e))
 
--- Where the footer is optional, 5 is never given.
-pub five-never : NeverFive
-five-never s judged e =
+-- Where the footer is optional, and under any ending, 5 is never given.
+pub five-never : (m : Format) → NeverFive m
+five-never (Binary Optional) last h s judged e =
     never-run 5 (binary whole) s never-five judged (refused-from (Binary Optional) s (judge (Binary Optional) s) judged 5 e)
+five-never (Binary Required) last h s judged e = false≢true h
+five-never (Ascii CrLf) last h s judged e = false≢true h
+five-never (Ascii Any) last h s judged e =
+    never-run 5 (ascii (lineEnding Any)) s never-five-any judged (refused-from (Ascii Any) s (judge (Ascii Any) s) judged 5 e)

@@ -84,7 +84,7 @@ module _ (f : Format) (s : List ℕ) where
 pub judged-some : (f : Format) (s : List ℕ) → Decided (judge f s) → 1 ≤ judgedBytes (judge f s)
 unfolding binary ascii
 judged-some (Binary footer) s d = byte-judged 0xA5 1 _ s d
-judged-some Ascii s d = byte-judged colon 1 _ s d
+judged-some (Ascii ending) s d = byte-judged colon 1 _ s d
 
 -- A failed start was judged from as many bytes as a frame may use.
 pub refused-sized : (f : Format) (s : List ℕ) (judged n : ℕ) → judge f s ≡ refused judged n → Sized f s judged

@@ -9,7 +9,7 @@ use mathlib.Core.Bool.{Bool, false}
 use borrow.Author.Tests.{le-leb, lt-leb}
 use lib.ListN.{length, take, drop, length-append}
 use lib.Seq.{paste, take-length, take-paste, take-at, drop-at}
-use Rattle.frame.specs.Framing.{mayFollow, limit}
+use Rattle.frame.specs.Framing.{isOpen, limit}
 use Rattle.frame.specs.Judged.{payloadAt}
 use Rattle.frame.specs.Reader.{holding, stateOf, Called, lineOn, line, frameValues, feedValuesOf, bufferAt, quietRefusal, feedRefusal}
 use Rattle.frame.specs.Reader.{Feeds}
@@ -46,7 +46,7 @@ module _ (f : Format) (w : List ℕ) (before : Before) (place reach : ℕ) (end 
 
   -- It stopped at a frame.
   pub kept-frame :
-      (used len : ℕ) (follows : Bool) → follows ≡ mayFollow f → end ≡ Frame used len → length (payloadAt f (drop place w) len) ≡ len →
+      (used len : ℕ) (follows : Bool) → follows ≡ isOpen f used (drop place w) → end ≡ Frame used len → length (payloadAt f (drop place w) len) ≡ len →
       place + used ≤ reach → reach ≤ length w → reach ≤ place + 517 →
       Right end (keptAs (FeedFrame (reach - before .base) (before .noise + place) len) (place + used) reach follows)
   kept-frame used len follows u e l h k m =

@@ -13,18 +13,21 @@ use lib.ListN.{length, getD, take, drop, replicate}
 use Rattle.frame.specs.Checks.{frame, byte, test, word, bytes}
 use Rattle.frame.specs.Binary.{binary, body, footer}
 use Rattle.frame.specs.Digit.{isDigit, digitValue}
-use Rattle.frame.specs.Ascii.{hexDigits, lineEnd, crLf, afterDigits, ascii}
+use Rattle.frame.specs.Ascii.{hexDigits, lineEnd, lineEnding, afterDigits, ascii}
 use Rattle.frame.specs.Framing.{read}
 use Rattle.frame.specs.Rule.{join, places, outFrom, Found, rule}
 use Rattle.frame.specs.Elements.{All}
 use Rattle.frame.specs.Recovery.{Good, Stretch, none, another, starts, PairsBegin}
 use Rattle.frame.specs.RecoveryExamples.{response, blank, success, overlapped, LostAndBack}
 use Rattle.frame.specs.RecoveryExamples.{holdsStart, completes, unguarded, shortStart, lostFrame, ProvisoNeeded}
-use Rattle.frame.specs.RecoveryExamples.{bare, mixed, MixedEndings, FooterRequired, AsciiBack}
+use Rattle.frame.specs.RecoveryExamples.{bare, mixed, MixedEndings, FooterRequired, asciiFrame, four, AsciiBack}
+use Rattle.frame.specs.RecoveryExamples.{withReturn, withFeed, MixedLines, StrictLines, FeedJudges}
 use Rattle.frame.specs.declared.framing.Footer.{Footer}
 use Rattle.frame.specs.declared.framing.Footer.the-variants.{Optional, Required}
+use Rattle.frame.specs.declared.framing.Ending.{Ending}
+use Rattle.frame.specs.declared.framing.Ending.the-variants.{CrLf, Any}
 use Rattle.frame.specs.declared.framing.Format.{Format}
-use Rattle.frame.specs.declared.framing.Format.the-variants.{Binary}
+use Rattle.frame.specs.declared.framing.Format.the-variants.{Binary, Ascii}
 use Rattle.frame.proofs.Trees.{cut≢frame}
 
 -- The proviso as a computed test: wherever the pair stands in s, whose first byte is at `place`, that place is one of ss.
@@ -161,6 +164,32 @@ footer-required =
       frames = refl;
     }
 
-pub ascii-back : AsciiBack
-unfolding rule places outFrom join ascii hexDigits isDigit digitValue crLf lineEnd afterDigits byte test
-ascii-back = record { good = another (record { payload = 0x00 ∷ 0x01 ∷ 0x02 ∷ 0x03 ∷ []; reads = refl }) none; frames = refl }
+pub ascii-back : (ending : Ending) → AsciiBack ending
+unfolding rule places outFrom join ascii hexDigits isDigit digitValue lineEnding lineEnd afterDigits byte test
+ascii-back CrLf = record { good = another (record { payload = four; reads = refl }) none; frames = refl }
+ascii-back Any = record { good = another (record { payload = four; reads = refl }) none; frames = refl }
+
+-- Good frames under any ending, mixed.
+pub mixed-lines-back : MixedLines
+unfolding rule places outFrom join ascii hexDigits isDigit digitValue lineEnding lineEnd afterDigits byte test flatten
+mixed-lines-back =
+    let return : Good (Ascii Any) withReturn = record { payload = four; reads = refl } in
+    let feed : Good (Ascii Any) withFeed = record { payload = four; reads = refl } in
+    let both : Good (Ascii Any) asciiFrame = record { payload = four; reads = refl } in
+    record {
+      good = another return (another both (another feed (another feed (another return (another both none)))));
+      kept = refl;
+      doubledFeed = refl;
+      secondFeed = refl;
+      doubledReturn = refl;
+    }
+
+-- Under the strict ending they are refused.
+pub strict-lines : StrictLines
+unfolding rule places outFrom join ascii hexDigits isDigit digitValue lineEnding lineEnd afterDigits byte test
+strict-lines = record { cutShort = refl; before = refl; feed = refl; frames = refl }
+
+-- LF gives 3 and 4 as CR does.
+pub feed-judges : FeedJudges
+unfolding ascii hexDigits isDigit digitValue lineEnding afterDigits byte test
+feed-judges = record { odd = refl; few = refl; sum = refl; sumAtReturn = refl; other = refl }

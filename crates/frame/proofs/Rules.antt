@@ -10,7 +10,7 @@ use lib.ListN.{length, drop}
 use lib.Seq.{drop-drop}
 use Rattle.frame.specs.Checks.{Verdict, cut, refused, frame}
 use Rattle.frame.specs.Hex.{sumOf}
-use Rattle.frame.specs.Framing.{judge, read, mayFollow, absorbed, behindOptional}
+use Rattle.frame.specs.Framing.{judge, read, isOpen, absorbed, behindOptional}
 use Rattle.frame.specs.Rule.{Output, output, nothing, noiseByte, handed, join, onBy, passAfter, places, Found, foundAt, outAt, outFrom}
 use Rattle.frame.specs.Rule.{rule, payloads}
 use Rattle.frame.specs.Elements.{All}
@@ -206,7 +206,7 @@ module _ (f : Format) where
 
   -- Where they are judged a frame, its payload is handed out, and behind it an optional byte is passed over.
   pub given-judged :
-      (used : ℕ) (p s : List ℕ) → judge f s ≡ frame used p → given f s ≡ join (handed p) (givenBehind f (mayFollow f) (drop used s))
+      (used : ℕ) (p s : List ℕ) → judge f s ≡ frame used p → given f s ≡ join (handed p) (givenBehind f (isOpen f used s) (drop used s))
   given-judged used p s e =
       given-frame f (used + behindFrame f s used) p s (read-judged f s used p e)
       ∙ ap (λ (t : List ℕ). join (handed p) (given f t)) (sym (drop-drop (behindFrame f s used) used s))
@@ -222,7 +222,7 @@ given-behind-nil f follows = ap (λ (n : ℕ). given f (drop n [])) (absorbed-ni
 
 -- Where what follows makes no frame of an undecided start and does not begin with an optional byte, the rule over both is the rule over each.
 module _ (f : Format) (more : List ℕ) (breaks : (b : ℕ) (s : List ℕ) → judge f (b ∷ s) ≡ cut → NoFrame (judge f ((b ∷ s) ++ more)))
-    (plain : absorbed f (mayFollow f) more ≡ 0) where
+    (plain : (follows : Bool) → absorbed f follows more ≡ 0) where
   -- What stands in the first part at a place stands there with the second part behind it.
   split-at :
       (place b : ℕ) (s : List ℕ) (v : Verdict) → judge f (b ∷ s) ≡ v →
@@ -237,7 +237,7 @@ module _ (f : Format) (more : List ℕ) (breaks : (b : ℕ) (s : List ℕ) → j
       (rule-noise f place b (s ++ more) (no-frame-read f ((b ∷ s) ++ more) (subst NoFrame (sym (judge-stands f (b ∷ s) more (refused judged n) tt e)) tt)), zero-le)
   split-at place b s (frame used p) e =
       let here : read f (b ∷ s) ≡ frame (used + behindFrame f (b ∷ s) used) p = read-judged f (b ∷ s) used p e in
-      let same : read f ((b ∷ s) ++ more) ≡ read f (b ∷ s) = read-stands f (b ∷ s) more used p e plain in
+      let same : read f ((b ∷ s) ++ more) ≡ read f (b ∷ s) = read-stands f (b ∷ s) more used p e (λ _. plain (isOpen f used (b ∷ s))) in
       let r = read-sized f (b ∷ s) p (used + behindFrame f (b ∷ s) used) here in
       let inside : pred (used + behindFrame f (b ∷ s) used) ≤ length s = omega (arith, r .some, r .there) in
       (ap (λ (v : Verdict). join (outAt place v) (ruleFrom f (suc place) (passAfter v) (s ++ more))) same, rw here inside)

@@ -9,7 +9,7 @@ use mathlib.Core.Bool.{true, false}
 use lib.ListN.{length, take, drop, length-append, length-take, length-drop, drop-of-length-le}
 use lib.Seq.{take-append-add, take-append-seam, drop-append-seam, take-take, take-all, drop-drop, drop-length}
 use Rattle.frame.specs.Checks.{Verdict, cut, refused, frame}
-use Rattle.frame.specs.Framing.{judge, mayFollow, limit}
+use Rattle.frame.specs.Framing.{judge, isOpen, limit}
 use Rattle.frame.specs.Rule.{output, join}
 use Rattle.frame.specs.Reader.{settleAs, settle, Called, called, stopped, lineFrom, lineOn, tookFirst, quietHeld}
 use Rattle.frame.specs.Claims.{Sized}
@@ -19,15 +19,16 @@ use Rattle.frame.specs.Answer.{beforeScan, calledAs, scanWhole}
 use Rattle.frame.specs.Feeding.{joined}
 use Rattle.frame.specs.declared.framing.Format.{Format}
 use Rattle.frame.proofs.Lists.{drop-next, drop-take}
-use Rattle.frame.proofs.Framings.{undecided-short}
+use Rattle.frame.proofs.Framings.{frame-sized, undecided-short}
+use Rattle.frame.proofs.Optional.{open-take}
 use Rattle.frame.proofs.Prefixes.{refused-sized, limit-enough}
 use Rattle.frame.proofs.Taking.{noisier, lineAt, line-cut, line-decided, line-found, line-failed}
-use Rattle.frame.proofs.Scanning.{AtUndecided, ScanFacts, scan-facts, scan-passed}
+use Rattle.frame.proofs.Scanning.{AtFrame, AtUndecided, ScanFacts, scan-facts, scan-passed}
 use Rattle.frame.proofs.Scanning.{step-refused, step-frame, step-undecided, step-ended, step-end}
 
 -- What a quiet call gives where the scan of s stopped so at a place.
 abbrev quietBy : Format → List ℕ → Stop → ℕ → Called
-quietBy f s (found used p) place = called 0 (output (p ∷ []) place) (drop (place + used) s) (mayFollow f)
+quietBy f s (found used p) place = called 0 (output (p ∷ []) place) (drop (place + used) s) (isOpen f used (drop place s))
 quietBy f s undecided place = called 0 (output [] place) (drop place s) false
 quietBy f s passed place = called 0 (output [] place) [] false
 
@@ -75,7 +76,7 @@ module _ (f : Format) (s : List ℕ) where
   -- By the reason for which it stopped: at a frame, or behind the last place.
   pub scan-quiet-found :
       (x : Scanned) (used : ℕ) (p : List ℕ) → x ≡ scanFrom (judging true f) (length s) 0 0 s → x .stop ≡ found used p →
-      quietHeld f s ≡ called 0 (output (p ∷ []) (x .place)) (drop (x .place + used) s) (mayFollow f)
+      quietHeld f s ≡ called 0 (output (p ∷ []) (x .place)) (drop (x .place + used) s) (isOpen f used (drop (x .place) s))
   scan-quiet-found x used p is q = rw q at (quiet-scan x is)
 
   pub scan-quiet-passed :
@@ -133,7 +134,7 @@ module _ (f : Format) (w : List ℕ) (base place reach : ℕ) (l : place ≤ rea
       let count : reach - base + (max m used - m) ≡ far - base = count-far base place reach used l b in
       let held : take (max m used - used) (drop used s) ≡ part (place + used) far w = rw (left, drop-drop) in
       ap (λ (c : Called). noisier place (tookFirst (reach - base) c)) (line-found f s m used p held-there q)
-      ∙ (λ i. called (count i) (output (p ∷ []) (noise i)) (held i) (mayFollow f))
+      ∙ (λ i. called (count i) (output (p ∷ []) (noise i)) (held i) (isOpen f used s))
 
   -- At a failed start.
   call-refused :
@@ -280,7 +281,13 @@ module _ (f : Format) (held chunk : List ℕ) where
       rw (joined-front, drop-take)
       (take-take (x .reach - next) (length held + limit f - next) (drop next w) (omega (arith, facts .there)))
       in
-      λ i. called (x .reach - length held) (output (p ∷ []) (0 + x .place)) (same i) (mayFollow f)
+      let at : AtFrame f (joined f held chunk) (length held) (x .place) (x .reach) used p = rw q at (facts .ends) in
+      let sized = frame-sized f (drop (x .place) (joined f held chunk)) p used (at .is-frame) in
+      let marks : isOpen f used (drop (x .place) (joined f held chunk)) ≡ isOpen f used (drop (x .place) w) =
+      rw (joined-front, drop-take)
+      (open-take f used (sized .some) (length held + limit f - x .place) (drop (x .place) w) (omega (arith, sized .most, at .before)))
+      in
+      λ i. called (x .reach - length held) (output (p ∷ []) (0 + x .place)) (same i) (marks i)
   held-stop x undecided facts q =
       let at : AtUndecided false f (joined f held chunk) (length held) (x .place) = rw q at (facts .ends) in
       let short = undecided-short f (drop (x .place) (joined f held chunk)) (at .is-cut) in

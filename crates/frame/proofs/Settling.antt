@@ -3,25 +3,25 @@
 use Prim.Native.Nat.{ℕ, suc, _≤_, zero-le, suc-le-suc}
 use native.Mathlib.Nat.{le-refl, le-trans, le-step}
 use native.Mathlib.Omega.{arith}
-use mathlib.Core.Path.{_≡_, refl, sym, ap, _∙_, subst}
+use mathlib.Core.Path.{_≡_, refl, sym, ap, ap₂, _∙_, subst}
 use mathlib.Core.List.{List, [], _∷_, _++_, append-assoc, append-nil, cons≢nil}
 use mathlib.Core.Logic.{_⊎_, inl, inr, ⊎-elim}
 use mathlib.Core.Bool.{Bool, false}
 use lib.ListN.{length, drop, length-append, length-drop}
 use lib.Seq.{drop-append-le, drop-drop}
 use Rattle.frame.specs.Checks.{Verdict, cut, refused, frame}
-use Rattle.frame.specs.Framing.{judge, mayFollow, absorbed, limit, behindOptional}
+use Rattle.frame.specs.Framing.{judge, isOpen, absorbed, limit, behindOptional}
 use Rattle.frame.specs.Rule.{Output, nothing, noiseByte, handed, join}
 use Rattle.frame.specs.Reader.{State, Settled, settleAs, settle, Called, stopped, oneMore, ifFrame, lineFrom, lineOn, lineBehind, line}
 use Rattle.frame.specs.Reader.{ended, quietHeld, quiet, after}
 use Rattle.frame.specs.Drain.{ruleAfter}
-use Rattle.frame.specs.Claims.{TakenIsInside, NeedsMoreIsTrue}
+use Rattle.frame.specs.Claims.{Sized, TakenIsInside, NeedsMoreIsTrue}
 use Rattle.frame.specs.Draining.{QuietFollowsRule, EmptyIsDrained}
 use Rattle.frame.specs.declared.framing.Format.{Format}
 use Rattle.frame.specs.declared.framing.Format.the-variants.{Binary, Ascii}
 use Rattle.frame.proofs.Shapes.{NoFrame, judge-stands}
 use Rattle.frame.proofs.Framings.{frame-sized, undecided-short}
-use Rattle.frame.proofs.Optional.{absorbed-there, absorbed-front}
+use Rattle.frame.proofs.Optional.{open-append, absorbed-there, absorbed-front}
 use Rattle.frame.proofs.Rules.{join-nothing, join-assoc, given, givenBehind, given-failed, given-judged}
 
 -- Where no frame came out of settling, no mark is set.
@@ -44,12 +44,12 @@ module _ (f : Format) (Fails : Verdict → Type 0) where
   abbrev Agrees : List ℕ → Verdict → List ℕ → Type 0
   Agrees more cut h = Unit {0}
   Agrees more (refused judged n) h = Fails (judge f (h ++ more))
-  Agrees more (frame used p) h = (judge f (h ++ more) ≡ frame used p) × (used ≤ length h)
+  Agrees more (frame used p) h = (judge f (h ++ more) ≡ frame used p) × Sized f h used
 
   agrees-as : ((judged n : ℕ) → Fails (refused judged n)) → (more h : List ℕ) (v : Verdict) → judge f h ≡ v → Agrees more v h
   agrees-as fails more h cut e = tt
   agrees-as fails more h (refused judged n) e = subst Fails (sym (judge-stands f h more (refused judged n) tt e)) (fails judged n)
-  agrees-as fails more h (frame used p) e = (judge-stands f h more (frame used p) tt e, frame-sized f h p used e .there)
+  agrees-as fails more h (frame used p) e = (judge-stands f h more (frame used p) tt e, frame-sized f h p used e)
 
 -- At a quiet nothing follows, and what is undecided is no frame.
 agrees-ended : (f : Format) (h : List ℕ) (v : Verdict) → judge f h ≡ v → Agrees f NoFrame [] (ended v) h
@@ -62,7 +62,7 @@ module _ (f : Format) {A : Type 0} (Fails : Verdict → Type 0) (over : Bool →
     (onto-nothing : (a : A) → onto nothing a ≡ a)
     (onto-join : (x y : Output (List ℕ)) (a : A) → onto (join x y) a ≡ onto x (onto y a))
     (over-noise : (b : ℕ) (s : List ℕ) → Fails (judge f (b ∷ s)) → over false (b ∷ s) ≡ onto noiseByte (over false s))
-    (over-frame : (used : ℕ) (p s : List ℕ) → judge f s ≡ frame used p → over false s ≡ onto (handed p) (over (mayFollow f) (drop used s))) where
+    (over-frame : (used : ℕ) (p s : List ℕ) → judge f s ≡ frame used p → over false s ≡ onto (handed p) (over (isOpen f used s) (drop used s))) where
   -- One step of settling.
   settle-at :
       (more : List ℕ) (b : ℕ) (h : List ℕ) (later : Settled) (v : Verdict) → Agrees f Fails more v (b ∷ h) →
@@ -75,7 +75,9 @@ module _ (f : Format) {A : Type 0} (Fails : Verdict → Type 0) (over : Bool →
       ∙ sym (onto-join noiseByte (later .out) (over (later .follows) (later .rest ++ more)))
   settle-at more b h later (frame used p) a e =
       over-frame used p ((b ∷ h) ++ more) (a .0)
-      ∙ ap (λ (s : List ℕ). onto (handed p) (over (mayFollow f) s)) (drop-append-le used (b ∷ h) more (a .1))
+      ∙ ap₂ (λ (q : Bool) (s : List ℕ). onto (handed p) (over q s))
+      (open-append f used (a .1 .some) (b ∷ h) more (a .1 .there))
+      (drop-append-le used (b ∷ h) more (a .1 .there))
 
   -- Settled bytes gave what all of them give, and the bytes still held stand for the rest of it.
   settle-over :
@@ -246,7 +248,7 @@ module _ (f : Format) where
     where
       limit-of : (g : Format) → 1 ≤ limit g
       limit-of (Binary footer) = omega arith
-      limit-of Ascii = omega arith
+      limit-of (Ascii ending) = omega arith
 
   -- One byte more than nothing or undecided bytes is within the limit.
   grow : (out : Output (List ℕ)) (held : List ℕ) (b : ℕ) → Sound (judge f) out held → out .frames ≡ [] → length (held ++ (b ∷ [])) ≤ limit f

@@ -10,10 +10,12 @@ use Rattle.frame.specs.Checks.{Checks, next, fails, whole, byte, test, V
 use Rattle.frame.specs.Binary.{binary, ending}
 use Rattle.frame.specs.Digit.{isDigit, digitValue}
 use Rattle.frame.specs.Hex.{pairs, sumOf}
-use Rattle.frame.specs.Ascii.{colon, carriageReturn, lineFeed, hexDigits, digitCount, afterDigits, ascii, lineEnd, crLf}
+use Rattle.frame.specs.Ascii.{colon, lineFeed, hexDigits, digitCount, afterDigits, ascii, endsDigits, lineEnd, behindDigits, lineEnding}
 use Rattle.frame.specs.Framing.{checks, judge}
 use Rattle.frame.specs.Claims.{Decided}
 use Rattle.frame.specs.declared.framing.Footer.{Footer}
+use Rattle.frame.specs.declared.framing.Ending.{Ending}
+use Rattle.frame.specs.declared.framing.Ending.the-variants.{CrLf, Any}
 use Rattle.frame.specs.declared.framing.Format.{Format}
 use Rattle.frame.specs.declared.framing.Format.the-variants.{Binary, Ascii}
 use Rattle.frame.proofs.Trees.{stands, took-byte, cut≢frame, cut≢refused}
@@ -94,12 +96,21 @@ unfolding afterDigits
 bars-after ds rest h =
     bars-test colon (digitCount (length ds)) 3 _ (bars-test colon (eqb (sumOf (pairs ds) % 256) 0) 4 _ (h (dropLast (pairs ds))))
 
--- It is no part of the ending CR LF.
-bars-ending : (ds : List ℕ) (c : ℕ) → Bars colon (crLf ds c)
-unfolding crLf lineEnd byte
-bars-ending ds c =
-    bars-test colon (eqb c carriageReturn) 6 _
-    (bars-after ds lineEnd (λ p. (tt, λ b. by-cond (Bars colon) (eqb b lineFeed) (whole p) (fails 5) (λ _. tt) tt)))
+-- It is no part of an ending.
+bars-behind : (ending : Ending) (p : List ℕ) → Bars colon (behindDigits ending p)
+unfolding lineEnd byte
+bars-behind CrLf p = (tt, λ b. by-cond (Bars colon) (eqb b lineFeed) (whole p) (fails 5) (λ _. tt) tt)
+bars-behind Any p = tt
+
+bars-ending : (ending : Ending) (ds : List ℕ) (c : ℕ) → Bars colon (lineEnding ending ds c)
+unfolding lineEnding
+bars-ending ending ds c = bars-test colon (endsDigits ending c) 6 _ (bars-after ds (behindDigits ending) (bars-behind ending))
+
+-- It fails there.
+colon-fails : (ending : Ending) (ds : List ℕ) → Fails (lineEnding ending ds colon)
+unfolding lineEnding test
+colon-fails CrLf ds = tt
+colon-fails Any ds = tt
 
 -- Digits before it do not change that.
 bars-digits :
@@ -138,17 +149,17 @@ binary-first end s p used e =
     (k .rest, h .split ∙ ap (λ (l : List ℕ). 0xA5 ∷ l) (k .split))
 
 -- Behind an ASCII frame's first colon the checks fail at any other.
-pub bars-line : Bars colon (hexDigits 514 crLf)
-unfolding crLf test
-bars-line = bars-digits 514 crLf (λ ds. tt) bars-ending
+pub bars-line : (ending : Ending) → Bars colon (hexDigits 514 (lineEnding ending))
+bars-line ending = bars-digits 514 (lineEnding ending) (colon-fails ending) (bars-ending ending)
 
 -- No undecided start of an ASCII frame goes on over a colon.
-pub colon-stops : (b : ℕ) (s more : List ℕ) → judge Ascii (b ∷ s) ≡ cut → IsRefused (judge Ascii ((b ∷ s) ++ (colon ∷ more)))
-colon-stops = ascii-stops crLf bars-line
+pub colon-stops :
+    (ending : Ending) (b : ℕ) (s more : List ℕ) → judge (Ascii ending) (b ∷ s) ≡ cut → IsRefused (judge (Ascii ending) ((b ∷ s) ++ (colon ∷ more)))
+colon-stops ending = ascii-stops (lineEnding ending) (bars-line ending)
 
 -- What each framing begins with.
-pub colon-first : (s p : List ℕ) (used : ℕ) → judge Ascii s ≡ frame used p → (rest : List ℕ) × (s ≡ colon ∷ rest)
-colon-first = ascii-first crLf
+pub colon-first : (ending : Ending) (s p : List ℕ) (used : ℕ) → judge (Ascii ending) s ≡ frame used p → (rest : List ℕ) × (s ≡ colon ∷ rest)
+colon-first ending = ascii-first (lineEnding ending)
 
 pub pair-first : (footer : Footer) (s p : List ℕ) (used : ℕ) → judge (Binary footer) s ≡ frame used p → (rest : List ℕ) × (s ≡ 0xA5 ∷ 0x5A ∷ rest)
 pair-first footer = binary-first (ending footer)

@@ -14,11 +14,13 @@ use lib.Seq.{take-add, take-take, drop-drop}
 use Rattle.frame.specs.Checks.{Checks, next, fails, whole, test, Verdict, cut, refused, frame, behind, run}
 use Rattle.frame.specs.Binary.{binary}
 use Rattle.frame.specs.Digit.{isDigit, digitValue}
-use Rattle.frame.specs.Ascii.{ascii, colon, hexDigits, crLf}
+use Rattle.frame.specs.Ascii.{ascii, colon, hexDigits, lineEnding}
 use Rattle.frame.specs.Framing.{judge}
 use Rattle.frame.specs.DigitRuns.{allPass}
 use Rattle.frame.specs.Judged.{startOf, doubledNumber, passedBy}
 use Rattle.frame.specs.Scan.{judging, scanFrom, other, Skips}
+use Rattle.frame.specs.declared.framing.Ending.{Ending}
+use Rattle.frame.specs.declared.framing.Ending.the-variants.{CrLf, Any}
 use Rattle.frame.specs.declared.framing.Format.{Format}
 use Rattle.frame.specs.declared.framing.Format.the-variants.{Binary, Ascii}
 use Rattle.frame.proofs.Numbers.{both-true, and-true}
@@ -71,7 +73,7 @@ module _ (b : ℕ) (s : List ℕ) (from stop : ℕ) where
 pub start-fails : (f : Format) (s : List ℕ) (place : ℕ) → place < length s → (getD s place 0 ≡ startOf f → ⊥) → judge f (drop place s) ≡ refused 1 1
 unfolding binary ascii
 start-fails (Binary footer) s place l e = fail-byte 0xA5 1 _ s place l e
-start-fails Ascii s place l e = fail-byte colon 1 (hexDigits 514 crLf) s place l e
+start-fails (Ascii ending) s place l e = fail-byte colon 1 (hexDigits 514 (lineEnding ending)) s place l e
 
 -- What is refused behind one byte is refused with one byte judged fewer.
 refused-left : (v : Verdict) (judged n : ℕ) → behind 1 v ≡ refused judged n → (left : ℕ) × (judged ≡ 1 + left) × (v ≡ refused left n)
@@ -119,16 +121,17 @@ digits-judged (suc room) t s judged n e =
 
 -- A colon that starts no frame fails behind it, and no byte between it and the failing one is a colon.
 colon-fails :
-    (s : List ℕ) (place judged n : ℕ) → place < length s → getD s place 0 ≡ colon → judge Ascii (drop place s) ≡ refused judged n →
+    (ending : Ending) (s : List ℕ) (place judged n : ℕ) → place < length s → getD s place 0 ≡ colon →
+    judge (Ascii ending) (drop place s) ≡ refused judged n →
     (2 ≤ judged) × (allPass (other colon) (take (judged - 2) (drop (place + 1) s)) ≡ true)
 unfolding ascii
-colon-fails s place judged n l is q =
+colon-fails ending s place judged n l is q =
     let rest : List ℕ = drop (suc place) s in
-    let line : Checks = hexDigits 514 crLf in
+    let line : Checks = hexDigits 514 (lineEnding ending) in
     let v = refused-left (run line rest) judged n (sym (pass-byte colon 1 line s place l is) ∙ q) in
     let size : judged - 2 ≡ v .0 - 1 = omega (arith, v .1) in (
-      omega (arith, v .1, digits-judged 514 crLf rest (v .0) n (v .2)),
-      rw (size, add-one) (barred colon line rest (v .0) n bars-line (v .2)),
+      omega (arith, v .1, digits-judged 514 (lineEnding ending) rest (v .0) n (v .2)),
+      rw (size, add-one) (barred colon line rest (v .0) n (bars-line ending) (v .2)),
     )
 
 -- The places that a failed start passes over are its own and those of bytes that start no frame.
@@ -138,8 +141,8 @@ pub fails-over :
 fails-over (Binary footer) s stop place judged n m l is q =
     let to : min (place + 1) stop ≡ place + 1 = omega arith in
     (rw to (skips-none 0xA5 s (place + 1) stop (omega arith)), refused-sized (Binary footer) (drop place s) judged n q .some)
-fails-over Ascii s stop place judged n m l is q =
-    let h = colon-fails s place judged n (omega arith) is q in
+fails-over (Ascii ending) s stop place judged n m l is q =
+    let h = colon-fails ending s place judged n (omega arith) is q in
     let to : ℕ = min (place + (judged - 1)) stop in
     let least : to - (place + 1) ≤ judged - 2 = omega arith in (
       record {
@@ -152,20 +155,27 @@ fails-over Ascii s stop place judged n m l is q =
       omega arith,
     )
 
+-- A colon behind another fails.
+colon-doubled : (ending : Ending) (s : List ℕ) → run (hexDigits 514 (lineEnding ending)) (colon ∷ s) ≡ refused 1 6
+unfolding hexDigits lineEnding isDigit test
+colon-doubled CrLf s = refl
+colon-doubled Any s = refl
+
 -- A start that another start follows fails at that.
 pub doubled-fails :
     (f : Format) (s : List ℕ) (place : ℕ) → place + 1 < length s → getD s place 0 ≡ startOf f → getD s (place + 1) 0 ≡ startOf f →
     judge f (drop place s) ≡ refused 2 (doubledNumber f)
-unfolding binary ascii hexDigits crLf isDigit test
+unfolding binary ascii
 doubled-fails (Binary footer) s place l e d =
     let second : getD s (suc place) 0 ≡ 0xA5 = ap (λ (k : ℕ). getD s k 0) (sym (add-one place)) ∙ d in
     pass-byte 0xA5 1 _ s place (omega arith) e
     ∙ ap (behind 1) (fail-byte 0x5A 1 _ s (suc place) (omega arith) (λ z. let no : _≡_ {A = ℕ} 0xA5 0x5A = sym second ∙ z in omega arith))
-doubled-fails Ascii s place l e d =
+doubled-fails (Ascii ending) s place l e d =
     let second : getD s (suc place) 0 ≡ colon = ap (λ (k : ℕ). getD s k 0) (sym (add-one place)) ∙ d in
-    pass-byte colon 1 (hexDigits 514 crLf) s place (omega arith) e
-    ∙ ap (λ (r : List ℕ). behind 1 (run (hexDigits 514 crLf) r))
+    pass-byte colon 1 (hexDigits 514 (lineEnding ending)) s place (omega arith) e
+    ∙ ap (λ (r : List ℕ). behind 1 (run (hexDigits 514 (lineEnding ending)) r))
     (drop-next s (suc place) (omega arith) ∙ ap (λ (c : ℕ). c ∷ drop (suc place + 1) s) second)
+    ∙ ap (behind 1) (colon-doubled ending (drop (suc place + 1) s))
 
 module _ (e : Bool) (f : Format) (s : List ℕ) (stop : ℕ) (m : stop ≤ length s) where
   -- One byte that starts no frame is passed.

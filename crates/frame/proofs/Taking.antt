@@ -6,21 +6,23 @@ use native.Mathlib.Numerals.{one-add}
 use native.Mathlib.Omega.{arith}
 use mathlib.Core.Path.{_≡_, refl, sym, ap, ap₂, _∙_, subst}
 use mathlib.Core.List.{List, [], _∷_, _++_, append-nil}
-use mathlib.Core.Bool.{Bool, true, false}
+use mathlib.Core.Bool.{Bool, true, false, true≢false}
 use lib.ListN.{length, getD, take, drop, length-append, take-append-drop}
 use lib.Seq.{drop-append-le, drop-cons, drop-length, drop-drop, take-suc, take-length, take-append-seam, drop-append-seam}
 use Rattle.frame.specs.Checks.{Verdict, cut, refused, frame}
-use Rattle.frame.specs.Framing.{checks, judge, mayFollow, absorbed}
+use Rattle.frame.specs.Ascii.{carriageReturn}
+use Rattle.frame.specs.Framing.{checks, judge, mayFollow, isOpen, absorbed}
 use Rattle.frame.specs.Rule.{output, nothing, noiseByte, handed, join}
 use Rattle.frame.specs.Reader.{Settled, settled, settleAs, settle, Called, called, stopped, oneMore, ifFrame, lineFrom, lineOn, tookFirst, lineBehind, quietHeld}
 use Rattle.frame.specs.Claims.{remaining, TakenIsNeeded, HeldThenChunk, SameButMark, MarkMeansNothing}
 use Rattle.frame.specs.Scan.{judgedBytes}
 use Rattle.frame.specs.declared.framing.Footer.the-variants.{Optional, Required}
+use Rattle.frame.specs.declared.framing.Ending.the-variants.{CrLf, Any}
 use Rattle.frame.specs.declared.framing.Format.{Format}
 use Rattle.frame.specs.declared.framing.Format.the-variants.{Binary, Ascii}
 use Rattle.frame.proofs.Lists.{drop-take}
-use Rattle.frame.proofs.Framings.{frame-sized}
-use Rattle.frame.proofs.Optional.{absorbed-one, absorbed-there, absorbed-front}
+use Rattle.frame.proofs.Framings.{frame-sized, some-used}
+use Rattle.frame.proofs.Optional.{open-take, absorbed-one, absorbed-there, absorbed-front}
 use Rattle.frame.proofs.Rules.{join-nothing}
 use Rattle.frame.proofs.Prefixes.{enough, too-few, front-undecided, judged-there, refused-sized}
 
@@ -45,7 +47,7 @@ module _ (f : Format) where
   settle-cut (b ∷ h) q = rw q
 
   -- A frame is handed out.
-  settle-frame : (h p : List ℕ) (used : ℕ) → judge f h ≡ frame used p → settle f (judge f) h ≡ settled (handed p) (drop used h) (mayFollow f)
+  settle-frame : (h p : List ℕ) (used : ℕ) → judge f h ≡ frame used p → settle f (judge f) h ≡ settled (handed p) (drop used h) (isOpen f used h)
   unfolding settle
   settle-frame [] p used q = let size = frame-sized f [] p used q in absurd (not-suc-le-zero (le-trans (size .some) (size .there)))
   settle-frame (b ∷ h) p used q = rw q
@@ -60,7 +62,7 @@ module _ (f : Format) where
   -- A call stops at a frame.
   line-frame :
       (h p chunk : List ℕ) (used : ℕ) → judge f h ≡ frame used p →
-      lineOn f h chunk ≡ called 0 (handed p) (drop used h) (mayFollow f)
+      lineOn f h chunk ≡ called 0 (handed p) (drop used h) (isOpen f used h)
   unfolding lineOn lineFrom
   line-frame h p [] used q = rw (settle-frame h p used q)
   line-frame h p (b ∷ chunk) used q = rw (settle-frame h p used q)
@@ -122,11 +124,12 @@ module _ (f : Format) where
     -- A frame.
     pub line-found :
         (m used : ℕ) (p : List ℕ) → m ≤ length s → judge f s ≡ frame used p →
-        lineAt s m ≡ called (max m used - m) (handed p) (take (max m used - used) (drop used s)) (mayFollow f)
+        lineAt s m ≡ called (max m used - m) (handed p) (take (max m used - used) (drop used s)) (isOpen f used s)
     line-found m used p l q =
         let far : ℕ = max m used in
         let there : judge f (take far s) ≡ frame used p = enough (checks f) s far (rw q tt) (rw q (omega arith)) ∙ q in
-        rw q at (line-decided m l) ∙ rw (line-frame (take far s) p (drop far s) used there, add-zero, drop-take)
+        let marks : isOpen f used (take far s) ≡ isOpen f used s = open-take f used (some-used f s p used q) far s (omega arith) in
+        rw q at (line-decided m l) ∙ rw (line-frame (take far s) p (drop far s) used there, add-zero, drop-take, marks)
 
   -- A failed start with the bytes judged for it held.
   pub line-failed :
@@ -150,7 +153,7 @@ module _ (f : Format) where
       rw (line-cut s m l q) (refl, rw (drop-drop, all, drop-length) (append-nil s), refl)
 
   -- A frame.
-  whole-frame : (s : List ℕ) (m used : ℕ) (p : List ℕ) → m ≤ length s → judge f s ≡ frame used p → Whole s m (settled (handed p) (drop used s) (mayFollow f))
+  whole-frame : (s : List ℕ) (m used : ℕ) (p : List ℕ) → m ≤ length s → judge f s ≡ frame used p → Whole s m (settled (handed p) (drop used s) (isOpen f used s))
   whole-frame s m used p l q =
       let far : ℕ = max m used in
       let there : m + (far - m) ≡ used + (far - used) = omega arith in
@@ -226,19 +229,20 @@ pub held-then-chunk : HeldThenChunk
 held-then-chunk s chunk = then-chunk (s .format) (s .follows) (s .held) chunk
 
 -- Where no byte may follow, none is absorbed.
-none-follows : (m : Format) (s : List ℕ) → mayFollow m ≡ false → absorbed m true s ≡ 0
-none-follows (Binary Optional) s e = cc
-none-follows (Binary Required) [] e = refl
+none-follows : (m : Format) (s : List ℕ) → ((last : ℕ) → mayFollow m last ≡ false) → absorbed m true s ≡ 0
+none-follows m [] e = refl
+none-follows (Binary Optional) (b ∷ s) e = absurd (true≢false (e 0))
 none-follows (Binary Required) (b ∷ s) e = refl
-none-follows Ascii [] e = refl
-none-follows Ascii (b ∷ s) e = refl
+none-follows (Ascii CrLf) (b ∷ s) e = refl
+none-follows (Ascii Any) (b ∷ s) e = absurd (true≢false (e carriageReturn))
 
 same-calls : {a b : Called} → a ≡ b → SameButMark a b
 same-calls e =
     record { taken = ap (λ (c : Called). c .taken) e; out = ap (λ (c : Called). c .out) e; held = ap (λ (c : Called). c .held) e }
 
 -- So a line call is the same with the mark and without.
-same-line : (m : Format) (h chunk : List ℕ) → mayFollow m ≡ false → SameButMark (lineBehind m true h chunk) (lineBehind m false h chunk)
+same-line :
+    (m : Format) (h chunk : List ℕ) → ((last : ℕ) → mayFollow m last ≡ false) → SameButMark (lineBehind m true h chunk) (lineBehind m false h chunk)
 same-line m [] [] e = record { taken = refl; out = refl; held = refl }
 same-line m [] (b ∷ chunk) e = same-calls (ap (λ (n : ℕ). tookFirst n (lineOn m [] (drop n (b ∷ chunk)))) (none-follows m (b ∷ chunk) e))
 same-line m (b ∷ h) chunk e = same-calls (ap (λ (n : ℕ). lineOn m (drop n (b ∷ h)) chunk) (none-follows m (b ∷ h) e))

@@ -9,9 +9,10 @@ use Rattle.frame.specs.Recovery.{LateFramesComeBack, AsciiCallsRecover, 
 use Rattle.frame.specs.Draining.{LineDrains, NeedsMoreIsDrained, DrainFollowsRule, QuietFollowsRule, EmptyIsDrained}
 use Rattle.frame.specs.Draining.{FeedReports, QuietReports, ViewReports, DrainIsSized, RuleIsSized}
 use Rattle.frame.specs.Driving.{CanDrive, DrivesAreShort, StateNeverRefused, FeedStaysInLimit, QuietStaysInLimit, EndsFresh}
-use Rattle.frame.specs.MarkExamples.{NextCallTakesIt, OtherFormats, HeldBehindTheFrame, QuietEndsIt}
-use Rattle.frame.specs.RecoveryExamples.{LostAndBack, ProvisoNeeded, MixedEndings, FooterRequired, AsciiBack}
+use Rattle.frame.specs.MarkExamples.{NextCallTakesIt, OtherFormats, HeldBehindTheFrame, QuietEndsIt, AnyEnding}
+use Rattle.frame.specs.RecoveryExamples.{LostAndBack, ProvisoNeeded, MixedEndings, FooterRequired, AsciiBack, MixedLines, StrictLines, FeedJudges}
 use Rattle.frame.specs.declared.framing.Footer.{Footer}
+use Rattle.frame.specs.declared.framing.Ending.{Ending}
 use Rattle.frame.specs.declared.framing.Format.{Format}
 use Rattle.frame.proofs.Trees.{stands}
 use Rattle.frame.proofs.Optional as optional
@@ -37,7 +38,7 @@ layout-reads = optional.layout-reads
 pub endings-read : (m : Format) → EndingsRead m
 endings-read = optional.endings-read
 
-pub never-five : NeverFive
+pub never-five : (m : Format) → NeverFive m
 never-five = optional.five-never
 
 pub frame-is-layout : (m : Format) → FrameIsLayout m
@@ -115,7 +116,7 @@ calls-follow-rule = calling.calls-follow-rule
 pub clean-line : (f : Format) → CleanLine f
 clean-line = stretches.clean-line
 
-pub ascii-recovers : AsciiRecovers
+pub ascii-recovers : (ending : Ending) → AsciiRecovers ending
 ascii-recovers = ascii-recovery.ascii-recovers
 
 pub binary-recovers : (footer : Footer) → BinaryRecovers footer
@@ -124,7 +125,7 @@ binary-recovers = binary-recovery.binary-recovers
 pub late-frames-come-back : (footer : Footer) → LateFramesComeBack footer
 late-frames-come-back = binary-recovery.late-frames-come-back
 
-pub ascii-calls-recover : AsciiCallsRecover
+pub ascii-calls-recover : (ending : Ending) → AsciiCallsRecover ending
 ascii-calls-recover = calls-recovery.ascii-calls-recover
 
 pub binary-calls-recover : (footer : Footer) → BinaryCallsRecover footer
@@ -175,5 +176,17 @@ held-behind-the-frame = mark-examples.held-behind-the-frame
 pub quiet-ends-it : QuietEndsIt
 quiet-ends-it = mark-examples.quiet-ends-it
 
-pub ascii-back : AsciiBack
+pub ascii-back : (ending : Ending) → AsciiBack ending
 ascii-back = recovery-examples.ascii-back
+
+pub mixed-lines : MixedLines
+mixed-lines = recovery-examples.mixed-lines-back
+
+pub strict-lines : StrictLines
+strict-lines = recovery-examples.strict-lines
+
+pub feed-judges : FeedJudges
+feed-judges = recovery-examples.feed-judges
+
+pub any-ending : AnyEnding
+any-ending = mark-examples.any-ending

@@ -5,7 +5,7 @@ use mathlib.Core.List.{List, [], _∷_}
 use mathlib.Core.Bool.{false}
 use lib.ListN.{length, drop}
 use Rattle.frame.specs.Checks.{cut, frame}
-use Rattle.frame.specs.Framing.{judge, mayFollow}
+use Rattle.frame.specs.Framing.{judge, isOpen}
 use Rattle.frame.specs.Rule.{output}
 use Rattle.frame.specs.Reader.{Called, called, tookFirst, feedValuesOf, valuesAt}
 use Rattle.frame.specs.View.{part}
@@ -26,7 +26,7 @@ TookFirst n answer r = (c : Called) → feedValuesOf answer ≡ valuesAt c → f
 -- What a scan of w that stopped so gives as a call.
 abbrev pub calledAs : Format → Stop → Before → List ℕ → ℕ → ℕ → Called
 calledAs m (found used p) before w place reach =
-    called (reach - before .base) (output (p ∷ []) (before .noise + place)) (part (place + used) reach w) (mayFollow m)
+    called (reach - before .base) (output (p ∷ []) (before .noise + place)) (part (place + used) reach w) (isOpen m used (drop place w))
 calledAs m undecided before w place reach = called (before .size) (output [] (before .noise + place)) (drop place w) false
 calledAs m passed before w place reach = called (before .size) (output [] (before .noise + place)) [] false
 

@@ -1,13 +1,15 @@
 -- ASCII framing. Document 01, "Two framings": a colon; the payload and one checksum byte, each as two characters of 0-9 A-F;
--- CR LF. The sum of payload and checksum is 0 modulo 256.
+-- CR LF. The sum of payload and checksum is 0 modulo 256. Document 02, CR 9: a reader may also take any ending, CR or LF.
 use Prim.Native.Nat.{ℕ, zero, suc, _-_, _%_}
 use mathlib.Core.List.{List, [], _∷_, _++_, dropLast}
-use mathlib.Core.Bool.{Bool, cond, _&&_}
+use mathlib.Core.Bool.{Bool, cond, _&&_, _||_}
 use lib.Dec.{leb, eqb}
 use lib.ListN.{length}
 use Rattle.frame.specs.Checks.{Checks, next, fails, whole, byte, test}
 use Rattle.frame.specs.Digit.{isDigit, digitValue}
 use Rattle.frame.specs.Hex.{hex, pairs, sumOf}
+use Rattle.frame.specs.declared.framing.Ending.{Ending}
+use Rattle.frame.specs.declared.framing.Ending.the-variants.{CrLf, Any}
 
 -- The character that starts a frame.
 abbrev pub colon : ℕ
@@ -50,10 +52,20 @@ afterDigits ds rest = test (digitCount (length ds)) 3 (test (eqb (sumOf (pairs d
 unfoldable pub ascii : (List ℕ → ℕ → Checks) → Checks
 ascii end = byte colon 1 (hexDigits 514 end)
 
--- The character after CR is LF (5).
+-- The characters at which the digits end and are judged: CR; under any ending also LF.
+abbrev pub endsDigits : Ending → ℕ → Bool
+endsDigits CrLf c = eqb c carriageReturn
+endsDigits Any c = eqb c carriageReturn || eqb c lineFeed
+
+-- Behind the CR of the ending CR LF stands LF (5).
 unfoldable pub lineEnd : List ℕ → Checks
 lineEnd p = byte lineFeed 5 (whole p)
 
--- The ending CR LF: any other character than CR (6); at CR the digits are judged; then LF.
-unfoldable pub crLf : List ℕ → ℕ → Checks
-crLf ds c = test (eqb c carriageReturn) 6 (afterDigits ds lineEnd)
+-- Behind that character, of a frame with the payload p: LF; under any ending the frame is complete.
+abbrev pub behindDigits : Ending → List ℕ → Checks
+behindDigits CrLf p = lineEnd p
+behindDigits Any p = whole p
+
+-- The ending, at the first character that is no digit: any other than those is refusal 6; at them the digits are judged; then what stands behind.
+unfoldable pub lineEnding : Ending → List ℕ → ℕ → Checks
+lineEnding e ds c = test (endsDigits e c) 6 (afterDigits ds (behindDigits e))

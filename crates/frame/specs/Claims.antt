@@ -9,14 +9,15 @@ use lib.ListN.{length, take, drop}
 use Rattle.frame.specs.Checks.{Verdict, cut, refused, frame}
 use Rattle.frame.specs.Hex.{sumOf}
 use Rattle.frame.specs.Binary.{binaryEnding}
-use Rattle.frame.specs.Ascii.{asciiEnding}
-use Rattle.frame.specs.Framing.{judge, read, mayFollow, absorbed, front, layout, framingOf, limit}
+use Rattle.frame.specs.Ascii.{asciiEnding, carriageReturn, lineFeed}
+use Rattle.frame.specs.Framing.{judge, read, mayFollow, isOpen, absorbed, front, layout, framingOf, limit}
 use Rattle.frame.specs.Rule.{Output, Found, rule, payloads}
 use Rattle.frame.specs.Reader.{State, holding, Called, line, quiet, newReader, feedValuesOf, Feeds}
 use Rattle.frame.specs.View.{inside, Views, Stands}
 use Rattle.frame.specs.Elements.{Bytes}
 use Rattle.frame.specs.Calls.{Refused, Answered, Calls, offering}
 use Rattle.frame.specs.declared.framing.Footer.the-variants.{Optional, Required}
+use Rattle.frame.specs.declared.framing.Ending.the-variants.{CrLf, Any}
 use Rattle.frame.specs.declared.framing.Format.{Format}
 use Rattle.frame.specs.declared.framing.Format.the-variants.{Binary, Ascii}
 use Rattle.frame.specs.declared.reader.Reader.{Reader}
@@ -34,22 +35,24 @@ abbrev pub LayoutReads : Format → Type 0
 LayoutReads m =
     (p more : List ℕ) → Payload p → let whole : List ℕ = layout (framingOf m) p in read m (whole ++ more) ≡ frame (length whole) p
 
--- The endings that a frame may have in a format: the published one; where the footer is optional, also none.
+-- The endings that a frame may have in a format: the published one; where the footer is optional, also none; under any ending, also CR and LF.
 abbrev pub endings : Format → List (List ℕ)
 endings (Binary Optional) = binaryEnding ∷ [] ∷ []
 endings (Binary Required) = binaryEnding ∷ []
-endings Ascii = asciiEnding ∷ []
+endings (Ascii CrLf) = asciiEnding ∷ []
+endings (Ascii Any) = asciiEnding ∷ (carriageReturn ∷ []) ∷ (lineFeed ∷ []) ∷ []
 
--- The front of a frame and any of its endings are read as a frame of just that length with just that payload, whatever bytes follow that do not begin with
--- an optional one.
+-- The front of a frame and any of its endings are read as a frame of just that length with just that payload, whatever bytes follow, but for an optional one
+-- where the frame's last byte lets it follow.
 abbrev pub EndingsRead : Format → Type 0
 EndingsRead m =
-    (p ending more : List ℕ) → Payload p → List·Memᴰ ending (endings m) → absorbed m (mayFollow m) more ≡ 0 →
-    let whole : List ℕ = front (framingOf m) p ++ ending in read m (whole ++ more) ≡ frame (length whole) p
+    (p ending more : List ℕ) → Payload p → List·Memᴰ ending (endings m) →
+    let whole : List ℕ = front (framingOf m) p ++ ending in
+    absorbed m (isOpen m (length whole) whole) more ≡ 0 → read m (whole ++ more) ≡ frame (length whole) p
 
--- Document 02, CR 2: where the footer is optional, 5 is never given.
-abbrev pub NeverFive : Type 0
-NeverFive = (s : List ℕ) (judged : ℕ) → read (Binary Optional) s ≡ refused judged 5 → ⊥
+-- Document 02, CR 2 and 9: where the footer is optional, and under any ending, 5 is never given; these are the formats with an optional byte.
+abbrev pub NeverFive : Format → Type 0
+NeverFive m = (last : ℕ) → mayFollow m last ≡ true → (s : List ℕ) (judged : ℕ) → read m s ≡ refused judged 5 → ⊥
 
 -- The bytes used of s are the front of a frame with this payload and an ending.
 pub record IsLayout (m : Format) (s : List ℕ) (used : ℕ) (p : List ℕ) : Type 0 where
@@ -129,14 +132,14 @@ pub record SameButMark (a b : Called) : Type 0 where
   pub out : a .out ≡ b .out
   pub held : a .held ≡ b .held
 
--- Document 02, CR 2: in a format without an optional byte the mark means nothing. With it and without, a line call gives the same but for the mark, and a
+-- Document 02, CR 2 and 9: in a format without an optional byte the mark means nothing. With it and without, a line call gives the same but for the mark, and a
 -- quiet call the same.
 pub record SameWithMark (m : Format) (h chunk : List ℕ) : Type 0 where
   pub atLine : SameButMark (line (holding m h true) chunk) (line (holding m h false) chunk)
   pub atQuiet : quiet (holding m h true) ≡ quiet (holding m h false)
 
 abbrev pub MarkMeansNothing : Format → Type 0
-MarkMeansNothing m = mayFollow m ≡ false → (h chunk : List ℕ) → SameWithMark m h chunk
+MarkMeansNothing m = ((last : ℕ) → mayFollow m last ≡ false) → (h chunk : List ℕ) → SameWithMark m h chunk
 
 -- Where the view is inside the chunk, its call is the line call of the reader that it stands for, offered what stands behind the view in the chunk, and the
 -- view that follows stands for the reader that follows; where it is refused, that reader is refused so with the chunk. So lists of calls admit it.

@@ -4,7 +4,7 @@ use Prim.Native.Nat.{ℕ, zero, suc}
 use mathlib.Core.List.{List, [], _∷_, _++_}
 use mathlib.Core.Bool.{Bool, false, cond, _&&_}
 use Rattle.frame.specs.Checks.{Verdict, cut, refused, frame}
-use Rattle.frame.specs.Framing.{judge, mayFollow, isOptional, behindOptional}
+use Rattle.frame.specs.Framing.{judge, isOpen, isOptional, behindOptional}
 use Rattle.frame.specs.Rule.{Output, nothing, noiseByte, handed, join, passAfter, rule, payloads}
 use Rattle.frame.specs.Reader.{State, holding, Settled, settled}
 use Rattle.frame.specs.declared.framing.Format.{Format}
@@ -19,11 +19,11 @@ drainAs cut s later = settled nothing s false
 drainAs (refused judged n) s later = before noiseByte later
 drainAs (frame used p) s later = before (handed p) later
 
--- Whether an optional byte may follow what stands at a place.
-abbrev pub followsAfter : Format → Verdict → Bool
-followsAfter m cut = false
-followsAfter m (refused judged n) = false
-followsAfter m (frame used p) = mayFollow m
+-- Whether an optional byte may follow what stands at the front of s.
+abbrev pub followsAfter : Format → Verdict → List ℕ → Bool
+followsAfter m cut s = false
+followsAfter m (refused judged n) s = false
+followsAfter m (frame used p) s = isOpen m used s
 
 -- The leftmost rule over s, with `pass` bytes to pass over first, as far as it is settled: from the first undecided place on the bytes stay. `follows`
 -- says whether the byte behind those that are passed over may be an optional one, which is then passed over too.
@@ -32,7 +32,7 @@ drainFrom m follows pass [] = settled nothing [] follows
 drainFrom m follows (suc pass) (b ∷ s) = drainFrom m follows pass s
 drainFrom m follows zero (b ∷ s) =
     let v : Verdict = judge m (b ∷ s) in
-    cond (follows && isOptional m b) (drainFrom m false zero s) (drainAs v (b ∷ s) (drainFrom m (followsAfter m v) (passAfter v) s))
+    cond (follows && isOptional m b) (drainFrom m false zero s) (drainAs v (b ∷ s) (drainFrom m (followsAfter m v (b ∷ s)) (passAfter v) s))
 
 -- What the line calls over a chunk give together from a state on, and the state that follows them.
 abbrev pub drain : State → List ℕ → Settled

@@ -15,6 +15,7 @@ use Rattle.frame.specs.View.{viewCall, Follows, viewRefusal, Views}
 use Rattle.frame.specs.Drain.{before, drain, afterDrain, ruleAfter}
 use Rattle.frame.specs.Calls.{Refused, Answered, outOf}
 use Rattle.frame.specs.declared.framing.Footer.the-variants.{Optional, Required}
+use Rattle.frame.specs.declared.framing.Ending.the-variants.{CrLf, Any}
 use Rattle.frame.specs.declared.framing.Format.{Format}
 use Rattle.frame.specs.declared.framing.Format.the-variants.{Binary, Ascii}
 use Rattle.frame.specs.declared.reader.Reader.{Reader}
@@ -74,11 +75,13 @@ ViewReports =
     let c : Called = viewCall v chunk in
     Reports (viewRefusal v (length buf) (length chunk)) c (Follows v chunk c) v buf (feedValuesOf (a .answer)) (a .view) buf′
 
--- The bytes of a frame besides its payload, at least: of a binary one 5, and 6 where the footer is required; an ASCII one has 5 and its payload twice.
+-- The bytes of a frame besides its payload, at least: of a binary one 5, and 6 where the footer is required; an ASCII one has 5, or 4 under
+-- any ending, and its payload twice.
 abbrev pub overhead : Format → ℕ
 overhead (Binary Optional) = 5
 overhead (Binary Required) = 6
-overhead Ascii = 6
+overhead (Ascii CrLf) = 6
+overhead (Ascii Any) = 5
 
 -- The bytes that an output takes at least: each payload its length and those, each byte of noise one.
 abbrev pub sizeOf : Format → Output (List ℕ) → ℕ

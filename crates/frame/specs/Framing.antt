@@ -1,16 +1,17 @@
 -- The two framings, and the formats in which they are read, under one name: what documents 01 and 02 say of all is said once, over the framing where
 -- frames are laid out, and over the format where they are read.
-use Prim.Native.Nat.{ℕ, _+_}
+use Prim.Native.Nat.{ℕ, _+_, _-_}
 use mathlib.Core.List.{List, [], _∷_, _++_}
 use mathlib.Core.Bool.{Bool, true, false, cond}
 use lib.Dec.{eqb}
-use lib.ListN.{length, drop}
+use lib.ListN.{length, getD, drop}
 use Rattle.frame.specs.Checks.{Checks, Verdict, cut, refused, frame, run}
 use Rattle.frame.specs.Binary.{binary, binaryFront, binaryEnding, footerByte, ending}
-use Rattle.frame.specs.Ascii.{ascii, asciiFront, asciiEnding, crLf}
+use Rattle.frame.specs.Ascii.{ascii, asciiFront, asciiEnding, carriageReturn, lineFeed, lineEnding}
 use Rattle.frame.specs.declared.framing.Framing.{Framing}
 use Rattle.frame.specs.declared.framing.Framing.the-variants.{Binary as BinaryFraming, Ascii as AsciiFraming}
 use Rattle.frame.specs.declared.framing.Footer.the-variants.{Optional, Required}
+use Rattle.frame.specs.declared.framing.Ending.the-variants.{CrLf, Any}
 use Rattle.frame.specs.declared.framing.Format.{Format}
 use Rattle.frame.specs.declared.framing.Format.the-variants.{Binary, Ascii}
 
@@ -28,41 +29,48 @@ endingBytes AsciiFraming = asciiEnding
 abbrev pub layout : Framing → List ℕ → List ℕ
 layout f p = front f p ++ endingBytes f
 
--- The format in which a framing is read where none is named. Document 02, CR 2: binary frames with the footer and without it.
+-- The format in which a framing is read where none is named. Document 02, CR 2: binary frames with the footer and without it; CR 9: the strict ending.
 abbrev pub formatOf : Framing → Format
 formatOf BinaryFraming = Binary Optional
-formatOf AsciiFraming = Ascii
+formatOf AsciiFraming = Ascii CrLf
 
 -- The framing of a format.
 abbrev pub framingOf : Format → Framing
 framingOf (Binary footer) = BinaryFraming
-framingOf Ascii = AsciiFraming
+framingOf (Ascii ending) = AsciiFraming
 
 -- The checks of a format.
 abbrev pub checks : Format → Checks
 checks (Binary footer) = binary (ending footer)
-checks Ascii = ascii crLf
+checks (Ascii ending) = ascii (lineEnding ending)
 
 -- The longest frame.
 abbrev pub limit : Format → ℕ
 limit (Binary footer) = 262
-limit Ascii = 517
+limit (Ascii ending) = 517
 
 -- What the checks decide of the front of s: any verdict but `cut` is changed by no later byte. The line reader works with it.
 abbrev pub judge : Format → List ℕ → Verdict
 judge m s = run (checks m) s
 
--- Document 02, CR 2: where the footer is optional, a byte may follow a frame that the checks decide, and belong to it,
-abbrev pub mayFollow : Format → Bool
-mayFollow (Binary Optional) = true
-mayFollow (Binary Required) = false
-mayFollow Ascii = false
+-- A byte may follow a frame that the checks decide, and belong to it, by the frame's last byte. Document 02, CR 2: where the footer is optional, behind any
+-- frame; CR 9: under any ending, behind a CR.
+abbrev pub mayFollow : Format → ℕ → Bool
+mayFollow (Binary Optional) last = true
+mayFollow (Binary Required) last = false
+mayFollow (Ascii CrLf) last = false
+mayFollow (Ascii Any) last = eqb last carriageReturn
 
--- and that byte is 04.
+-- That byte is 04, or LF.
 abbrev pub isOptional : Format → ℕ → Bool
 isOptional (Binary Optional) b = eqb b footerByte
 isOptional (Binary Required) b = false
-isOptional Ascii b = false
+isOptional (Ascii CrLf) b = false
+isOptional (Ascii Any) b = eqb b lineFeed
+
+-- Whether it may follow the first `used` bytes of s, a frame.
+abbrev pub isOpen : Format → ℕ → List ℕ → Bool
+isOpen m used s = mayFollow m (getD s (used - 1) 0)
 
 -- How many bytes at the front of s, one or none, belong to the frame before them; `follows` says whether one may.
 abbrev pub absorbed : Format → Bool → List ℕ → ℕ
@@ -78,7 +86,7 @@ behindOptional m follows s = drop (absorbed m follows s) s
 abbrev pub withOptional : Format → List ℕ → Verdict → Verdict
 withOptional m s cut = cut
 withOptional m s (refused judged n) = refused judged n
-withOptional m s (frame used p) = frame (used + absorbed m (mayFollow m) (drop used s)) p
+withOptional m s (frame used p) = frame (used + absorbed m (isOpen m used s) (drop used s)) p
 
 -- Which frame stands at the front of s, with all bytes that belong to it. Single reads and the leftmost rule work with it.
 abbrev pub read : Format → List ℕ → Verdict

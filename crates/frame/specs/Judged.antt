@@ -2,13 +2,14 @@
 use Prim.Native.Nat.{ℕ, _+_, _-_, _*_, _%_, _≤_, _<_}
 use mathlib.Core.List.{List}
 use mathlib.Core.Path.{_≡_}
-use mathlib.Core.Bool.{Bool}
+use mathlib.Core.Bool.{Bool, true}
 use lib.ListN.{length, getD, take, drop}
 use Rattle.frame.specs.Checks.{Checks, whole, byte, test, Verdict, cut, refused, frame, behind, run}
-use Rattle.frame.specs.Ascii.{colon, carriageReturn}
+use Rattle.frame.specs.Ascii.{colon, endsDigits}
 use Rattle.frame.specs.DigitRuns.{Digits, decoded}
 use Rattle.frame.specs.Framing.{inFront}
 use Rattle.frame.specs.Refusal.{numberOf}
+use Rattle.frame.specs.declared.framing.Ending.{Ending}
 use Rattle.frame.specs.declared.framing.Framing.{Framing}
 use Rattle.frame.specs.declared.framing.Framing.the-variants.{Binary as BinaryFraming, Ascii as AsciiFraming}
 use Rattle.frame.specs.declared.framing.Format.{Format}
@@ -19,17 +20,17 @@ use Rattle.frame.specs.declared.framing.Judged.the-variants.{Undecided, 
 -- The payload of n bytes of the frame at the front of s.
 abbrev pub payloadAt : Format → List ℕ → ℕ → List ℕ
 payloadAt (Binary footer) s n = take n (drop 4 s)
-payloadAt Ascii s n = decoded (take (2 * n) (drop 1 s))
+payloadAt (Ascii ending) s n = decoded (take (2 * n) (drop 1 s))
 
 -- The place behind that payload.
 abbrev pub payloadEnd : Format → ℕ → ℕ
 payloadEnd (Binary footer) n = 4 + n
-payloadEnd Ascii n = 1 + 2 * n
+payloadEnd (Ascii ending) n = 1 + 2 * n
 
 -- A payload of n bytes can be taken out of s: it is there, and in digits where they are decoded.
 abbrev pub HasPayload : Format → List ℕ → ℕ → Type 0
 HasPayload (Binary footer) s n = payloadEnd (Binary footer) n ≤ length s
-HasPayload Ascii s n = (payloadEnd Ascii n ≤ length s) × Digits (take (2 * n) (drop 1 s))
+HasPayload (Ascii ending) s n = (payloadEnd (Ascii ending) n ≤ length s) × Digits (take (2 * n) (drop 1 s))
 
 -- The length of a frame with a payload of n bytes.
 abbrev pub frameLength : Framing → ℕ → ℕ
@@ -48,31 +49,31 @@ handedOut cut buf = buf
 handedOut (refused judged n) buf = buf
 handedOut (frame used p) buf = inFront p buf
 
--- s begins with a colon, has room for an even count of digits, for a payload of 16 to 31 bytes and its checksum, and a CR behind them. Whether those are
--- digits is not said.
-pub record Short (s : List ℕ) (count : ℕ) : Type 0 where
+-- s begins with a colon, has room for an even count of digits, for a payload of 16 to 31 bytes and its checksum, and a character behind them that ends digits.
+-- Whether those are digits is not said.
+pub record Short (ending : Ending) (s : List ℕ) (count : ℕ) : Type 0 where
   pub least : 34 ≤ count
   pub most : count ≤ 64
   pub even : count % 2 ≡ 0
   pub start : getD s 0 0 ≡ colon
   pub inside : 1 + count < length s
-  pub ends : getD s (1 + count) 0 ≡ carriageReturn
+  pub ends : endsDigits ending (getD s (1 + count) 0) ≡ true
 
 -- The first byte of every frame.
 abbrev pub startOf : Format → ℕ
 startOf (Binary footer) = 0xA5
-startOf Ascii = colon
+startOf (Ascii ending) = colon
 
 -- The refusal of a start that another start follows, which fails there.
 abbrev pub doubledNumber : Format → ℕ
 doubledNumber (Binary footer) = 1
-doubledNumber Ascii = 6
+doubledNumber (Ascii ending) = 6
 
 -- The places that a failed start passes over, its own the first: in ASCII framing the bytes before the failing one are digits or a CR, which
 -- start no frame.
 abbrev pub passedBy : Format → ℕ → ℕ
 passedBy (Binary footer) judged = 1
-passedBy Ascii judged = judged - 1
+passedBy (Ascii ending) judged = judged - 1
 
 -- The checks of a frame's ending, whose payload is p: its checksum is right (4), and then what is left.
 abbrev pub endChecks : Bool → (List ℕ → Checks) → List ℕ → Checks

@@ -1,12 +1,14 @@
--- Examples of the mark, call by call, in binary framing with the footer optional, where it means something, and in other formats. Document 02, CR 2.
+-- Examples of the mark, call by call: in binary framing with the footer optional and in ASCII framing under any ending, where it means something, and in other
+-- formats. Document 02, CR 2 and 9.
 use mathlib.Core.Path.{_≡_}
-use mathlib.Core.List.{List, [], _∷_}
+use mathlib.Core.List.{List, [], _∷_, _++_}
 use mathlib.Core.Bool.{true, false}
 use Prim.Native.Nat.{ℕ}
 use Rattle.frame.specs.Rule.{output, nothing, foundAt, rule}
 use Rattle.frame.specs.Reader.{State, holding, called, line, quiet}
-use Rattle.frame.specs.RecoveryExamples.{response, success, bare}
+use Rattle.frame.specs.RecoveryExamples.{response, success, bare, asciiFrame, withReturn, withFeed, four}
 use Rattle.frame.specs.declared.framing.Footer.the-variants.{Optional, Required}
+use Rattle.frame.specs.declared.framing.Ending.the-variants.{CrLf, Any}
 use Rattle.frame.specs.declared.framing.Format.the-variants.{Binary, Ascii}
 
 -- A reader that holds these bytes, with the mark and without.
@@ -29,7 +31,7 @@ pub record NextCallTakesIt : Type 0 where
 -- it of all bytes).
 pub record OtherFormats : Type 0 where
   pub required : line (holding (Binary Required) [] true) (0x04 ∷ []) ≡ called 1 (output [] 1) [] false
-  pub ascii : line (holding Ascii [] true) (0x04 ∷ []) ≡ called 1 (output [] 1) [] false
+  pub ascii : line (holding (Ascii CrLf) [] true) (0x0A ∷ []) ≡ called 1 (output [] 1) [] false
   pub stays : line (holding (Binary Required) [] true) [] ≡ called 0 nothing [] true
   pub unset : line (holding (Binary Required) [] false) response ≡ called 10 (output (success ∷ []) 0) [] false
 
@@ -55,3 +57,16 @@ pub record QuietEndsIt : Type 0 where
   pub dropped : quiet (marked (0x04 ∷ [])) ≡ called 0 nothing [] false
   pub none : quiet (marked []) ≡ called 0 nothing [] false
   pub after : line (plain []) (0x04 ∷ []) ≡ called 1 (output [] 1) [] false
+
+-- Under any ending, a frame in one chunk or two: the call stops at CR or LF. Behind CR the next call takes an LF, once; behind LF, and behind "empty", an LF
+-- is noise.
+pub record AnyEnding : Type 0 where
+  pub atReturn : line (holding (Ascii Any) [] false) asciiFrame ≡ called 12 (output (four ∷ []) 0) [] true
+  pub cut : line (holding (Ascii Any) [] false) withReturn ≡ called 12 (output (four ∷ []) 0) [] true
+  pub taken : line (holding (Ascii Any) [] true) (0x0A ∷ []) ≡ called 1 nothing [] false
+  pub once : line (holding (Ascii Any) [] true) (0x0A ∷ 0x0A ∷ []) ≡ called 2 (output [] 1) [] false
+  pub other : line (holding (Ascii Any) [] true) (0x0D ∷ 0x0A ∷ []) ≡ called 2 (output [] 2) [] false
+  pub atFeed : line (holding (Ascii Any) [] false) (withFeed ++ (0x0A ∷ [])) ≡ called 12 (output (four ∷ []) 0) [] false
+  pub behindFeed : line (holding (Ascii Any) [] false) (0x0A ∷ []) ≡ called 1 (output [] 1) [] false
+  pub held : line (holding (Ascii Any) (0x0A ∷ 0x0A ∷ []) true) [] ≡ called 0 (output [] 1) [] false
+  pub atQuiet : quiet (holding (Ascii Any) (0x0A ∷ 0x0A ∷ []) true) ≡ called 0 (output [] 1) [] false

@@ -7,7 +7,7 @@ use mathlib.Core.Bool.{Bool, true, false, cond}
 use lib.Dec.{leb, eqb}
 use lib.ListN.{length, take, drop, replicate}
 use Rattle.frame.specs.Checks.{Verdict, cut, refused, frame}
-use Rattle.frame.specs.Framing.{judge, mayFollow, absorbed, behindOptional, limit, inFront}
+use Rattle.frame.specs.Framing.{judge, isOpen, absorbed, behindOptional, limit, inFront}
 use Rattle.frame.specs.Refusal.{numberOf}
 use Rattle.frame.specs.Rule.{Output, nothing, noiseByte, handed, join}
 use Rattle.frame.specs.declared.framing.Format.{Format}
@@ -19,7 +19,7 @@ use Rattle.frame.specs.declared.reader.Quieted.{Quieted}
 use Rattle.frame.specs.declared.answer.QuietAnswer.{QuietAnswer}
 use Rattle.frame.specs.declared.answer.QuietAnswer.the-variants.{Frame as QuietFrame, Empty, Refused as QuietRefused}
 
--- What a reader's calls depend on: its format, the bytes that it holds, and the mark of document 02, CR 2: whether an optional byte may still follow the
+-- What a reader's calls depend on: its format, the bytes that it holds, and the mark of document 02, CR 2 and 9: whether an optional byte may still follow the
 -- last frame and belong to it. In a format without such a byte it means nothing (MarkMeansNothing, Claims.antt).
 pub record State : Type 0 where
   pub format : Format
@@ -38,12 +38,12 @@ pub record Settled : Type 0 where
 abbrev pub settled : Output (List ℕ) → List ℕ → Bool → Settled
 settled out rest follows = record { out = out; rest = rest; follows = follows }
 
--- The held bytes h, judged so: undecided, they stay; a frame is handed out, and an optional byte may follow it where the format has one; at a failed start
--- one byte is noise, and the rest is judged again.
+-- The held bytes h, judged so: undecided, they stay; a frame is handed out, and an optional byte may follow it where it is open; at a failed start one byte
+-- is noise, and the rest is judged again.
 abbrev pub settleAs : Format → Verdict → List ℕ → Settled → Settled
 settleAs m cut h later = settled nothing h false
 settleAs m (refused judged n) h later = settled (join noiseByte (later .out)) (later .rest) (later .follows)
-settleAs m (frame used p) h later = settled (handed p) (drop used h) (mayFollow m)
+settleAs m (frame used p) h later = settled (handed p) (drop used h) (isOpen m used h)
 
 unfoldable pub settle : Format → (List ℕ → Verdict) → List ℕ → Settled
 settle m judgement [] = settled nothing [] false

@@ -1,6 +1,7 @@
 -- Good frames behind damage. Document 00, demand 3, and document 01, last section; "damage", "stretch" and "good frame" are its terms. The bytes of a
 -- stretch are its frames one behind another, `flatten`. Document 02, CR 2: in binary framing for either choice of the footer; where it is optional, good
--- frames have it or not, mixed as they come.
+-- frames have it or not, mixed as they come. CR 9: in ASCII framing for either choice of the ending; under any ending good frames end with CR, LF or CR LF,
+-- mixed as they come.
 use Prim.Native.Nat.{ℕ, suc, _+_, _≤_, _<_}
 use mathlib.Core.Path.{_≡_}
 use mathlib.Core.List.{List, [], _∷_, _++_, map, flatten, List·Memᴰ}
@@ -14,6 +15,7 @@ use Rattle.frame.specs.Reader.{newReader}
 use Rattle.frame.specs.Elements.{select, All}
 use Rattle.frame.specs.Calls.{Calls, offering}
 use Rattle.frame.specs.declared.framing.Footer.{Footer}
+use Rattle.frame.specs.declared.framing.Ending.{Ending}
 use Rattle.frame.specs.declared.framing.Format.{Format}
 use Rattle.frame.specs.declared.framing.Format.the-variants.{Binary, Ascii}
 
@@ -39,10 +41,10 @@ foundsFrom f place (g ∷ gs) =
     foundAt place (length g) (payloadIn (read f g)) ∷ foundsFrom f (place + length g) gs
 
 -- The rule over damage and a stretch in ASCII framing: what the damage alone gives, then every good frame, in order, and no noise.
-abbrev pub AsciiRecovers : Type 0
-AsciiRecovers =
-    (damage : List ℕ) (gs : List (List ℕ)) → Stretch Ascii gs →
-    rule Ascii (damage ++ flatten gs) ≡ join (rule Ascii damage) (output (foundsFrom Ascii (length damage) gs) 0)
+abbrev pub AsciiRecovers : Ending → Type 0
+AsciiRecovers ending =
+    (damage : List ℕ) (gs : List (List ℕ)) → Stretch (Ascii ending) gs →
+    rule (Ascii ending) (damage ++ flatten gs) ≡ join (rule (Ascii ending) damage) (output (foundsFrom (Ascii ending) (length damage) gs) 0)
 
 -- The places at which the frames of a stretch begin, the first at `place`.
 abbrev pub starts : ℕ → List (List ℕ) → List ℕ
@@ -98,11 +100,11 @@ payloadsOf f gs = map (λ g. payloadIn (read f g)) gs
 
 -- Any list of calls over damage and a stretch in ASCII framing hands out what the damage alone gives, then every good frame's payload, in
 -- order, and adds no noise.
-abbrev pub AsciiCallsRecover : Type 0
-AsciiCallsRecover =
-    (damage : List ℕ) (gs : List (List ℕ)) (out : Output (List ℕ)) → Stretch Ascii gs →
-    Calls offering (newReader Ascii) (damage ++ flatten gs) out →
-    out ≡ join (payloads (rule Ascii damage)) (output (payloadsOf Ascii gs) 0)
+abbrev pub AsciiCallsRecover : Ending → Type 0
+AsciiCallsRecover ending =
+    (damage : List ℕ) (gs : List (List ℕ)) (out : Output (List ℕ)) → Stretch (Ascii ending) gs →
+    Calls offering (newReader (Ascii ending)) (damage ++ flatten gs) out →
+    out ≡ join (payloads (rule (Ascii ending) damage)) (output (payloadsOf (Ascii ending) gs) 0)
 
 -- What calls over damage and a stretch in binary framing hand out: the payloads of the frames that begin in the damage, then those of the
 -- good frames clear of them, among which are all that begin 260 or more bytes into the stretch; the noise is the rule's.

@@ -1,5 +1,6 @@
 -- Examples of damage, in binary framing and last in ASCII framing: good frames are lost and later ones come back; without the proviso on A5 5A a good frame far
--- into the stretch may be lost; and where the footer is optional, good frames with it and without it stand mixed. Document 02, CR 2.
+-- into the stretch may be lost; where the footer is optional, good frames with it and without it stand mixed, and under any ending those with CR, LF and CR LF.
+-- Document 02, CR 2 and 9.
 use Prim.Native.Nat.{ℕ, _+_, _≤_}
 use mathlib.Core.Path.{_≡_}
 use mathlib.Core.List.{List, [], _∷_, _++_, flatten, dropLast, List·Memᴰ}
@@ -10,6 +11,8 @@ use Rattle.frame.specs.Rule.{output, Found, foundAt, rule}
 use Rattle.frame.specs.Recovery.{Good, Stretch, foundsFrom, PairsBegin}
 use Rattle.frame.specs.declared.framing.Footer.{Footer}
 use Rattle.frame.specs.declared.framing.Footer.the-variants.{Optional, Required}
+use Rattle.frame.specs.declared.framing.Ending.{Ending}
+use Rattle.frame.specs.declared.framing.Ending.the-variants.{CrLf, Any}
 use Rattle.frame.specs.declared.framing.Format.the-variants.{Binary, Ascii}
 
 -- A response: 80, success.
@@ -115,13 +118,55 @@ pub record FooterRequired : Type 0 where
   pub before : read (Binary Required) (bare response ++ response) ≡ refused 10 5
   pub frames : rule (Binary Required) (bare response ++ response) ≡ output (responseAt 9 ∷ []) 9
 
--- In ASCII framing, a start cut short by the next: `:0001` is noise, and `:00010203FA` with CR LF comes back.
+-- In ASCII framing, a start cut short by the next: `:0001` is noise, and `:00010203FA` with CR LF comes back; under either ending.
 abbrev pub cutShort : List ℕ
 cutShort = 0x3A ∷ 0x30 ∷ 0x30 ∷ 0x30 ∷ 0x31 ∷ []
 
 abbrev pub asciiFrame : List ℕ
 asciiFrame = 0x3A ∷ 0x30 ∷ 0x30 ∷ 0x30 ∷ 0x31 ∷ 0x30 ∷ 0x32 ∷ 0x30 ∷ 0x33 ∷ 0x46 ∷ 0x41 ∷ 0x0D ∷ 0x0A ∷ []
 
-pub record AsciiBack : Type 0 where
-  pub good : Stretch Ascii (asciiFrame ∷ [])
-  pub frames : rule Ascii (cutShort ++ asciiFrame) ≡ output (foundAt 5 13 (0x00 ∷ 0x01 ∷ 0x02 ∷ 0x03 ∷ []) ∷ []) 5
+-- Its payload.
+abbrev pub four : List ℕ
+four = 0x00 ∷ 0x01 ∷ 0x02 ∷ 0x03 ∷ []
+
+pub record AsciiBack (ending : Ending) : Type 0 where
+  pub good : Stretch (Ascii ending) (asciiFrame ∷ [])
+  pub frames : rule (Ascii ending) (cutShort ++ asciiFrame) ≡ output (foundAt 5 13 four ∷ []) 5
+
+-- The same frame with CR alone, and with LF alone.
+abbrev pub withReturn : List ℕ
+withReturn = dropLast asciiFrame
+
+abbrev pub withFeed : List ℕ
+withFeed = dropLast withReturn ++ (0x0A ∷ [])
+
+-- Six good frames under any ending, mixed.
+abbrev pub mixedLines : List (List ℕ)
+mixedLines = withReturn ∷ asciiFrame ∷ withFeed ∷ withFeed ∷ withReturn ∷ asciiFrame ∷ []
+
+-- Under any ending: all come back behind a start cut short. An LF behind the frame's own LF, and a second one behind CR LF, is noise; CR behind CR is too.
+pub record MixedLines : Type 0 where
+  pub good : Stretch (Ascii Any) mixedLines
+  pub kept :
+      rule (Ascii Any) (cutShort ++ flatten mixedLines)
+      ≡ output
+      (foundAt 5 12 four ∷ foundAt 17 13 four ∷ foundAt 30 12 four ∷ foundAt 42 12 four ∷ foundAt 54 12 four ∷ foundAt 66 13 four ∷ [])
+      5
+  pub doubledFeed : rule (Ascii Any) (withFeed ++ (0x0A ∷ withFeed)) ≡ output (foundAt 0 12 four ∷ foundAt 13 12 four ∷ []) 1
+  pub secondFeed : rule (Ascii Any) (asciiFrame ++ (0x0A ∷ [])) ≡ output (foundAt 0 13 four ∷ []) 1
+  pub doubledReturn : rule (Ascii Any) (withReturn ++ (0x0D ∷ 0x0A ∷ [])) ≡ output (foundAt 0 12 four ∷ []) 2
+
+-- Under the strict ending a frame without CR LF is no good frame: with CR it is cut short (2), and before another frame refused (5); with LF it is refused (6).
+pub record StrictLines : Type 0 where
+  pub cutShort : read (Ascii CrLf) withReturn ≡ cut
+  pub before : read (Ascii CrLf) (withReturn ++ asciiFrame) ≡ refused 13 5
+  pub feed : read (Ascii CrLf) withFeed ≡ refused 12 6
+  pub frames : rule (Ascii CrLf) (withReturn ++ (withFeed ++ asciiFrame)) ≡ output (foundAt 24 13 four ∷ []) 24
+
+-- Under any ending an LF gives 3 and 4 as a CR does; another character gives 6.
+pub record FeedJudges : Type 0 where
+  pub odd : read (Ascii Any) (0x3A ∷ 0x30 ∷ 0x30 ∷ 0x30 ∷ 0x30 ∷ 0x30 ∷ 0x0A ∷ []) ≡ refused 7 3
+  pub few : read (Ascii Any) (0x3A ∷ 0x30 ∷ 0x30 ∷ 0x0A ∷ []) ≡ refused 4 3
+  pub sum : read (Ascii Any) (0x3A ∷ 0x30 ∷ 0x31 ∷ 0x30 ∷ 0x30 ∷ 0x0A ∷ []) ≡ refused 6 4
+  pub sumAtReturn : read (Ascii Any) (0x3A ∷ 0x30 ∷ 0x31 ∷ 0x30 ∷ 0x30 ∷ 0x0D ∷ []) ≡ refused 6 4
+  pub other : read (Ascii Any) (0x3A ∷ 0x30 ∷ 0x31 ∷ 0x46 ∷ 0x46 ∷ 0x20 ∷ []) ≡ refused 6 6

@@ -82,11 +82,12 @@ pub(crate) fn answer(format: Format, w: &[u8], found: ScanResult, before: Before
     match end {
         ScanEnd::Frame { used, len } => {
             let taken = far - before.base;
+            let next = place + used;
             Kept {
                 answer: FeedAnswer::Frame { taken, noise, len },
-                from: place + used,
+                from: next,
                 end: far,
-                follows: may_follow(format),
+                follows: may_follow(format, w, next),
             }
         }
         ScanEnd::Undecided => Kept {

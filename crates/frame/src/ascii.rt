@@ -1,6 +1,8 @@
 // ASCII framing.
 use crate::digit;
+use crate::framing::Ending;
 use crate::framing::Judged;
+use crate::framing::judge_complete;
 use crate::framing::judge_ending;
 use crate::hex;
 use crate::refusal::Refusal;
@@ -12,30 +14,49 @@ ghost use Rattle.frame.specs.declared.framing.Format.the-variants.{Ascii
 ghost use Rattle.frame.specs.declared.framing.Framing.the-variants.{Ascii as AsciiFraming};
 ghost use Rattle.frame.specs.Checks.{run, behind};
 ghost use Rattle.frame.specs.Hex.{sumOf};
-ghost use Rattle.frame.specs.Ascii.{carriageReturn, hexDigits, crLf};
+ghost use Rattle.frame.specs.Ascii.{endsDigits, hexDigits, lineEnding};
 ghost use Rattle.frame.specs.Framing.{judge, inFront, layout};
-ghost use Rattle.frame.specs.DigitRuns.{digitRun, decoded};
-ghost use Rattle.frame.specs.Judged.{payloadAt, HasPayload, verdictOf, handedOut, Short};
+ghost use Rattle.frame.specs.DigitRuns.{Digits, digitRun, decoded};
+ghost use Rattle.frame.specs.Judged.{verdictOf, handedOut, Short};
 
-// Judges the sum of the bytes that the `count` digits behind the colon stand for, and what stands behind their CR.
-fn judge_end(s: &[u8], count: usize, total: u32) -> Judged
+// Whether digits end, and are judged, at the character c.
+fn ends_digits(ending: Ending, c: u8) -> bool
+    ensures { λ r. ⌜ r ≡ endsDigits ending c ⌝ }
+{
+    if c == 0x0D {
+        return true;
+    }
+    match ending {
+        Ending::CrLf => false,
+        Ending::Any => c == 0x0A,
+    }
+}
+
+// Judges the sum of the bytes that the `count` digits behind the colon stand for and, where LF is to follow the character that ends them, what does.
+fn judge_end(ending: Ending, s: &[u8], count: usize, total: u32) -> Judged
     requires { ⌜ count ≡ digitRun 515 (drop 1 (now s)) ⌝ }
     requires { ⌜ 4 ≤ count ⌝ }
     requires { ⌜ count ≤ 514 ⌝ }
     requires { ⌜ count % 2 ≡ 0 ⌝ }
     requires { ⌜ 1 + count < length (now s) ⌝ }
-    requires { ⌜ getD (now s) (1 + count) 0 ≡ carriageReturn ⌝ }
+    requires { ⌜ endsDigits ending (getD (now s) (1 + count) 0) ≡ true ⌝ }
     requires { ⌜ total ≡ sumOf (decoded (take count (drop 1 (now s)))) ⌝ }
-    ensures { λ r. ⌜ behind 1 (run (hexDigits 514 crLf) (drop 1 (now (s .entry)))) ≡ verdictOf Ascii (now (s .entry)) r ⌝ }
+    ensures { λ r. ⌜ behind 1 (run (hexDigits 514 (lineEnding ending)) (drop 1 (now (s .entry)))) ≡ verdictOf (Ascii ending) (now (s .entry)) r ⌝ }
 {
-    judge_ending(s, 1 + count, total % 256 == 0, 0x0A, count / 2 - 1)
+    let end = 1 + count;
+    let right = total % 256 == 0;
+    let len = count / 2 - 1;
+    match ending {
+        Ending::CrLf => judge_ending(s, end, right, 0x0A, len),
+        Ending::Any => judge_complete(end, right, len),
+    }
 }
 
 // Judges what stands behind the colon, where `count` digits do.
-fn judge_digits(s: &[u8], count: usize) -> Judged
+fn judge_digits(ending: Ending, s: &[u8], count: usize) -> Judged
     requires { ⌜ 1 ≤ length (now s) ⌝ }
     requires { ⌜ count ≡ digitRun 515 (drop 1 (now s)) ⌝ }
-    ensures { λ r. ⌜ behind 1 (run (hexDigits 514 crLf) (drop 1 (now (s .entry)))) ≡ verdictOf Ascii (now (s .entry)) r ⌝ }
+    ensures { λ r. ⌜ behind 1 (run (hexDigits 514 (lineEnding ending)) (drop 1 (now (s .entry)))) ≡ verdictOf (Ascii ending) (now (s .entry)) r ⌝ }
 {
     let n = s.len();
     let end = 1 + count;
@@ -48,7 +69,7 @@ fn judge_digits(s: &[u8], count: usize) -> Judged
     if n <= end {
         return Judged::Undecided;
     }
-    if s[end] != 0x0D {
+    if !ends_digits(ending, s[end]) {
         return Judged::Failed {
             refusal: Refusal::Character,
             judged: end + 1,
@@ -66,7 +87,7 @@ fn judge_digits(s: &[u8], count: usize) -> Judged
             judged: end + 1,
         };
     }
-    judge_end(s, count, hex::pair_sum(&s[1..end]))
+    judge_end(ending, s, count, hex::pair_sum(&s[1..end]))
 }
 
 // How many digits stand behind the first character, up to one more than the most that a frame has.
@@ -80,9 +101,9 @@ fn run_behind(s: &[u8]) -> usize
 }
 
 // Judges the front of s, where `count` digits stand behind the first character.
-fn judge_run(s: &[u8], count: usize) -> Judged
+fn judge_run(ending: Ending, s: &[u8], count: usize) -> Judged
     requires { ⌜ count ≡ digitRun 515 (drop 1 (now s)) ⌝ }
-    ensures { λ r. ⌜ judge Ascii (now (s .entry)) ≡ verdictOf Ascii (now (s .entry)) r ⌝ }
+    ensures { λ r. ⌜ judge (Ascii ending) (now (s .entry)) ≡ verdictOf (Ascii ending) (now (s .entry)) r ⌝ }
 {
     if s.len() == 0 {
         return Judged::Undecided;
@@ -93,19 +114,20 @@ fn judge_run(s: &[u8], count: usize) -> Judged
             judged: 1,
         };
     }
-    judge_digits(s, count)
+    judge_digits(ending, s, count)
 }
 
 // Judges the front of s.
-pub(crate) fn judge(s: &[u8]) -> Judged
-    ensures { λ r. ⌜ judge Ascii (now (s .entry)) ≡ verdictOf Ascii (now (s .entry)) r ⌝ }
+pub(crate) fn judge(ending: Ending, s: &[u8]) -> Judged
+    ensures { λ r. ⌜ judge (Ascii ending) (now (s .entry)) ≡ verdictOf (Ascii ending) (now (s .entry)) r ⌝ }
 {
-    judge_run(s, run_behind(s))
+    judge_run(ending, s, run_behind(s))
 }
 
-// Whether s begins with a colon, has room for an even count of digits, for a payload of 16 to 31 bytes and its checksum, and a CR behind them.
-fn is_short(s: &[u8], count: usize) -> bool
-    ensures { λ r. ⌜ ((r ≡ true) → Short (now (s .entry)) count) ⌝ }
+// Whether s begins with a colon, has room for an even count of digits, for a payload of 16 to 31 bytes and its checksum, and a character behind them that ends
+// digits.
+fn is_short(ending: Ending, s: &[u8], count: usize) -> bool
+    ensures { λ r. ⌜ ((r ≡ true) → Short ending (now (s .entry)) count) ⌝ }
 {
     if count < 34 {
         return false;
@@ -122,23 +144,23 @@ fn is_short(s: &[u8], count: usize) -> bool
     if s[0] != 0x3A {
         return false;
     }
-    s[1 + count] == 0x0D
+    ends_digits(ending, s[1 + count])
 }
 
 // Judges a short frame, and puts its payload into the front of buf. It is decoded once, before its sum is known: the first 16 bytes and the last
 // 16, which may overlap them; the very last is the checksum.
-fn extract_short(s: &[u8], count: usize, buf: &mut [u8]) -> Judged
+fn extract_short(ending: Ending, s: &[u8], count: usize, buf: &mut [u8]) -> Judged
     requires { ⌜ count ≡ digitRun 515 (drop 1 (now s)) ⌝ }
-    requires { ⌜ Short (now s) count ⌝ }
+    requires { ⌜ Short ending (now s) count ⌝ }
     requires { ⌜ 256 ≤ length (now buf) ⌝ }
-    ensures { λ r. ⌜ judge Ascii (now (s .entry)) ≡ verdictOf Ascii (now (s .entry)) r ⌝ }
-    ensures { λ r. ⌜ now (buf .exit) ≡ handedOut (judge Ascii (now (s .entry))) (now (buf .entry)) ⌝ }
+    ensures { λ r. ⌜ judge (Ascii ending) (now (s .entry)) ≡ verdictOf (Ascii ending) (now (s .entry)) r ⌝ }
+    ensures { λ r. ⌜ now (buf .exit) ≡ handedOut (judge (Ascii ending) (now (s .entry))) (now (buf .entry)) ⌝ }
 {
     let n = count / 2;
     let end = 1 + count;
     let two = hex::decode_two(&s[1..end], count - 32);
     let whole = &two[..];
-    let verdict = judge_end(s, count, hex::sum_of_two(whole, 48 - n));
+    let verdict = judge_end(ending, s, count, hex::sum_of_two(whole, 48 - n));
     if let Judged::Frame { used: _, len: _ } = verdict {
         bytes::copy(&whole[..16], buf);
         bytes::copy(&whole[16..31], &mut buf[n - 16..]);
@@ -148,24 +170,24 @@ fn extract_short(s: &[u8], count: usize, buf: &mut [u8]) -> Judged
 
 // Puts the payload of `len` bytes of the frame at the front of s into the front of buf.
 pub(crate) fn unpack(s: &[u8], len: usize, buf: &mut [u8])
-    requires { ⌜ HasPayload Ascii (now s) len ⌝ }
+    requires { ⌜ (1 + 2 * len ≤ length (now s)) × Digits (take (2 * len) (drop 1 (now s))) ⌝ }
     requires { ⌜ len ≤ length (now buf) ⌝ }
-    ensures { λ _. ⌜ now (buf .exit) ≡ inFront (payloadAt Ascii (now (s .entry)) len) (now (buf .entry)) ⌝ }
+    ensures { λ _. ⌜ now (buf .exit) ≡ inFront (decoded (take (2 * len) (drop 1 (now (s .entry))))) (now (buf .entry)) ⌝ }
 {
     hex::decode(&s[1..1 + 2 * len], buf);
 }
 
 // Judges the front of s, and puts the payload of a frame into the front of buf.
-pub(crate) fn extract(s: &[u8], buf: &mut [u8]) -> Judged
+pub(crate) fn extract(ending: Ending, s: &[u8], buf: &mut [u8]) -> Judged
     requires { ⌜ 256 ≤ length (now buf) ⌝ }
-    ensures { λ r. ⌜ judge Ascii (now (s .entry)) ≡ verdictOf Ascii (now (s .entry)) r ⌝ }
-    ensures { λ r. ⌜ now (buf .exit) ≡ handedOut (judge Ascii (now (s .entry))) (now (buf .entry)) ⌝ }
+    ensures { λ r. ⌜ judge (Ascii ending) (now (s .entry)) ≡ verdictOf (Ascii ending) (now (s .entry)) r ⌝ }
+    ensures { λ r. ⌜ now (buf .exit) ≡ handedOut (judge (Ascii ending) (now (s .entry))) (now (buf .entry)) ⌝ }
 {
     let count = run_behind(s);
-    if is_short(s, count) {
-        return extract_short(s, count, buf);
+    if is_short(ending, s, count) {
+        return extract_short(ending, s, count, buf);
     }
-    let verdict = judge_run(s, count);
+    let verdict = judge_run(ending, s, count);
     if let Judged::Frame { used: _, len } = verdict {
         unpack(s, len, buf);
     }

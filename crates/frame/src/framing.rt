@@ -4,12 +4,12 @@ use crate::binary;
 use crate::reader::Reader;
 use crate::refusal::Refusal;
 ghost use mathlib.Core.Path.{_≡_};
-ghost use Prim.Native.Nat.{_≤_, _<_};
+ghost use Prim.Native.Nat.{ℕ, _≤_, _<_};
 ghost use lib.ListN.{length};
-ghost use Rattle.frame.specs.Framing.{formatOf, judge, layout, limit, inFront, mayFollow, absorbed};
+ghost use Rattle.frame.specs.Framing.{formatOf, judge, layout, limit, inFront, mayFollow, isOpen, isOptional, absorbed};
 ghost use Rattle.frame.specs.Judged.{verdictOf, handedOut, payloadAt, HasPayload, frameLength, startOf, doubledNumber, passedBy, Ended, Completed};
 ghost use Rattle.frame.specs.Refusal.{numberOf};
-ghost use Rattle.frame.specs.declared.framing.Format.the-variants.{Binary};
+ghost use Rattle.frame.specs.declared.framing.Format.the-variants.{Binary, Ascii};
 
 // How frames are laid out on the line, and so how they are written.
 pub enum Framing {
@@ -27,20 +27,28 @@ pub enum Footer {
     Required,
 }
 
+// Which line ends an ASCII frame that is read may have.
+pub enum Ending {
+    // A frame ends with CR LF.
+    CrLf,
+    // A frame is complete at CR or at LF; an LF right behind its CR belongs to it.
+    Any,
+}
+
 // How frames are read: a framing with its choice.
 pub enum Format {
     Binary(Footer),
-    Ascii,
+    Ascii(Ending),
 }
 
 impl Framing {
-    // The format in which a framing is read where none is named: in binary framing the footer is optional.
+    // The format in which a framing is read where none is named: in binary framing the footer is optional, in ASCII framing the ending is CR LF.
     pub fn format(self) -> Format
         ensures { λ r. ⌜ r ≡ formatOf self ⌝ }
     {
         match self {
             Framing::Binary => Format::Binary(Footer::Optional),
-            Framing::Ascii => Format::Ascii,
+            Framing::Ascii => Format::Ascii(Ending::CrLf),
         }
     }
 }
@@ -61,7 +69,7 @@ pub(crate) fn start_of(format: Format) -> u8
 {
     match format {
         Format::Binary(_) => 0xA5,
-        Format::Ascii => 0x3A,
+        Format::Ascii(_) => 0x3A,
     }
 }
 
@@ -71,7 +79,7 @@ pub(crate) fn limit_of(format: Format) -> usize
 {
     match format {
         Format::Binary(_) => Reader::MAX_BINARY,
-        Format::Ascii => Reader::MAX_ASCII,
+        Format::Ascii(_) => Reader::MAX_ASCII,
     }
 }
 
@@ -82,7 +90,7 @@ pub(crate) fn passed_by(format: Format, judged: usize) -> usize
 {
     match format {
         Format::Binary(_) => 1,
-        Format::Ascii => judged - 1,
+        Format::Ascii(_) => judged - 1,
     }
 }
 
@@ -92,7 +100,7 @@ pub(crate) fn doubled_refusal(format: Format) -> Refusal
 {
     match format {
         Format::Binary(_) => Refusal::Start,
-        Format::Ascii => Refusal::Character,
+        Format::Ascii(_) => Refusal::Character,
     }
 }
 
@@ -142,7 +150,7 @@ pub(crate) fn judge_complete(end: usize, right: bool, len: usize) -> Judged
 
 // Whether a frame may lack its footer.
 fn may_lack(footer: Footer) -> bool
-    ensures { λ r. ⌜ r ≡ mayFollow (Binary footer) ⌝ }
+    ensures { λ r. ⌜ ((last : ℕ) → r ≡ mayFollow (Binary footer) last) ⌝ }
 {
     match footer {
         Footer::Optional => true,
@@ -150,13 +158,57 @@ fn may_lack(footer: Footer) -> bool
     }
 }
 
-// Whether an optional byte may follow a frame that was judged complete.
-pub(crate) fn may_follow(format: Format) -> bool
-    ensures { λ r. ⌜ r ≡ mayFollow format ⌝ }
+// Whether an LF may follow a frame that was judged complete with the byte before `end`.
+fn may_feed(ending: Ending, s: &[u8], end: usize) -> bool
+    requires { ⌜ 1 ≤ end ⌝ }
+    requires { ⌜ end ≤ length (now s) ⌝ }
+    ensures { λ r. ⌜ r ≡ isOpen (Ascii ending) end (now (s .entry)) ⌝ }
+{
+    match ending {
+        Ending::CrLf => false,
+        Ending::Any => s[end - 1] == 0x0D,
+    }
+}
+
+// Whether an optional byte may follow a frame that was judged complete with the byte before `end`.
+pub(crate) fn may_follow(format: Format, s: &[u8], end: usize) -> bool
+    requires { ⌜ 1 ≤ end ⌝ }
+    requires { ⌜ end ≤ length (now s) ⌝ }
+    ensures { λ r. ⌜ r ≡ isOpen format end (now (s .entry)) ⌝ }
 {
     match format {
         Format::Binary(footer) => may_lack(footer),
-        Format::Ascii => false,
+        Format::Ascii(ending) => may_feed(ending, s, end),
+    }
+}
+
+// Whether b is the 04 that may be left out.
+fn is_footer(footer: Footer, b: u8) -> bool
+    ensures { λ r. ⌜ r ≡ isOptional (Binary footer) b ⌝ }
+{
+    match footer {
+        Footer::Optional => b == 0x04,
+        Footer::Required => false,
+    }
+}
+
+// Whether b is the LF that may follow a CR.
+fn is_feed(ending: Ending, b: u8) -> bool
+    ensures { λ r. ⌜ r ≡ isOptional (Ascii ending) b ⌝ }
+{
+    match ending {
+        Ending::CrLf => false,
+        Ending::Any => b == 0x0A,
+    }
+}
+
+// Whether b is the optional byte of a format.
+fn is_optional(format: Format, b: u8) -> bool
+    ensures { λ r. ⌜ r ≡ isOptional format b ⌝ }
+{
+    match format {
+        Format::Binary(footer) => is_footer(footer, b),
+        Format::Ascii(ending) => is_feed(ending, b),
     }
 }
 
@@ -170,10 +222,7 @@ pub(crate) fn absorbed(format: Format, follows: bool, s: &[u8]) -> usize
     if s.len() == 0 {
         return 0;
     }
-    if s[0] != 0x04 {
-        return 0;
-    }
-    if may_follow(format) { 1 } else { 0 }
+    if is_optional(format, s[0]) { 1 } else { 0 }
 }
 
 // Puts the payload of `len` bytes of the frame at the front of s into the front of buf.
@@ -184,7 +233,7 @@ pub(crate) fn unpack(format: Format, s: &[u8], len: usize, buf: &mut [u8])
 {
     match format {
         Format::Binary(_) => binary::unpack(s, len, buf),
-        Format::Ascii => ascii::unpack(s, len, buf),
+        Format::Ascii(_) => ascii::unpack(s, len, buf),
     }
 }
 
@@ -194,7 +243,7 @@ pub(crate) fn judge(format: Format, s: &[u8]) -> Judged
 {
     match format {
         Format::Binary(footer) => binary::judge(footer, s),
-        Format::Ascii => ascii::judge(s),
+        Format::Ascii(ending) => ascii::judge(ending, s),
     }
 }
 
@@ -206,7 +255,7 @@ pub(crate) fn extract(format: Format, s: &[u8], buf: &mut [u8]) -> Judged
 {
     match format {
         Format::Binary(footer) => binary::extract(footer, s, buf),
-        Format::Ascii => ascii::extract(s, buf),
+        Format::Ascii(ending) => ascii::extract(ending, s, buf),
     }
 }
 

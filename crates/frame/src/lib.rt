@@ -13,6 +13,7 @@ mod view;
 
 pub use answer::FeedAnswer;
 pub use answer::QuietAnswer;
+pub use framing::Ending;
 pub use framing::Footer;
 pub use framing::Format;
 pub use framing::Framing;

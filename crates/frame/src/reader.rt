@@ -25,7 +25,7 @@ ghost use Rattle.frame.specs.Answer.{scanWhole};
 ghost use Rattle.frame.specs.Feeding.{Joins, Stores, Leaves, LeavesHeld, LeavesLine, QuietAnswered, ChunkFed, HeldFed};
 
 // A reader's state, by value: its format; the bytes that it holds, the first `count` of `held`; and `follows`, whether an optional byte, the 04 of a frame that
-// may lack it, may still follow the last frame and belong to it. In other formats `follows` means nothing.
+// may lack it or the LF behind a CR, may still follow the last frame and belong to it. In formats without such a byte `follows` means nothing.
 pub struct Reader {
     pub format: Format,
     pub held: [u8; 517],
@@ -285,7 +285,7 @@ fn quiet_held(format: Format, s: &[u8], buf: &mut [u8]) -> Quieted
     match end {
         ScanEnd::Frame { used, len } => {
             let next = place + used;
-            let reader = hold(format, &s[next..], may_follow(format));
+            let reader = hold(format, &s[next..], may_follow(format, s, next));
             Quieted {
                 reader: reader,
                 answer: QuietAnswer::Frame {
@@ -310,7 +310,7 @@ impl Reader {
     pub const MAX_PAYLOAD: usize = 256;
     // The longest frame in binary framing, `limit` of specs/Framing.antt for either footer.
     pub const MAX_BINARY: usize = 262;
-    // The longest frame in ASCII framing, `limit Ascii`, which is also the length of a state's array.
+    // The longest frame in ASCII framing, `limit` for either ending, which is also the length of a state's array.
     pub const MAX_ASCII: usize = 517;
 
     // A new reader for a format.
@@ -325,15 +325,15 @@ impl Reader {
         }
     }
 
-    // A new reader for a framing's default format: in binary framing the footer may be left out.
+    // A new reader for a framing's default format: in binary framing the footer may be left out, in ASCII framing the ending is CR LF.
     pub fn new(framing: Framing) -> Self
         ensures { λ r. ⌜ r ≡ newReader (formatOf framing) ⌝ }
     {
         Reader::open(framing.format())
     }
 
-    // Takes bytes of a chunk until the next frame is settled, whose payload goes to the front of buf; the rest of buf stays. A 04 that follows the last
-    // frame is taken first, and is no noise; that of the frame which this call hands out is left for the next. Bytes that were taken behind the frame,
+    // Takes bytes of a chunk until the next frame is settled, whose payload goes to the front of buf; the rest of buf stays. An optional byte that follows the
+    // last frame is taken first, and is no noise; that of the frame which this call hands out is left for the next. Bytes that were taken behind the frame,
     // where an earlier start failed late, are held. Call it again with the chunk's rest, even an empty one, until more bytes are needed. Refused with 16
     // where the state holds more bytes than a frame can have, 13 where buf has under 256 bytes, 15 where the chunk has over 65,536; a refusal leaves state
     // and buffer.
@@ -371,9 +371,9 @@ impl Reader {
         }
     }
 
-    // The line was quiet: the held bytes end their segment. A 04 in front that follows the last frame is dropped; then it gives the next frame in them, as
-    // `feed` does, or answers that they are empty, with a new reader's state, behind which a 04 is noise. Call it again until then. Refused with 16, 13 as
-    // `feed` is.
+    // The line was quiet: the held bytes end their segment. An optional byte in front that follows the last frame is dropped; then it gives the next
+    // frame in them, as `feed` does, or answers that they are empty, with a new reader's state, behind which such a byte is noise. Call it again until then.
+    // Refused with 16, 13 as `feed` is.
     pub fn quiet(self, buf: &mut [u8]) -> Quieted
         ensures { λ r. ⌜ Quiets self (now (buf .entry)) r (now (buf .exit)) ⌝ }
     {

@@ -24,8 +24,9 @@ pub enum WriteAnswer {
     Refused(Refusal),
 }
 
-// Reads the frame at the front of s in this format. Its payload goes to the front of buf, whose other bytes stay; a footer that may be left out and is
-// there counts as used. A refusal leaves all of buf: 1 to 6 where s does not begin with a frame, then 13 where buf is shorter than the payload.
+// Reads the frame at the front of s in this format. Its payload goes to the front of buf, whose other bytes stay; an optional byte that follows it, a footer
+// that may be left out or under any ending the LF behind a CR, counts as used. A refusal leaves all of buf: 1 to 6 where s does not begin with a frame, then
+// 13 where buf is shorter than the payload.
 pub fn read_frame_as(format: Format, s: &[u8], buf: &mut [u8]) -> ReadAnswer
     ensures { λ r. ⌜ Reads format (now (s .entry)) (now (buf .entry)) r (now (buf .exit)) ⌝ }
 {
@@ -37,14 +38,14 @@ pub fn read_frame_as(format: Format, s: &[u8], buf: &mut [u8]) -> ReadAnswer
                 return ReadAnswer::Refused(Refusal::Buffer);
             }
             unpack(format, s, len, buf);
-            let more = absorbed(format, may_follow(format), &s[used..]);
+            let more = absorbed(format, may_follow(format, s, used), &s[used..]);
             let used = used + more;
             ReadAnswer::Frame { used, len }
         }
     }
 }
 
-// The same in the framing's default format: in binary framing the footer may be left out.
+// The same in the framing's default format: in binary framing the footer may be left out, in ASCII framing the ending is CR LF.
 pub fn read_frame(framing: Framing, s: &[u8], buf: &mut [u8]) -> ReadAnswer
     ensures { λ r. ⌜ Reads (formatOf framing) (now (s .entry)) (now (buf .entry)) r (now (buf .exit)) ⌝ }
 {

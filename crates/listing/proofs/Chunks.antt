@@ -94,7 +94,7 @@ room-for m o size most room s l h = omega (arith, lines-short m (o .frames))
 -- No frame is longer than 517 bytes.
 pub limit-most : (m : Format) → limit m ≤ 517
 limit-most (Binary footer) = omega arith
-limit-most Ascii = omega arith
+limit-most (Ascii ending) = omega arith
 
 -- A reader whose state is sound holds no more bytes than a frame can have.
 pub sound-count : (r : Reader) → sound r ≡ true → r .count ≤ limit (r .format)

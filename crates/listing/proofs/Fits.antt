@@ -13,6 +13,7 @@ use Rattle.frame.specs.Hex.{hex, sumOf}
 use Rattle.frame.specs.Ascii.{lineFeed}
 use Rattle.frame.specs.Draining.{overhead}
 use Rattle.frame.specs.declared.framing.Footer.the-variants.{Optional, Required}
+use Rattle.frame.specs.declared.framing.Ending.the-variants.{CrLf, Any}
 use Rattle.frame.specs.declared.framing.Format.{Format}
 use Rattle.frame.specs.declared.framing.Format.the-variants.{Binary, Ascii}
 use Rattle.message.specs.Address.{isPlain}
@@ -216,7 +217,8 @@ line-short p = simp length-append (omega (arith, fits p .short))
 overhead-least : (m : Format) → 5 ≤ overhead m
 overhead-least (Binary Optional) = omega arith
 overhead-least (Binary Required) = omega arith
-overhead-least Ascii = omega arith
+overhead-least (Ascii CrLf) = omega arith
+overhead-least (Ascii Any) = omega arith
 
 -- So all lines together have no more than three bytes for each of their frames'.
 pub lines-short : (m : Format) (ps : List (List ℕ)) → length (linesOf ps) ≤ 3 * sumOf (map (λ p. length p + overhead m) ps)

@@ -9,7 +9,7 @@ use borrow.Author.Tests.{eqb-true, leb-true}
 use lib.Dec.{leb, eqb}
 use lib.ListN.{length, length-append, length-drop}
 use Rattle.frame.specs.Digit.{isDigit, digitValue, digitOf}
-use Rattle.frame.specs.Ascii.{hexDigits, lineEnd, crLf, afterDigits, ascii}
+use Rattle.frame.specs.Ascii.{hexDigits, lineEnd, lineEnding, afterDigits, ascii}
 use Rattle.frame.specs.Checks.{byte, test, word, bytes}
 use Rattle.frame.specs.Binary.{binary, body}
 use Rattle.frame.specs.Framing.{inFront}
@@ -121,7 +121,7 @@ unfolding digitOf isPlain widthOf listFrom isList readFromModule fromItself resp
 kinds-are-listed = refl
 
 pub example-is-listed : ExampleIsListed
-unfolding byte test isDigit digitValue digitOf hexDigits lineEnd crLf afterDigits ascii join rule places outFrom isPlain readFromModule fromItself responseMeaning senderMeaning simpleLine responseLine decimal lineOf noiseLine
+unfolding byte test isDigit digitValue digitOf hexDigits lineEnd lineEnding afterDigits ascii join rule places outFrom isPlain readFromModule fromItself responseMeaning senderMeaning simpleLine responseLine decimal lineOf noiseLine
 example-is-listed = refl
 
 pub footerless-is-listed : FooterlessIsListed

@@ -14,6 +14,7 @@ use Rattle.frame.specs.Single.{writingOf}
 use Rattle.frame.specs.Drain.{drain, afterDrain, ruleAfter}
 use Rattle.frame.specs.Elements.{All}
 use Rattle.frame.specs.declared.framing.Footer.the-variants.{Optional}
+use Rattle.frame.specs.declared.framing.Ending.the-variants.{CrLf}
 use Rattle.frame.specs.declared.framing.Format.{Format}
 use Rattle.frame.specs.declared.framing.Format.the-variants.{Binary, Ascii}
 use Rattle.frame.specs.declared.reader.Reader.{Reader}
@@ -102,7 +103,7 @@ ChunkStaysInLimit =
 -- Document 01's example, byte for byte.
 abbrev pub ExampleIsListed : Type 0
 ExampleIsListed =
-    listing Ascii (text "ab:00010203FA" ++ (carriageReturn ∷ lineFeed ∷ (text ":DBA1120171" ++ (carriageReturn ∷ lineFeed ∷ []))))
+    listing (Ascii CrLf) (text "ab:00010203FA" ++ (carriageReturn ∷ lineFeed ∷ (text ":DBA1120171" ++ (carriageReturn ∷ lineFeed ∷ []))))
     ≡ text "simple 00 01 0203" ++ (lineFeed ∷ (text "response 12 ok" ++ (lineFeed ∷ (text "noise 2" ++ (lineFeed ∷ [])))))
 
 -- A frame of 7 bytes, without its footer: its line has 15, more than two for each byte.

@@ -81,7 +81,7 @@ fn is_sound(reader: Reader) -> bool
     let format = reader.format;
     match format {
         Format::Binary(_) => reader.count <= Reader::MAX_BINARY,
-        Format::Ascii => reader.count <= Reader::MAX_ASCII,
+        Format::Ascii(_) => reader.count <= Reader::MAX_ASCII,
     }
 }
 

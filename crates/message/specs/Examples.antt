@@ -1,5 +1,5 @@
--- All starred rows of document 01, "Frames to check against", those of document 02, CR 2, on the footer, and payloads of each kind and refusal, those of CR 1
--- among them: one table, and one statement that is computed.
+-- All starred rows of document 01, "Frames to check against", those of document 02, CR 2, on the footer and of CR 9 on line ends, and payloads of each kind and
+-- refusal, those of CR 1 among them: one table, and one statement that is computed.
 use Prim.Native.Nat.{ℕ}
 use mathlib.Core.Path.{_≡_}
 use mathlib.Core.List.{List, [], _∷_, _++_, map}
@@ -13,8 +13,9 @@ use Rattle.frame.specs.Reader.{State, Called, line, quiet, after, stateOf, newR
 use Rattle.frame.specs.declared.framing.Framing.{Framing}
 use Rattle.frame.specs.declared.framing.Framing.the-variants.{Binary, Ascii}
 use Rattle.frame.specs.declared.framing.Footer.the-variants.{Required}
+use Rattle.frame.specs.declared.framing.Ending.the-variants.{Any}
 use Rattle.frame.specs.declared.framing.Format.{Format}
-use Rattle.frame.specs.declared.framing.Format.the-variants.{Binary as BinaryFormat}
+use Rattle.frame.specs.declared.framing.Format.the-variants.{Binary as BinaryFormat, Ascii as AsciiFormat}
 use Rattle.frame.specs.declared.reader.Reader.{Reader}
 use Rattle.message.specs.Text.{text}
 use Rattle.message.specs.Meaning.{Meaning, refused, carrying, bare}
@@ -122,7 +123,7 @@ pub record Row : Type 0 where
 abbrev row : Ask → List Answer → Row
 row ask expected = record { ask = ask; expected = expected }
 
--- The formats: the default of each framing, and binary framing with the footer required.
+-- The formats: the default of each framing, binary framing with the footer required, and ASCII framing with any ending.
 abbrev binary : Format
 binary = formatOf Binary
 
@@ -131,6 +132,9 @@ required = BinaryFormat Required
 
 abbrev ascii : Format
 ascii = formatOf Ascii
+
+abbrev anyEnding : Format
+anyEnding = AsciiFormat Any
 
 abbrev reads : Format → List ℕ → ℕ → List ℕ → Row
 reads m s used p = row (single m s) (call 0 used 0 (p ∷ []) ∷ [])
@@ -242,6 +246,37 @@ footerRows =
     (call 0 10 0 (responsePayload ∷ []) ∷ call 0 9 0 [] ∷ call 0 0 9 [] ∷ call 0 0 0 [] ∷ [])
     ∷ row (segment binary lateFailure) (call 0 13 4 ((0x11 ∷ []) ∷ []) ∷ call 0 0 2 [] ∷ call 0 0 0 [] ∷ call 0 0 0 [] ∷ [])
     ∷ row (segment required lateFailure) (call 0 13 4 ((0x11 ∷ []) ∷ []) ∷ call 0 0 2 [] ∷ call 0 0 0 [] ∷ call 0 0 0 [] ∷ [])
+    ∷ []
+
+-- Line ends (document 02, CR 9): under any ending a frame is complete at CR or LF, and an LF next belongs to one that ended with CR; 3, 4 and 6 are given at LF
+-- as at CR, 5 never. The ending CR LF is the default.
+abbrev fourBytes : List ℕ
+fourBytes = 0x00 ∷ 0x01 ∷ 0x02 ∷ 0x03 ∷ []
+
+abbrev pub endingRows : List Row
+endingRows =
+    reads anyEnding (text ":00010203FA\r\n") 13 fourBytes
+    ∷ reads anyEnding (text ":00010203FA\r") 12 fourBytes
+    ∷ reads anyEnding (text ":00010203FA\n") 12 fourBytes
+    ∷ reads anyEnding (text ":00010203FA\r\n\n") 13 fourBytes
+    ∷ reads anyEnding (text ":00010203FA\n\n") 12 fourBytes
+    ∷ reads anyEnding (text ":00010203FA\r:00") 12 fourBytes
+    ∷ refuses anyEnding (text "00010203FA\r") 1
+    ∷ refuses anyEnding (text ":00010203FA") 2
+    ∷ refuses anyEnding (text ":00010203F\n") 3
+    ∷ refuses anyEnding (text ":00\n") 3
+    ∷ refuses anyEnding (text ":00010203FB\r") 4
+    ∷ refuses anyEnding (text ":00010203FB\n") 4
+    ∷ refuses anyEnding (text ":00010203fa\n") 6
+    ∷ refuses ascii (text ":00010203FA\r") 2
+    ∷ refuses ascii (text ":00010203FA\r:00") 5
+    ∷ refuses ascii (text ":00010203FA\n") 6
+    ∷ row (segment anyEnding (text ":00010203FA\r\n\n"))
+    (call 0 12 0 (fourBytes ∷ []) ∷ call 0 2 1 [] ∷ call 0 0 0 [] ∷ call 0 0 0 [] ∷ [])
+    ∷ row (segment anyEnding (text ":00010203FA\n\n"))
+    (call 0 12 0 (fourBytes ∷ []) ∷ call 0 1 1 [] ∷ call 0 0 0 [] ∷ call 0 0 0 [] ∷ [])
+    ∷ row (segment ascii (text ":00010203FA\r\n\n"))
+    (call 0 13 0 (fourBytes ∷ []) ∷ call 0 1 1 [] ∷ call 0 0 0 [] ∷ call 0 0 0 [] ∷ [])
     ∷ []
 
 -- The first row is a frame of sheet 001 whose options do not ascend.
@@ -642,7 +677,7 @@ writeRows =
     ∷ []
 
 abbrev pub allRows : List Row
-allRows = rows ++ (footerRows ++ (toRows ++ (fromRows ++ (distinctRows ++ (causeRows ++ (edgeRows ++ (setupRows ++ writeRows)))))))
+allRows = rows ++ (footerRows ++ (endingRows ++ (toRows ++ (fromRows ++ (distinctRows ++ (causeRows ++ (edgeRows ++ (setupRows ++ writeRows))))))))
 
 -- Each row is answered as documents 01 and 02 say.
 abbrev pub Examples : Type 0

@@ -2,8 +2,9 @@
 //
 // Standard input, of which 65,536 bytes are read, has a row to a line, and empty lines are passed over:
 // - `# ..`: a heading, printed as it is.
-// - `FORMAT SIZE BYTES`: a segment for a new reader, offered in chunks of SIZE bytes, or as a whole where SIZE is 0. FORMAT is `ascii`, `binary`, in which
-//   the footer is optional, or `required`, binary with the footer required. BYTES are up to 1,024 hex pairs with a space between.
+// - `FORMAT SIZE BYTES`: a segment for a new reader, offered in chunks of SIZE bytes, or as a whole where SIZE is 0. FORMAT is `ascii`, in which the
+//   ending is CR LF, `any`, ASCII with any ending, `binary`, in which the footer is optional, or `required`, binary with the footer required. BYTES are up to
+//   1,024 hex pairs with a space between.
 // - `then SIZE BYTES`: a further segment for the reader as the row before left it.
 // - `held FORMAT COUNT MARK SIZE BYTES`: a state made by hand. The first 517 bytes are its array and COUNT is its count; MARK is 1 where an optional byte may
 //   follow the last frame, else 0. The bytes behind the first COUNT are offered. Before that come calls that are refused for their buffer or chunk.
@@ -37,6 +38,7 @@ use console::line_at;
 use console::next_word;
 use console::number;
 use console::rest;
+use frame::Ending;
 use frame::Footer;
 use frame::Format;
 use frame::Framing;
@@ -147,19 +149,23 @@ fn new_reader(format: Format) -> Reader {
             Footer::Optional => Reader::new(Framing::Binary),
             Footer::Required => Reader::open(format),
         },
-        Format::Ascii => Reader::new(Framing::Ascii),
+        Format::Ascii(ending) => match ending {
+            Ending::CrLf => Reader::new(Framing::Ascii),
+            Ending::Any => Reader::open(format),
+        },
     }
 }
 
-// The format that a word names by its first letter.
+// The format that a word names by its second letter, in which the names differ.
 fn format_named(word: &[u8]) -> Format {
-    if word.len() == 0 {
+    if word.len() < 2 {
         return Format::Binary(Footer::Optional);
     }
-    let first = word[0];
-    match first {
-        b'a' => Format::Ascii,
-        b'r' => Format::Binary(Footer::Required),
+    let second = word[1];
+    match second {
+        b's' => Format::Ascii(Ending::CrLf),
+        b'n' => Format::Ascii(Ending::Any),
+        b'e' => Format::Binary(Footer::Required),
         _ => Format::Binary(Footer::Optional),
     }
 }

@@ -4,6 +4,7 @@ use crate::state::mark_number;
 use console::front;
 use console::put_hex;
 use console::rest;
+use frame::Ending;
 use frame::Footer;
 use frame::Format;
 use frame::Reader;
@@ -74,9 +75,14 @@ fn show_format(format: Format) {
                 io::write_all(STDOUT_FILENO, b"required");
             }
         },
-        Format::Ascii => {
-            io::write_all(STDOUT_FILENO, b"ascii");
-        }
+        Format::Ascii(ending) => match ending {
+            Ending::CrLf => {
+                io::write_all(STDOUT_FILENO, b"ascii");
+            }
+            Ending::Any => {
+                io::write_all(STDOUT_FILENO, b"any");
+            }
+        },
     }
 }
 

@@ -1,4 +1,5 @@
 // What a call may leave changed: the reader's state, and the caller's buffer.
+use frame::Ending;
 use frame::Footer;
 use frame::Format;
 use frame::Reader;
@@ -37,7 +38,10 @@ fn format_number(format: Format) -> u8 {
             Footer::Optional => 0,
             Footer::Required => 1,
         },
-        Format::Ascii => 2,
+        Format::Ascii(ending) => match ending {
+            Ending::CrLf => 2,
+            Ending::Any => 3,
+        },
     }
 }
 

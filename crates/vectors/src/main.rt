@@ -4,6 +4,7 @@
 // - `# ..`: a heading, printed as it is. The rows under one that ends in `not counted` stay out of the totals.
 // - `:..`: an ASCII frame without its CR LF, which is added.
 // - `ascii ..`: bytes in ASCII framing, as hex pairs with a space between; `ascii` alone is the empty slice.
+// - `any ..`: such bytes, read with any ending; `any` alone is the empty slice. These rows stay out of the totals.
 // - `binary ..`, or the pairs alone: bytes in binary framing, read with the footer optional, which is the default, and with it required.
 // - `payload ..`: a payload, as hex pairs.
 // - `list ..`: a settings list, as hex pairs.
@@ -11,7 +12,8 @@
 // A frame's row prints `frame`, the bytes used, the payload and whether it is written back as the bytes that were read, which one without its
 // footer is not, and what the payload means to the module and from it; or `refused` and the number. In binary framing a further line
 // has the reading with the footer required: `required frame`, the bytes used and the payload, or `required refused` and the number. A
-// payload's row prints itself and both meanings. A list's row prints itself, then `walk` and its settings, or `refused` and the number.
+// row with any ending prints that reading alone, likewise behind `any`. A payload's row prints itself and both meanings. A list's row prints itself, then
+// `walk` and its settings, or `refused` and the number.
 //
 // The last lines have the totals of the frames' rows: those of the default, and those with the footer required, which document 01's list rests on.
 // ASCII rows have one reading, which counts in both.
@@ -30,6 +32,7 @@ use console::front;
 use console::hex_bytes;
 use console::line_at;
 use console::rest;
+use frame::Ending;
 use frame::Footer;
 use frame::Format;
 use frame::Framing;
@@ -41,7 +44,7 @@ ghost use Rattle.io.specs.Counts.{Counts};
 
 // What became of a line.
 enum Row {
-    // An empty line, a payload or a list.
+    // An empty line, a payload, a list or bytes that are read with any ending.
     Uncounted,
     Heading { counted: bool },
     // Whether a frame was read by default, and with the footer required.
@@ -152,6 +155,10 @@ fn run_row(line: &[u8]) -> Row {
         let n = text_bytes(line, &mut bytes);
         return run_ascii(&bytes[..n]);
     }
+    if check::same(front(line, 3), b"any") {
+        let n = hex_bytes(rest(line, 4), &mut bytes);
+        return run_any(&bytes[..n]);
+    }
     let n = hex_bytes(rest(line, pairs_from(first)), &mut bytes);
     if first == b'p' {
         return run_payload(line, &bytes[..n]);
@@ -235,16 +242,21 @@ fn run_ascii(s: &[u8]) -> Row {
 // Runs bytes in binary framing, by default and with the footer required.
 fn run_binary(s: &[u8]) -> Row {
     let optional = run_frame(Framing::Binary, s);
-    let required = run_required(s);
+    let required = run_as(Format::Binary(Footer::Required), b"  required ", s);
     Row::Read { optional, required }
 }
 
-// Reads a frame from the front of s with the footer required and prints what that gave; answers whether it is one.
-fn run_required(s: &[u8]) -> bool {
+// Runs bytes in ASCII framing with any ending.
+fn run_any(s: &[u8]) -> Row {
+    run_as(Format::Ascii(Ending::Any), b"any ", s);
+    Row::Uncounted
+}
+
+// Reads a frame from the front of s in a format and prints what that gave, behind the format's name; answers whether it is one.
+fn run_as(format: Format, name: &[u8], s: &[u8]) -> bool {
     let mut buf = [0u8; 256];
-    let format = Format::Binary(Footer::Required);
     let answer = frame::read_frame_as(format, s, &mut buf);
-    io::write_all(STDOUT_FILENO, b"  required ");
+    io::write_all(STDOUT_FILENO, name);
     match answer {
         ReadAnswer::Frame { used, len } => {
             show_frame(used, front(&buf, len));

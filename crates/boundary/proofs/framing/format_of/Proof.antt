@@ -19,7 +19,13 @@ returns-3 c = rw (c .match .keys3)
 
 returns-4 : tie.Need-returns-4
 unfolding formatOf
-returns-4 c = simp (ne-eqb _ _ (c .match .rest .0 .0 .1), ne-eqb _ _ (c .match .rest .0 .1), ne-eqb _ _ (c .match .rest .1))
+returns-4 c = rw (c .match .keys4)
+
+returns-5 : tie.Need-returns-5
+unfolding formatOf
+returns-5 c =
+    simp
+    (ne-eqb _ _ (c .match .rest .0 .0 .0 .1), ne-eqb _ _ (c .match .rest .0 .0 .1), ne-eqb _ _ (c .match .rest .0 .1), ne-eqb _ _ (c .match .rest .1))
 
 pub format-of-spec : {M : Type 1} → statement M
-format-of-spec = tie.close (tie.spec returns returns-2 returns-3 returns-4)
+format-of-spec = tie.close (tie.spec returns returns-2 returns-3 returns-4 returns-5)

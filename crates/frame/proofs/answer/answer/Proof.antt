@@ -2,7 +2,7 @@
 -- Assumes nothing.
 use Prim.Native.Nat.{_+_, _≤_}
 use native.Mathlib.Omega.{arith}
-use mathlib.Core.Path.{_≡_, subst}
+use mathlib.Core.Path.{_≡_, _∙_, subst}
 use lib.ListN.{drop, length-drop}
 use Rattle.frame.specs.Checks.{cut, frame}
 use Rattle.frame.specs.Framing.{judge}
@@ -10,7 +10,8 @@ use Rattle.frame.specs.Judged.{payloadAt}
 use Rattle.frame.specs.Scan.{stopOf}
 use Rattle.frame.specs.Answer.{Usable}
 use Rattle.frame.specs.declared.scan.ScanEnd.{ScanEnd}
-use Rattle.frame.proofs.Framings.{undecided-short, payload-there, limit-most}
+use Rattle.frame.proofs.Framings.{some-used, undecided-short, payload-there, limit-most}
+use Rattle.frame.proofs.Optional.{open-at}
 use Rattle.frame.proofs.Readers.{kept-frame, kept-undecided, kept-passed}
 use borrow.Author.Needs.{needs}
 use Rattle.frame.proofs.answer.answer.Statement.{statement}
@@ -30,6 +31,12 @@ at-frame k =
     subst (λ (e : ScanEnd). Usable (stopOf (a .format) (drop (r .place) (a .w .now)) e) (a .format) (a .w .now) (r .place) (r .reach))
     (k .before .end .given .1) (k .before .before .before .before .before .pre .usable)
 
+-- The frame has a byte.
+some : (c : tie.After-struct-known2) → 1 ≤ c .before .before .end .given .0 .0
+some c =
+    let a = c .before .before .before .before .before .before .args in
+    some-used (a .format) (drop (a .found .place) (a .w .now)) _ _ (at-frame (c .before) .0)
+
 add-noise : tie.Need-add-noise
 add-noise c = search needs
 
@@ -39,11 +46,14 @@ enum-known-end c = search needs
 sub-taken : tie.Need-sub-taken
 sub-taken c = search needs
 
-add-t15 : tie.Need-add-t15
-add-t15 c = omega (arith, at-frame (c .before) .1)
+add-next : tie.Need-add-next
+add-next c = omega (arith, at-frame (c .before) .1)
 
 may-follow-requires : tie.Need-may-follow-requires
-may-follow-requires c κs = search needs
+may-follow-requires c κs =
+    let d = c .before .before .before .before .before .before in
+    let f = at-frame (c .before) in
+    (omega (arith, some c), omega (arith, f .1, d .pre .there))
 
 enum-told : tie.Need-enum-told
 enum-told c = search needs
@@ -60,7 +70,8 @@ returns c =
     let used = end .given .0 .0 in
     let len = end .given .0 .1 .0 in
     let f = at-frame (c .before .before) in
-    kept-frame (a .format) (a .w .now) (a .before) (r .place) (r .reach) (r .end) used len (c .may-follow .result) (c .may-follow .ensures) (end .given .1)
+    kept-frame (a .format) (a .w .now) (a .before) (r .place) (r .reach) (r .end) used len (c .may-follow .result)
+    (c .may-follow .ensures ∙ open-at (a .format) used (some (c .before)) (r .place) (a .w .now)) (end .given .1)
     (payload-there (a .format) (drop (r .place) (a .w .now)) used len (f .0) .1) (f .1) (d .pre .there) (f .2)
 
 returns-2 : tie.Need-returns-2
@@ -87,7 +98,7 @@ answer-spec =
     add-noise
     enum-known-end
     sub-taken
-    add-t15
+    add-next
     may-follow-requires
     enum-told
     enum-told-2

@@ -23,9 +23,11 @@ abbrev frame-at : tie.After-slice-known3 → tie.After-verdict
 frame-at c = c .before .before .before .before .before
 
 -- The answer is a frame.
-named : (c : tie.After-verdict) → let s = start (c .before .before) .args .s .now in
-    judge Ascii s ≡ verdictOf Ascii s (Frame (c .verdict .given .0 .0) (c .verdict .given .0 .1 .0))
-named c = c .before .before .judge-run .ensures ∙ ap (verdictOf Ascii (start (c .before .before) .args .s .now)) (c .verdict .given .1)
+named : (c : tie.After-verdict) → let a = start (c .before .before) .args in
+    judge (Ascii (a .ending)) (a .s .now) ≡ verdictOf (Ascii (a .ending)) (a .s .now) (Frame (c .verdict .given .0 .0) (c .verdict .given .0 .1 .0))
+named c =
+    let a = start (c .before .before) .args in
+    c .before .before .judge-run .ensures ∙ ap (verdictOf (Ascii (a .ending)) (a .s .now)) (c .verdict .given .1)
 
 run-behind-requires : tie.Need-run-behind-requires
 run-behind-requires c κs = search needs
@@ -52,7 +54,8 @@ enum-known-verdict c = search needs
 unpack-requires : tie.Need-unpack-requires
 unpack-requires c κs =
     let v = c .before .before in
-    let h = payload-named Ascii (start (v .before .before) .args .s .now) (v .verdict .given .0 .0) (v .verdict .given .0 .1 .0) (named v) in
+    let a = start (v .before .before) .args in
+    let h = payload-named (Ascii (a .ending)) (a .s .now) (v .verdict .given .0 .0) (v .verdict .given .0 .1 .0) (named v) in
     (h .there, omega (arith, h .most))
 
 same-length-2 : tie.Need-same-length-2
@@ -68,7 +71,8 @@ returns-3 : tie.Need-returns-3
 returns-3 c =
     let a = start (c .before) .args in (
       c .before .judge-run .ensures,
-      sym (ap (λ (v : Verdict). handedOut v (a .buf .now)) (c .before .judge-run .ensures) ∙ stays Ascii (a .s .now) (a .buf .now) (c .before .judge-run .result)
+      sym (ap (λ (v : Verdict). handedOut v (a .buf .now)) (c .before .judge-run .ensures)
+          ∙ stays (Ascii (a .ending)) (a .s .now) (a .buf .now) (c .before .judge-run .result)
           (λ used len e. ⊎-elim (λ (q : _). let z : _≡_ {A = ℕ} 2 0 = cc in omega arith) (λ q. let z : _≡_ {A = ℕ} 2 1 = cc in omega arith) (c .match .keys2))),
     )
 

@@ -11,13 +11,13 @@ use lib.ListN.{length, take, drop, length-drop}
 use lib.Seq.{paste, length-take-le}
 use Rattle.frame.specs.Checks.{Verdict}
 use Rattle.frame.specs.Hex.{sumOf}
-use Rattle.frame.specs.Ascii.{lineEnd, crLf}
+use Rattle.frame.specs.Ascii.{behindDigits, lineEnding}
 use Rattle.frame.specs.Framing.{judge}
 use Rattle.frame.specs.DigitRuns.{decoded}
 use Rattle.frame.specs.Judged.{verdictOf, handedOut}
 use Rattle.frame.specs.declared.framing.Format.the-variants.{Ascii}
-use Rattle.frame.proofs.AsciiJudge.{line-all-digits, line-payload, line-return, judge-line}
-use Rattle.frame.proofs.AsciiLaws.{line-end-keeps}
+use Rattle.frame.proofs.AsciiJudge.{line-all-digits, line-payload, line-judges, judge-line}
+use Rattle.frame.proofs.AsciiLaws.{behind-keeps}
 use Rattle.frame.proofs.AsciiShort.{short-long, short-sum, short-put, short-summed}
 use Rattle.frame.proofs.Copying.{copied, copied-at}
 use Rattle.frame.proofs.Framings.{stays}
@@ -49,7 +49,7 @@ is c = rw (add-sub-cancel-left 1 (start c .args .count)) at (c .decode-two .ensu
 long : (c : tie.After-decode-two) → length (c .decode-two .result) ≡ 32
 long c =
     let a = start c .args in
-    short-long (a .s .now) (a .count) (start c .pre .1 .0) (c .decode-two .result) (is c)
+    short-long (a .ending) (a .s .now) (a .count) (start c .pre .1 .0) (c .decode-two .result) (is c)
 
 -- The first 16 of them, and the 15 behind those.
 front-long : (c : tie.After-decode-two) → length (take 16 (c .decode-two .result)) ≡ 16
@@ -64,15 +64,15 @@ total : (c : tie.After-sum-of-two) → let a = start (c .before .before) .args i
 total c =
     let a = start (c .before .before) .args in
     c .sum-of-two .ensures
-    ∙ short-sum (a .s .now) (a .count) (start (c .before .before) .pre .1 .0) (c .before .before .decode-two .result) (is (c .before .before))
+    ∙ short-sum (a .ending) (a .s .now) (a .count) (start (c .before .before) .pre .1 .0) (c .before .before .decode-two .result) (is (c .before .before))
 
 -- The verdict on the whole.
 verdict : (c : tie.After-judge-end) → let a = start (c .before .before .before) .args in
-    judge Ascii (a .s .now) ≡ verdictOf Ascii (a .s .now) (c .judge-end .result)
+    judge (Ascii (a .ending)) (a .s .now) ≡ verdictOf (Ascii (a .ending)) (a .s .now) (c .judge-end .result)
 verdict c =
     let a = start (c .before .before .before) .args in
     let h = start (c .before .before .before) .pre .1 .0 in
-    judge-line crLf (a .s .now) (omega (arith, h .inside)) (h .start) ∙ c .judge-end .ensures
+    judge-line (lineEnding (a .ending)) (a .s .now) (omega (arith, h .inside)) (h .start) ∙ c .judge-end .ensures
 
 add-end : tie.Need-add-end
 add-end c = search needs
@@ -160,19 +160,21 @@ returns c =
     let a = start d .args in
     let h = start d .pre .1 .0 in
     let s = a .s .now in
+    let end = lineEnding (a .ending) in
     let two = d .decode-two .result in
     let used = t .enum-told .given .0 .0 in
     let len = t .enum-told .given .0 .1 .0 in
     let p : List ℕ = decoded (take (2 * len) (drop 1 s)) in
     let v = t .before .before in
-    let e = v .judge-end .ensures ∙ ap (verdictOf Ascii s) (t .enum-told .given .1) in
-    let sums = short-summed s (a .count) (v .before .sum-of-two .result) (start d .pre .0) h (total (v .before)) in (
+    let e = v .judge-end .ensures ∙ ap (verdictOf (Ascii (a .ending)) s) (t .enum-told .given .1) in
+    let sums = short-summed (a .ending) s (a .count) (v .before .sum-of-two .result) (start d .pre .0) h (total (v .before)) in (
       verdict v,
       copied-at (first-copy c .copy .last .1 .0) (take 15 (drop 16 two)) _ (a .count / 2 - 16) _ refl (c .before .before .copy2 .ensures .1)
           ∙ ap₂ (λ (b : List ℕ) (k : ℕ). paste b (a .count / 2 - 16) (take 15 (drop 16 two)) k)
           (copied (a .buf .now) (take 16 two) _ (first-copy c .copy .ensures .1) ∙ ap (paste (a .buf .now) 0 (take 16 two)) (front-long d)) (last-long d)
-          ∙ short-put s (a .count) h two (is d) (a .buf .now) p (line-payload sums crLf lineEnd (line-return s (a .count) (h .ends)) line-end-keeps used p e)
-          ∙ sym (ap (λ (w : Verdict). handedOut w (a .buf .now)) (judge-line crLf s (omega (arith, h .inside)) (h .start) ∙ e)),
+          ∙ short-put (a .ending) s (a .count) h two (is d) (a .buf .now) p
+          (line-payload sums end (behindDigits (a .ending)) (line-judges (a .ending) s (a .count) (h .ends)) (behind-keeps (a .ending)) used p e)
+          ∙ sym (ap (λ (w : Verdict). handedOut w (a .buf .now)) (judge-line end s (omega (arith, h .inside)) (h .start) ∙ e)),
     )
 
 returns-2 : tie.Need-returns-2
@@ -180,7 +182,7 @@ returns-2 c = let a = start (c .before .before .before .before) .args in (
   verdict (c .before),
   sym
       (ap (λ (v : Verdict). handedOut v (a .buf .now)) (verdict (c .before))
-      ∙ stays Ascii (a .s .now) (a .buf .now) (c .before .judge-end .result)
+      ∙ stays (Ascii (a .ending)) (a .s .now) (a .buf .now) (c .before .judge-end .result)
       (λ used len e.
       ⊎-elim (λ (q : _). let z : _≡_ {A = ℕ} 2 0 = cc in omega arith) (λ q. let z : _≡_ {A = ℕ} 2 1 = cc in omega arith) (c .match .keys2))),
 )

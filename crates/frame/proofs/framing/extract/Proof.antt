@@ -10,8 +10,8 @@ enum-known-format c = search needs
 extract-requires : tie.Need-extract-requires
 extract-requires c κs = search needs
 
-enum-told : tie.Need-enum-told
-enum-told c = search needs
+enum-known-format-2 : tie.Need-enum-known-format-2
+enum-known-format-2 c = search needs
 
 extract-requires-2 : tie.Need-extract-requires-2
 extract-requires-2 c κs = search needs
@@ -26,7 +26,7 @@ same-length-2 : tie.Need-same-length-2
 same-length-2 c = search needs
 
 returns-2 : tie.Need-returns-2
-returns-2 c = rw (c .before .before .before .before .enum-told .given .1) (c .before .before .extract2 .ensures)
+returns-2 c = rw (c .before .before .before .before .before .format2 .given .1) (c .before .before .extract2 .ensures)
 
 pub extract-spec : {M : Type 1} → statement M
 extract-spec =
@@ -34,7 +34,7 @@ extract-spec =
     (tie.spec
     enum-known-format
     extract-requires
-    enum-told
+    enum-known-format-2
     extract-requires-2
     same-length
     returns

@@ -7,13 +7,14 @@ use mathlib.Core.Bool.{Bool, true, false, true≢false}
 use mathlib.Core.List.{List, [], _∷_}
 use mathlib.Core.Path.{_≡_, refl, sym, ap, _∙_, subst}
 use lib.ListN.{length, drop, length-drop}
-use Rattle.frame.specs.Framing.{mayFollow}
+use Rattle.frame.specs.Framing.{isOpen}
 use Rattle.frame.specs.Judged.{payloadAt}
 use Rattle.frame.specs.Rule.{output}
 use Rattle.frame.specs.Reader.{holding, called, quietHeld, Holds, frameValues}
 use Rattle.frame.specs.Scan.{judging, Stop, scanned, stopOf, stopBuffer, scanFrom}
 use Rattle.frame.proofs.Lists.{take-rest}
-use Rattle.frame.proofs.Framings.{payload-there, limit-most}
+use Rattle.frame.proofs.Framings.{some-used, payload-there, limit-most}
+use Rattle.frame.proofs.Optional.{open-at}
 use Rattle.frame.proofs.Scanning.{scan-facts, AtFrame, scan-found, scan-undecided}
 use Rattle.frame.proofs.ScanCalls.{scan-quiet-found, scan-quiet-passed}
 use Rattle.frame.proofs.Readers.{from-first, quiet-right}
@@ -49,6 +50,10 @@ at-frame k =
     scan-found true (a .format) (a .s .now) (length (a .s .now)) 0 (le-refl (length (a .s .now))) zero-le
     (scanned (a .format) (a .s .now) r) (is x) _ _ (ap (stopOf (a .format) (drop (r .place) (a .s .now))) (k .before .end .given .1))
 
+-- The frame has a byte.
+some : (k : tie.After-known-told) → 1 ≤ k .before .end .given .0 .0
+some k = let a = start (frame-at k) .args in some-used (a .format) (drop (frame-at k .find .result .place) (a .s .now)) _ _ (at-frame k .is-frame)
+
 -- The frame's bytes are there.
 inside : (k : tie.After-known-told) → frame-at k .find .result .place + k .before .end .given .0 .0 ≤ length (start (frame-at k) .args .s .now)
 inside k =
@@ -82,7 +87,7 @@ hold-requires c κs =
     subst (λ (l : List ℕ). length l ≤ 517) (sym (take-rest (a .s .now) next)) (omega (arith, length-drop next (a .s .now), limit-most (a .format)))
 
 may-follow-requires : tie.Need-may-follow-requires
-may-follow-requires c κs = search needs
+may-follow-requires c κs = (omega (arith, some (c .before)), inside (c .before))
 
 enum-told : tie.Need-enum-told
 enum-told c = search needs
@@ -112,11 +117,11 @@ returns c =
     let next = drop (r .place + used) (a .s .now) in
     let h = payload-there (a .format) at used len (at-frame (c .before .before .before) .is-frame) in
     let stops = ap (stopOf (a .format) at) (end .given .1) in
-    quiet-right (a .format) (quietHeld (a .format) (a .s .now)) (called 0 (output (p ∷ []) (r .place)) next (mayFollow (a .format))) (a .buf .now) _ _
+    quiet-right (a .format) (quietHeld (a .format) (a .s .now)) (called 0 (output (p ∷ []) (r .place)) next (isOpen (a .format) used at)) (a .buf .now) _ _
     (scan-quiet-found (a .format) (a .s .now) (scanned (a .format) (a .s .now) r) used p (is x) stops)
     (record {
       values = ap (frameValues 0 (r .place)) (sym (h .1));
-      state = subst (λ (q : Bool). Holds (holding (a .format) next q) (c .hold .result)) (c .before .may-follow .ensures)
+      state = subst (λ (q : Bool). Holds (holding (a .format) next q) (c .hold .result)) (c .before .may-follow .ensures ∙ open-at (a .format) used (some (c .before .before .before)) (r .place) (a .s .now))
           (subst (λ (l : List ℕ). Holds (holding (a .format) l (c .before .may-follow .result)) (c .hold .result)) (take-rest (a .s .now) (r .place + used))
           (c .hold .ensures));
       buffer = x .find .ensures .1 ∙ ap (λ (s : Stop). stopBuffer s (a .buf .now)) stops;

@@ -6,10 +6,10 @@ use mathlib.Core.Path.{_≡_, ap, ap₂, _∙_, subst, sym}
 use borrow.Author.Needs.{needs}
 use lib.ListN.{length, drop}
 use Rattle.frame.specs.Checks.{frame}
-use Rattle.frame.specs.Framing.{judge, read, mayFollow, absorbed}
+use Rattle.frame.specs.Framing.{judge, read, isOpen, absorbed}
 use Rattle.frame.specs.Judged.{verdictOf, payloadAt}
 use Rattle.frame.specs.Single.{Reads}
-use Rattle.frame.proofs.Framings.{used-there, payload-there, payload-held}
+use Rattle.frame.proofs.Framings.{some-used, used-there, payload-there, payload-held}
 use Rattle.frame.proofs.Lists.{take-rest}
 use Rattle.frame.proofs.Optional.{behindFrame, absorbed-one, read-judged, read-cut, read-refused}
 use Rattle.frame.proofs.Singles.{reads-cut, reads-refused, reads-short, reads-frame}
@@ -85,7 +85,10 @@ unpack-requires c κs =
     (payload-held (a .format) (a .s .now) (k .before .used .given .0 .0) (k .before .used .given .0 .1 .0) (found k), c .before .if1 .left)
 
 may-follow-requires : tie.Need-may-follow-requires
-may-follow-requires c κs = search needs
+may-follow-requires c κs =
+    let k = c .before .before .before .before .before in
+    let a = start (k .before .before .before) .args in
+    (some-used (a .format) (a .s .now) _ _ (found k), used-there (a .format) (a .s .now) _ _ (found k))
 
 sub-absorbed : tie.Need-sub-absorbed
 sub-absorbed c = omega (arith, there c)
@@ -104,7 +107,7 @@ add-used c =
     let k = frame-at (c .before .before) in
     let a = start (k .before .before .before) .args in
     omega
-    (arith, follows c, there (c .before .before), absorbed-one (a .format) (mayFollow (a .format)) (drop (k .before .used .given .0 .0) (a .s .now)))
+    (arith, follows c, there (c .before .before), absorbed-one (a .format) (isOpen (a .format) (k .before .used .given .0 .0) (a .s .now)) (drop (k .before .used .given .0 .0) (a .s .now)))
 
 returns-2 : tie.Need-returns-2
 returns-2 c =

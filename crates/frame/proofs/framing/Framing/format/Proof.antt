@@ -16,7 +16,7 @@ returns : tie.Need-returns
 returns c = ap formatOf (sym (c .enum-told .given .1))
 
 returns-2 : tie.Need-returns-2
-returns-2 c = search needs
+returns-2 c = ap formatOf (sym (c .enum-told2 .given .1))
 
 pub format-spec : {M : Type 1} → statement M
 format-spec = tie.close (tie.spec enum-told enum-told-2 returns returns-2)
