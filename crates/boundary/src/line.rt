@@ -137,7 +137,7 @@ fn reader_in(format: Format, reader: LineReader) -> Reader
     }
 }
 
-// A new reader's state. Where the format is none of 0, 1 and 2 every call with the state is refused.
+// A new reader's state. Where the format is none of 0 to 3 every call with the state is refused.
 #[no_mangle]
 pub extern "C" fn boundary_new_reader(format: u8) -> LineReader
     ensures { λ r. ⌜ r ≡ newFlat format ⌝ }
@@ -150,7 +150,7 @@ pub extern "C" fn boundary_new_reader(format: u8) -> LineReader
     }
 }
 
-// Takes bytes of a chunk until the next frame is settled, as `Reader::feed` does. A state whose format is none of 0, 1 and 2, or whose mark is
+// Takes bytes of a chunk until the next frame is settled, as `Reader::feed` does. A state whose format is none of 0 to 3, or whose mark is
 // neither 0 nor 1, is refused with 255; state and buf stay.
 #[no_mangle]
 pub extern "C" fn boundary_feed(reader: LineReader, chunk: &[u8], buf: &mut [u8]) -> LineFed
@@ -173,7 +173,7 @@ pub extern "C" fn boundary_feed(reader: LineReader, chunk: &[u8], buf: &mut [u8]
     }
 }
 
-// The line was quiet: gives the next frame of the held bytes, as `Reader::quiet` does. A state whose format is none of 0, 1 and 2, or whose
+// The line was quiet: gives the next frame of the held bytes, as `Reader::quiet` does. A state whose format is none of 0 to 3, or whose
 // mark is neither 0 nor 1, is refused with 255; state and buf stay.
 #[no_mangle]
 pub extern "C" fn boundary_quiet(reader: LineReader, buf: &mut [u8]) -> LineFed

@@ -64,7 +64,7 @@ fn writing_of(answer: WriteAnswer) -> FlatWriting
     }
 }
 
-// Reads the frame at the front of s into the front of buf, as `frame::read_frame_as` does. A format that is none of 0, 1 and 2 is refused with 255, and buf
+// Reads the frame at the front of s into the front of buf, as `frame::read_frame_as` does. A format that is none of 0 to 3 is refused with 255, and buf
 // stays.
 #[no_mangle]
 pub extern "C" fn boundary_read_frame(format: u8, s: &[u8], buf: &mut [u8]) -> FlatReading

@@ -30,13 +30,16 @@ pub any-ending : AnyEnding
 unfolding lineOn lineFrom settle quietHeld join ascii hexDigits isDigit digitValue lineEnding afterDigits byte test
 any-ending =
     record {
-      atReturn = refl;
+      atCr = refl;
       cut = refl;
+      stays = refl;
       taken = refl;
       once = refl;
       other = refl;
-      atFeed = refl;
-      behindFeed = refl;
+      atLf = refl;
+      behindLf = refl;
       held = refl;
       atQuiet = refl;
+      none = refl;
+      behindQuiet = refl;
     }

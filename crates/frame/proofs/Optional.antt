@@ -17,7 +17,7 @@ use Rattle.frame.specs.Digit.{isDigit, digitValue}
 use Rattle.frame.specs.Hex.{pairs, sumOf}
 use Rattle.frame.specs.Ascii.{colon, carriageReturn, lineFeed, asciiFront, asciiEnding, hexDigits, digitCount, afterDigits, ascii, endsDigits, lineEnding}
 use Rattle.frame.specs.Framing.{judge, read, withOptional, mayFollow, isOptional, isOpen, absorbed, front, layout, framingOf, limit}
-use Rattle.frame.specs.Claims.{Payload, LayoutReads, endings, EndingsRead, NeverFive, IsLayout, FrameIsLayout, Sized, ReadIsSized}
+use Rattle.frame.specs.Claims.{Payload, LayoutReads, endings, Longest, EndingsRead, NeverFive, IsLayout, FrameIsLayout, Sized, ReadIsSized}
 use Rattle.frame.specs.declared.framing.Framing.the-variants.{Binary as BinaryFraming, Ascii as AsciiFraming}
 use Rattle.frame.specs.declared.framing.Footer.the-variants.{Optional, Required}
 use Rattle.frame.specs.declared.framing.Ending.the-variants.{CrLf, Any}
@@ -54,11 +54,9 @@ pub absorbed-front : (m : Format) (follows : Bool) (b : ℕ) (s more : List ℕ)
 absorbed-front m false b s more = refl
 absorbed-front m true b s more = refl
 
--- Nor is what follows, where the first byte is there, or it does not begin with an optional byte.
-absorbed-same :
-    (m : Format) (follows : Bool) (s more : List ℕ) → (length s ≡ 0 → absorbed m follows more ≡ 0) →
-    absorbed m follows (s ++ more) ≡ absorbed m follows s
-absorbed-same m follows [] more plain = plain refl ∙ sym (absorbed-nil m follows)
+-- Nor is what follows, where it does not begin with an optional byte.
+absorbed-same : (m : Format) (follows : Bool) (s more : List ℕ) → absorbed m follows more ≡ 0 → absorbed m follows (s ++ more) ≡ absorbed m follows s
+absorbed-same m follows [] more plain = plain ∙ sym (absorbed-nil m follows)
 absorbed-same m follows (b ∷ s) more plain = absorbed-front m follows b (s ++ more) s
 
 -- Whether an optional byte may follow a frame goes by the frame's own bytes.
@@ -115,15 +113,15 @@ module _ (m : Format) (s : List ℕ) where
   pub no-frame-read : NoFrame (judge m s) → NoFrame (read m s)
   no-frame-read h = no-frame-with (judge m s) h
 
--- A frame is read the same where more bytes stand behind it than were judged, or what follows does not begin with an optional byte.
+-- A frame is read the same where what follows does not begin with an optional byte.
 pub read-stands :
-    (m : Format) (s more : List ℕ) (used : ℕ) (p : List ℕ) → judge m s ≡ frame used p → (used ≡ length s → absorbed m (isOpen m used s) more ≡ 0) →
+    (m : Format) (s more : List ℕ) (used : ℕ) (p : List ℕ) → judge m s ≡ frame used p → absorbed m (isOpen m used s) more ≡ 0 →
     read m (s ++ more) ≡ read m s
 read-stands m s more used p e plain =
     let h : Sized m s used = frame-sized m s p used e in
     let alike : behindFrame m (s ++ more) used ≡ behindFrame m s used =
     ap₂ (absorbed m) (open-append m used (h .some) s more (h .there)) (drop-append-le used s more (h .there))
-    ∙ absorbed-same m (isOpen m used s) (drop used s) more (λ l. plain (omega (arith, h .there, length-drop used s))) in
+    ∙ absorbed-same m (isOpen m used s) (drop used s) more plain in
     read-judged m (s ++ more) used p (judge-stands m s more (frame used p) tt e)
     ∙ ap (λ (k : ℕ). frame (used + k) p) alike
     ∙ sym (read-judged m s used p e)
@@ -216,21 +214,16 @@ layout-reads (Ascii Any) p more h =
     ∙ closed-reads p (lineFeed ∷ more) carriageReturn h refl
     ∙ ap (λ (k : ℕ). frame k p) (omega (arith, length-closed p carriageReturn, length-append (asciiFront p) asciiEnding))
 
--- The layout alone.
-layout-alone : (m : Format) (p : List ℕ) → Payload p → read m (layout (framingOf m) p) ≡ frame (length (layout (framingOf m) p)) p
-layout-alone m p h = rw append-nil at (layout-reads m p [] h)
-
--- A character that ends digits alone.
-closed-alone : (p : List ℕ) (c : ℕ) → Payload p → endsDigits Any c ≡ true → read (Ascii Any) (closed p c) ≡ frame (length (closed p c)) p
-closed-alone p c h e =
-    rw append-nil at (closed-reads p [] c h e)
-    ∙ ap (λ (k : ℕ). frame (length (closed p c) + k) p) (absorbed-nil (Ascii Any) (eqb c carriageReturn))
-    ∙ ap (λ (k : ℕ). frame k p) (add-zero (length (closed p c)))
-
--- The front alone.
-front-alone : (p : List ℕ) → Payload p → read (Binary Optional) (binaryFront p ++ []) ≡ frame (length (binaryFront p ++ [])) p
-front-alone p h =
-    front-reads p [] h ∙ ap (λ (k : ℕ). frame k p) (add-zero (length (binaryFront p)) ∙ ap length (sym (append-nil (binaryFront p))))
+-- Where the first byte of what follows does not make an ending longer, none is absorbed.
+not-longer :
+    (m : Format) (b : ℕ) → ((x : ℕ) → isOptional m x ≡ true → x ≡ b) → (short more : List ℕ) → List·Memᴰ (short ++ (b ∷ [])) (endings m) →
+    Longest m short more → absorbed m true more ≡ 0
+not-longer m b is short [] longer l = refl
+not-longer m b is short (x ∷ more) longer l = by (isOptional m x) refl
+  where
+    by : (q : Bool) → isOptional m x ≡ q → absorbed m true (x ∷ more) ≡ 0
+    by true q = absurd (l x more refl (subst (λ (y : ℕ). List·Memᴰ (short ++ (y ∷ [])) (endings m)) (sym (is x q)) longer))
+    by false q = ap (λ (y : Bool). cond y 1 0) q
 
 -- What holds of each element of a list holds of any.
 module _ (P : List ℕ → Type 0) {x y : List ℕ} where
@@ -240,27 +233,42 @@ module _ (P : List ℕ → Type 0) {x y : List ℕ} where
   of-more : {l : List (List ℕ)} → List·Memᴰ x (y ∷ l) → P y → (List·Memᴰ x l → P x) → P x
   of-more h p k = ⊎-elim (λ e. subst P (sym e) p) k (List·Memᴰ·cases-cons h)
 
--- A frame with this ending is read, where nothing follows.
-abbrev EndedReads : Format → List ℕ → List ℕ → Type 0
-EndedReads m p e = read m (front (framingOf m) p ++ e) ≡ frame (length (front (framingOf m) p ++ e)) p
+-- A frame with this ending is read, where what follows does not make it longer.
+abbrev EndedReads : Format → List ℕ → List ℕ → List ℕ → Type 0
+EndedReads m p more e =
+    Longest m e more → let whole : List ℕ = front (framingOf m) p ++ e in read m (whole ++ more) ≡ frame (length whole) p
 
-endings-alone : (m : Format) (p e : List ℕ) → Payload p → List·Memᴰ e (endings m) → EndedReads m p e
-endings-alone (Binary Optional) p e h k =
-    of-more (EndedReads (Binary Optional) p) k (layout-alone (Binary Optional) p h) (λ l. of-one (EndedReads (Binary Optional) p) l (front-alone p h))
-endings-alone (Binary Required) p e h k = of-one (EndedReads (Binary Required) p) k (layout-alone (Binary Required) p h)
-endings-alone (Ascii CrLf) p e h k = of-one (EndedReads (Ascii CrLf) p) k (layout-alone (Ascii CrLf) p h)
-endings-alone (Ascii Any) p e h k =
-    of-more (EndedReads (Ascii Any) p) k (layout-alone (Ascii Any) p h)
-    (λ l. of-more (EndedReads (Ascii Any) p) l (closed-alone p carriageReturn h refl)
-    (λ j. of-one (EndedReads (Ascii Any) p) j (closed-alone p lineFeed h refl)))
+-- The front alone.
+front-ends : (p more : List ℕ) → Payload p → EndedReads (Binary Optional) p more []
+front-ends p more h l =
+    let all : binaryFront p ++ [] ≡ binaryFront p = append-nil (binaryFront p) in
+    ap (λ (t : List ℕ). read (Binary Optional) (t ++ more)) all
+    ∙ front-reads p more h
+    ∙ ap (λ (k : ℕ). frame (length (binaryFront p) + k) p)
+    (not-longer (Binary Optional) footerByte (λ x q. eqb-true x footerByte q) [] more (List·Memᴰ·head refl) l)
+    ∙ ap (λ (k : ℕ). frame k p) (add-zero (length (binaryFront p)) ∙ ap length (sym all))
 
--- Nor does it matter what follows, but for an optional byte.
+-- CR alone, and LF alone.
+cr-ends : (p more : List ℕ) → Payload p → EndedReads (Ascii Any) p more (carriageReturn ∷ [])
+cr-ends p more h l =
+    closed-reads p more carriageReturn h refl
+    ∙ ap (λ (k : ℕ). frame (length (closed p carriageReturn) + k) p)
+    (not-longer (Ascii Any) lineFeed (λ x q. eqb-true x lineFeed q) (carriageReturn ∷ []) more (List·Memᴰ·head refl) l)
+    ∙ ap (λ (k : ℕ). frame k p) (add-zero (length (closed p carriageReturn)))
+
+lf-ends : (p more : List ℕ) → Payload p → EndedReads (Ascii Any) p more (lineFeed ∷ [])
+lf-ends p more h l = closed-reads p more lineFeed h refl ∙ ap (λ (k : ℕ). frame k p) (add-zero (length (closed p lineFeed)))
+
+-- A frame with any of its endings.
 pub endings-read : (m : Format) → EndingsRead m
-endings-read m p e more h k plain =
-    let whole : List ℕ = front (framingOf m) p ++ e in
-    let alone : read m whole ≡ frame (length whole) p = endings-alone m p e h k in
-    let (judged, is, size) = read-frame m whole (length whole) p alone in
-    read-stands m whole more judged p is (λ all. ap (λ (n : ℕ). absorbed m (isOpen m n whole) more) all ∙ plain) ∙ alone
+endings-read (Binary Optional) p e more h k =
+    of-more (EndedReads (Binary Optional) p more) k (λ _. layout-reads (Binary Optional) p more h)
+    (λ l. of-one (EndedReads (Binary Optional) p more) l (front-ends p more h))
+endings-read (Binary Required) p e more h k = of-one (EndedReads (Binary Required) p more) k (λ _. layout-reads (Binary Required) p more h)
+endings-read (Ascii CrLf) p e more h k = of-one (EndedReads (Ascii CrLf) p more) k (λ _. layout-reads (Ascii CrLf) p more h)
+endings-read (Ascii Any) p e more h k =
+    of-more (EndedReads (Ascii Any) p more) k (λ _. layout-reads (Ascii Any) p more h)
+    (λ l. of-more (EndedReads (Ascii Any) p more) l (cr-ends p more h) (λ j. of-one (EndedReads (Ascii Any) p more) j (lf-ends p more h)))
 
 -- The front and an ending stand in front of s.
 layout-with :
@@ -412,10 +420,8 @@ refused-from m s (refused i k) judged n e = e
 refused-from m s (frame used p) judged n e = absurd (refused≢frame judged n (used + behindFrame m s used) p (sym e))
 
 -- Where the footer is optional, and under any ending, 5 is never given.
-pub five-never : (m : Format) → NeverFive m
-five-never (Binary Optional) last h s judged e =
-    never-run 5 (binary whole) s never-five judged (refused-from (Binary Optional) s (judge (Binary Optional) s) judged 5 e)
-five-never (Binary Required) last h s judged e = false≢true h
-five-never (Ascii CrLf) last h s judged e = false≢true h
-five-never (Ascii Any) last h s judged e =
-    never-run 5 (ascii (lineEnding Any)) s never-five-any judged (refused-from (Ascii Any) s (judge (Ascii Any) s) judged 5 e)
+pub five-never : NeverFive
+five-never = (
+  λ s judged e. never-run 5 (binary whole) s never-five judged (refused-from (Binary Optional) s (judge (Binary Optional) s) judged 5 e),
+  λ s judged e. never-run 5 (ascii (lineEnding Any)) s never-five-any judged (refused-from (Ascii Any) s (judge (Ascii Any) s) judged 5 e),
+)

@@ -20,8 +20,8 @@ use Rattle.frame.specs.Elements.{All}
 use Rattle.frame.specs.Recovery.{Good, Stretch, none, another, starts, PairsBegin}
 use Rattle.frame.specs.RecoveryExamples.{response, blank, success, overlapped, LostAndBack}
 use Rattle.frame.specs.RecoveryExamples.{holdsStart, completes, unguarded, shortStart, lostFrame, ProvisoNeeded}
-use Rattle.frame.specs.RecoveryExamples.{bare, mixed, MixedEndings, FooterRequired, asciiFrame, four, AsciiBack}
-use Rattle.frame.specs.RecoveryExamples.{withReturn, withFeed, MixedLines, StrictLines, FeedJudges}
+use Rattle.frame.specs.RecoveryExamples.{bare, mixed, MixedFooters, FooterRequired, asciiFrame, four, AsciiBack}
+use Rattle.frame.specs.RecoveryExamples.{endedByCr, endedByLf, MixedLines, StrictLines, LfJudges}
 use Rattle.frame.specs.declared.framing.Footer.{Footer}
 use Rattle.frame.specs.declared.framing.Footer.the-variants.{Optional, Required}
 use Rattle.frame.specs.declared.framing.Ending.{Ending}
@@ -138,9 +138,9 @@ proviso-needed Required =
     }
 
 -- Good frames with the footer and without it, mixed.
-pub mixed-endings : MixedEndings
+pub mixed-footers : MixedFooters
 unfolding rule places outFrom join binary body footer byte test word bytes flatten
-mixed-endings =
+mixed-footers =
     let without : Good (Binary Optional) (bare response) = record { payload = success; reads = refl } in
     record {
       good =
@@ -173,23 +173,23 @@ ascii-back Any = record { good = another (record { payload = four; reads = refl 
 pub mixed-lines-back : MixedLines
 unfolding rule places outFrom join ascii hexDigits isDigit digitValue lineEnding lineEnd afterDigits byte test flatten
 mixed-lines-back =
-    let return : Good (Ascii Any) withReturn = record { payload = four; reads = refl } in
-    let feed : Good (Ascii Any) withFeed = record { payload = four; reads = refl } in
+    let cr : Good (Ascii Any) endedByCr = record { payload = four; reads = refl } in
+    let lf : Good (Ascii Any) endedByLf = record { payload = four; reads = refl } in
     let both : Good (Ascii Any) asciiFrame = record { payload = four; reads = refl } in
     record {
-      good = another return (another both (another feed (another feed (another return (another both none)))));
+      good = another cr (another both (another lf (another lf (another cr (another both none)))));
       kept = refl;
-      doubledFeed = refl;
-      secondFeed = refl;
-      doubledReturn = refl;
+      doubledLf = refl;
+      secondLf = refl;
+      doubledCr = refl;
     }
 
 -- Under the strict ending they are refused.
 pub strict-lines : StrictLines
 unfolding rule places outFrom join ascii hexDigits isDigit digitValue lineEnding lineEnd afterDigits byte test
-strict-lines = record { cutShort = refl; before = refl; feed = refl; frames = refl }
+strict-lines = record { alone = refl; before = refl; atLf = refl; frames = refl }
 
 -- LF gives 3 and 4 as CR does.
-pub feed-judges : FeedJudges
+pub lf-judges : LfJudges
 unfolding ascii hexDigits isDigit digitValue lineEnding afterDigits byte test
-feed-judges = record { odd = refl; few = refl; sum = refl; sumAtReturn = refl; other = refl }
+lf-judges = record { odd = refl; few = refl; sum = refl; sumAtCr = refl; other = refl }

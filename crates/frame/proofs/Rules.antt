@@ -237,7 +237,7 @@ module _ (f : Format) (more : List ℕ) (breaks : (b : ℕ) (s : List ℕ) → j
       (rule-noise f place b (s ++ more) (no-frame-read f ((b ∷ s) ++ more) (subst NoFrame (sym (judge-stands f (b ∷ s) more (refused judged n) tt e)) tt)), zero-le)
   split-at place b s (frame used p) e =
       let here : read f (b ∷ s) ≡ frame (used + behindFrame f (b ∷ s) used) p = read-judged f (b ∷ s) used p e in
-      let same : read f ((b ∷ s) ++ more) ≡ read f (b ∷ s) = read-stands f (b ∷ s) more used p e (λ _. plain (isOpen f used (b ∷ s))) in
+      let same : read f ((b ∷ s) ++ more) ≡ read f (b ∷ s) = read-stands f (b ∷ s) more used p e (plain (isOpen f used (b ∷ s))) in
       let r = read-sized f (b ∷ s) p (used + behindFrame f (b ∷ s) used) here in
       let inside : pred (used + behindFrame f (b ∷ s) used) ≤ length s = omega (arith, r .some, r .there) in
       (ap (λ (v : Verdict). join (outAt place v) (ruleFrom f (suc place) (passAfter v) (s ++ more))) same, rw here inside)

@@ -65,7 +65,7 @@ module _ (f : Format) where
       {g : List ℕ} (good : Good f g) (more : List ℕ) → ((follows : Bool) → absorbed f follows more ≡ 0) → read f (g ++ more) ≡ frame (length g) (good .payload)
   good-reads {g} good more plain =
       let (judged, is, size) = read-frame f g (length g) (good .payload) (good .reads) in
-      read-stands f g more judged (good .payload) is (λ _. plain (isOpen f judged g)) ∙ good .reads
+      read-stands f g more judged (good .payload) is (plain (isOpen f judged g)) ∙ good .reads
 
   -- The rule over a good frame and what follows it.
   pub rule-good :

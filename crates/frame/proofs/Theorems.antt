@@ -10,7 +10,7 @@ use Rattle.frame.specs.Draining.{LineDrains, NeedsMoreIsDrained, DrainFo
 use Rattle.frame.specs.Draining.{FeedReports, QuietReports, ViewReports, DrainIsSized, RuleIsSized}
 use Rattle.frame.specs.Driving.{CanDrive, DrivesAreShort, StateNeverRefused, FeedStaysInLimit, QuietStaysInLimit, EndsFresh}
 use Rattle.frame.specs.MarkExamples.{NextCallTakesIt, OtherFormats, HeldBehindTheFrame, QuietEndsIt, AnyEnding}
-use Rattle.frame.specs.RecoveryExamples.{LostAndBack, ProvisoNeeded, MixedEndings, FooterRequired, AsciiBack, MixedLines, StrictLines, FeedJudges}
+use Rattle.frame.specs.RecoveryExamples.{LostAndBack, ProvisoNeeded, MixedFooters, FooterRequired, AsciiBack, MixedLines, StrictLines, LfJudges}
 use Rattle.frame.specs.declared.framing.Footer.{Footer}
 use Rattle.frame.specs.declared.framing.Ending.{Ending}
 use Rattle.frame.specs.declared.framing.Format.{Format}
@@ -38,7 +38,7 @@ layout-reads = optional.layout-reads
 pub endings-read : (m : Format) → EndingsRead m
 endings-read = optional.endings-read
 
-pub never-five : (m : Format) → NeverFive m
+pub never-five : NeverFive
 never-five = optional.five-never
 
 pub frame-is-layout : (m : Format) → FrameIsLayout m
@@ -158,8 +158,8 @@ lost-and-back = recovery-examples.lost-and-back
 pub proviso-needed : (footer : Footer) → ProvisoNeeded footer
 proviso-needed = recovery-examples.proviso-needed
 
-pub mixed-endings : MixedEndings
-mixed-endings = recovery-examples.mixed-endings
+pub mixed-footers : MixedFooters
+mixed-footers = recovery-examples.mixed-footers
 
 pub footer-required : FooterRequired
 footer-required = recovery-examples.footer-required
@@ -185,8 +185,8 @@ mixed-lines = recovery-examples.mixed-lines-back
 pub strict-lines : StrictLines
 strict-lines = recovery-examples.strict-lines
 
-pub feed-judges : FeedJudges
-feed-judges = recovery-examples.feed-judges
+pub lf-judges : LfJudges
+lf-judges = recovery-examples.lf-judges
 
 pub any-ending : AnyEnding
 any-ending = mark-examples.any-ending

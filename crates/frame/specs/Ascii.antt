@@ -1,5 +1,6 @@
 -- ASCII framing. Document 01, "Two framings": a colon; the payload and one checksum byte, each as two characters of 0-9 A-F;
--- CR LF. The sum of payload and checksum is 0 modulo 256. Document 02, CR 9: a reader may also take any ending, CR or LF.
+-- CR LF. The sum of payload and checksum is 0 modulo 256. Document 02, CR 9: a reader may also take any
+-- ending: CR, LF or CR LF.
 use Prim.Native.Nat.{ℕ, zero, suc, _-_, _%_}
 use mathlib.Core.List.{List, [], _∷_, _++_, dropLast}
 use mathlib.Core.Bool.{Bool, cond, _&&_, _||_}
@@ -19,7 +20,7 @@ colon = 0x3A
 abbrev pub carriageReturn : ℕ
 carriageReturn = 0x0D
 
--- The last.
+-- The last character of that ending.
 abbrev pub lineFeed : ℕ
 lineFeed = 0x0A
 
@@ -66,6 +67,7 @@ abbrev pub behindDigits : Ending → List ℕ → Checks
 behindDigits CrLf p = lineEnd p
 behindDigits Any p = whole p
 
--- The ending, at the first character that is no digit: any other than those is refusal 6; at them the digits are judged; then what stands behind.
+-- The ending, at the first character c that is no digit: where c does not end digits it is refusal 6; where it does they are judged, and then what stands
+-- behind it.
 unfoldable pub lineEnding : Ending → List ℕ → ℕ → Checks
 lineEnding e ds c = test (endsDigits e c) 6 (afterDigits ds (behindDigits e))

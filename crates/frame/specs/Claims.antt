@@ -1,5 +1,5 @@
 -- What is claimed of single frames, of the leftmost rule, of line calls and of lists of calls, in that order; the claims on damage stand in Recovery.antt.
--- proofs/Theorems.antt proves each claim, one that takes a format for every format.
+-- proofs/Theorems.antt proves each claim, one that takes a format, a footer or an ending for every one.
 use Prim.Native.Nat.{ℕ, _+_, _≤_, _<_}
 use mathlib.Core.Path.{_≡_}
 use mathlib.Core.List.{List, [], _∷_, _++_, map, List·Memᴰ}
@@ -10,7 +10,7 @@ use Rattle.frame.specs.Checks.{Verdict, cut, refused, frame}
 use Rattle.frame.specs.Hex.{sumOf}
 use Rattle.frame.specs.Binary.{binaryEnding}
 use Rattle.frame.specs.Ascii.{asciiEnding, carriageReturn, lineFeed}
-use Rattle.frame.specs.Framing.{judge, read, mayFollow, isOpen, absorbed, front, layout, framingOf, limit}
+use Rattle.frame.specs.Framing.{judge, read, mayFollow, front, layout, framingOf, limit}
 use Rattle.frame.specs.Rule.{Output, Found, rule, payloads}
 use Rattle.frame.specs.Reader.{State, holding, Called, line, quiet, newReader, feedValuesOf, Feeds}
 use Rattle.frame.specs.View.{inside, Views, Stands}
@@ -42,17 +42,23 @@ endings (Binary Required) = binaryEnding ∷ []
 endings (Ascii CrLf) = asciiEnding ∷ []
 endings (Ascii Any) = asciiEnding ∷ (carriageReturn ∷ []) ∷ (lineFeed ∷ []) ∷ []
 
--- The front of a frame and any of its endings are read as a frame of just that length with just that payload, whatever bytes follow, but for an optional one
--- where the frame's last byte lets it follow.
+-- The first byte of `more`, if there is one, does not make this ending a longer one of the format.
+abbrev pub Longest : Format → List ℕ → List ℕ → Type 0
+Longest m ending more = (b : ℕ) (rest : List ℕ) → more ≡ b ∷ rest → List·Memᴰ (ending ++ (b ∷ [])) (endings m) → ⊥
+
+-- The front of a frame and any of its endings, where what follows does not make that longer, are read as a frame of just that length with just that payload.
 abbrev pub EndingsRead : Format → Type 0
 EndingsRead m =
-    (p ending more : List ℕ) → Payload p → List·Memᴰ ending (endings m) →
-    let whole : List ℕ = front (framingOf m) p ++ ending in
-    absorbed m (isOpen m (length whole) whole) more ≡ 0 → read m (whole ++ more) ≡ frame (length whole) p
+    (p ending more : List ℕ) → Payload p → List·Memᴰ ending (endings m) → Longest m ending more →
+    let whole : List ℕ = front (framingOf m) p ++ ending in read m (whole ++ more) ≡ frame (length whole) p
 
--- Document 02, CR 2 and 9: where the footer is optional, and under any ending, 5 is never given; these are the formats with an optional byte.
-abbrev pub NeverFive : Format → Type 0
-NeverFive m = (last : ℕ) → mayFollow m last ≡ true → (s : List ℕ) (judged : ℕ) → read m s ≡ refused judged 5 → ⊥
+-- No bytes are refused with the number n.
+abbrev pub NeverGiven : ℕ → Format → Type 0
+NeverGiven n m = (s : List ℕ) (judged : ℕ) → read m s ≡ refused judged n → ⊥
+
+-- Document 02, CR 2 and 9: where the footer is optional, and under any ending, 5 is never given.
+abbrev pub NeverFive : Type 0
+NeverFive = NeverGiven 5 (Binary Optional) × NeverGiven 5 (Ascii Any)
 
 -- The bytes used of s are the front of a frame with this payload and an ending.
 pub record IsLayout (m : Format) (s : List ℕ) (used : ℕ) (p : List ℕ) : Type 0 where

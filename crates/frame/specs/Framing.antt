@@ -53,22 +53,22 @@ limit (Ascii ending) = 517
 abbrev pub judge : Format → List ℕ → Verdict
 judge m s = run (checks m) s
 
--- A byte may follow a frame that the checks decide, and belong to it, by the frame's last byte. Document 02, CR 2: where the footer is optional, behind any
--- frame; CR 9: under any ending, behind a CR.
+-- Behind a frame that the checks decide an optional byte may follow, which belongs to it. Whether it may is told by the format and the last byte that was
+-- judged. Document 02, CR 2: where the footer is optional, it may follow every frame; CR 9: under any ending, one that ended with CR.
 abbrev pub mayFollow : Format → ℕ → Bool
 mayFollow (Binary Optional) last = true
 mayFollow (Binary Required) last = false
 mayFollow (Ascii CrLf) last = false
 mayFollow (Ascii Any) last = eqb last carriageReturn
 
--- That byte is 04, or LF.
+-- The optional byte is 04, in ASCII framing LF.
 abbrev pub isOptional : Format → ℕ → Bool
 isOptional (Binary Optional) b = eqb b footerByte
 isOptional (Binary Required) b = false
 isOptional (Ascii CrLf) b = false
 isOptional (Ascii Any) b = eqb b lineFeed
 
--- Whether it may follow the first `used` bytes of s, a frame.
+-- A frame is called open where an optional byte may follow it: here the frame that was judged of the first `used` bytes of s.
 abbrev pub isOpen : Format → ℕ → List ℕ → Bool
 isOpen m used s = mayFollow m (getD s (used - 1) 0)
 
@@ -78,7 +78,7 @@ absorbed m false s = 0
 absorbed m true [] = 0
 absorbed m true (b ∷ s) = cond (isOptional m b) 1 0
 
--- Without them.
+-- The bytes of s without them.
 abbrev pub behindOptional : Format → Bool → List ℕ → List ℕ
 behindOptional m follows s = drop (absorbed m follows s) s
 

@@ -5,8 +5,8 @@ use mathlib.Core.List.{List, [], _∷_, _++_}
 use mathlib.Core.Bool.{true, false}
 use Prim.Native.Nat.{ℕ}
 use Rattle.frame.specs.Rule.{output, nothing, foundAt, rule}
-use Rattle.frame.specs.Reader.{State, holding, called, line, quiet}
-use Rattle.frame.specs.RecoveryExamples.{response, success, bare, asciiFrame, withReturn, withFeed, four}
+use Rattle.frame.specs.Reader.{State, holding, called, line, quiet, after}
+use Rattle.frame.specs.RecoveryExamples.{response, success, bare, asciiFrame, endedByCr, endedByLf, four}
 use Rattle.frame.specs.declared.framing.Footer.the-variants.{Optional, Required}
 use Rattle.frame.specs.declared.framing.Ending.the-variants.{CrLf, Any}
 use Rattle.frame.specs.declared.framing.Format.the-variants.{Binary, Ascii}
@@ -27,8 +27,8 @@ pub record NextCallTakesIt : Type 0 where
   pub once : line (marked []) (0x04 ∷ 0x04 ∷ []) ≡ called 2 (output [] 1) [] false
   pub other : line (marked []) (0x05 ∷ 0x04 ∷ []) ≡ called 2 (output [] 2) [] false
 
--- In a format without an optional byte a mark that was set by hand changes nothing but that it stays where no byte is held or offered (MarkMeansNothing says
--- it of all bytes).
+-- In a format without an optional byte a mark that was set by hand stays where no byte is held or offered; it changes nothing else, which MarkMeansNothing says
+-- of all bytes.
 pub record OtherFormats : Type 0 where
   pub required : line (holding (Binary Required) [] true) (0x04 ∷ []) ≡ called 1 (output [] 1) [] false
   pub ascii : line (holding (Ascii CrLf) [] true) (0x0A ∷ []) ≡ called 1 (output [] 1) [] false
@@ -58,15 +58,25 @@ pub record QuietEndsIt : Type 0 where
   pub none : quiet (marked []) ≡ called 0 nothing [] false
   pub after : line (plain []) (0x04 ∷ []) ≡ called 1 (output [] 1) [] false
 
--- Under any ending, a frame in one chunk or two: the call stops at CR or LF. Behind CR the next call takes an LF, once; behind LF, and behind "empty", an LF
--- is noise.
+-- A reader under any ending that holds these bytes, with the mark and without.
+abbrev pub markedLine : List ℕ → State
+markedLine h = holding (Ascii Any) h true
+
+abbrev pub plainLine : List ℕ → State
+plainLine h = holding (Ascii Any) h false
+
+-- Under any ending, a frame in one chunk or two: the call stops at CR or LF. Behind CR the next call takes an LF, once, and drops one that is held; behind LF,
+-- and behind "empty", an LF is noise.
 pub record AnyEnding : Type 0 where
-  pub atReturn : line (holding (Ascii Any) [] false) asciiFrame ≡ called 12 (output (four ∷ []) 0) [] true
-  pub cut : line (holding (Ascii Any) [] false) withReturn ≡ called 12 (output (four ∷ []) 0) [] true
-  pub taken : line (holding (Ascii Any) [] true) (0x0A ∷ []) ≡ called 1 nothing [] false
-  pub once : line (holding (Ascii Any) [] true) (0x0A ∷ 0x0A ∷ []) ≡ called 2 (output [] 1) [] false
-  pub other : line (holding (Ascii Any) [] true) (0x0D ∷ 0x0A ∷ []) ≡ called 2 (output [] 2) [] false
-  pub atFeed : line (holding (Ascii Any) [] false) (withFeed ++ (0x0A ∷ [])) ≡ called 12 (output (four ∷ []) 0) [] false
-  pub behindFeed : line (holding (Ascii Any) [] false) (0x0A ∷ []) ≡ called 1 (output [] 1) [] false
-  pub held : line (holding (Ascii Any) (0x0A ∷ 0x0A ∷ []) true) [] ≡ called 0 (output [] 1) [] false
-  pub atQuiet : quiet (holding (Ascii Any) (0x0A ∷ 0x0A ∷ []) true) ≡ called 0 (output [] 1) [] false
+  pub atCr : line (plainLine []) asciiFrame ≡ called 12 (output (four ∷ []) 0) [] true
+  pub cut : line (plainLine []) endedByCr ≡ called 12 (output (four ∷ []) 0) [] true
+  pub stays : line (markedLine []) [] ≡ called 0 nothing [] true
+  pub taken : line (markedLine []) (0x0A ∷ []) ≡ called 1 nothing [] false
+  pub once : line (markedLine []) (0x0A ∷ 0x0A ∷ []) ≡ called 2 (output [] 1) [] false
+  pub other : line (markedLine []) (0x0D ∷ 0x0A ∷ []) ≡ called 2 (output [] 2) [] false
+  pub atLf : line (plainLine []) (endedByLf ++ (0x0A ∷ [])) ≡ called 12 (output (four ∷ []) 0) [] false
+  pub behindLf : line (plainLine []) (0x0A ∷ []) ≡ called 1 (output [] 1) [] false
+  pub held : line (markedLine (0x0A ∷ 0x0A ∷ [])) [] ≡ called 0 (output [] 1) [] false
+  pub atQuiet : quiet (markedLine (0x0A ∷ 0x0A ∷ [])) ≡ called 0 (output [] 1) [] false
+  pub none : quiet (markedLine []) ≡ called 0 nothing [] false
+  pub behindQuiet : line (after (markedLine []) (quiet (markedLine []))) (0x0A ∷ []) ≡ called 1 (output [] 1) [] false

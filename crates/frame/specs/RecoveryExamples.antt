@@ -98,7 +98,7 @@ mixedStart = 0xA5 ∷ 0x5A ∷ 0x80 ∷ 0x22 ∷ []
 
 -- Where the footer is optional: a start that fails takes no good frame with it; one that is completed takes four, with the fourth one's
 -- footer, and the two behind them come back.
-pub record MixedEndings : Type 0 where
+pub record MixedFooters : Type 0 where
   pub good : Stretch (Binary Optional) mixed
   pub pairs : PairsBegin mixed
   pub kept :
@@ -118,7 +118,7 @@ pub record FooterRequired : Type 0 where
   pub before : read (Binary Required) (bare response ++ response) ≡ refused 10 5
   pub frames : rule (Binary Required) (bare response ++ response) ≡ output (responseAt 9 ∷ []) 9
 
--- In ASCII framing, a start cut short by the next: `:0001` is noise, and `:00010203FA` with CR LF comes back; under either ending.
+-- In ASCII framing, a start `:0001` that the next one cuts short, and the frame `:00010203FA` with CR LF.
 abbrev pub cutShort : List ℕ
 cutShort = 0x3A ∷ 0x30 ∷ 0x30 ∷ 0x30 ∷ 0x31 ∷ []
 
@@ -129,20 +129,21 @@ asciiFrame = 0x3A ∷ 0x30 ∷ 0x30 ∷ 0x30 ∷ 0x31 ∷ 0x30 ∷ 0x32 ∷ 0x30
 abbrev pub four : List ℕ
 four = 0x00 ∷ 0x01 ∷ 0x02 ∷ 0x03 ∷ []
 
+-- The start is noise, and the frame comes back; under either ending.
 pub record AsciiBack (ending : Ending) : Type 0 where
   pub good : Stretch (Ascii ending) (asciiFrame ∷ [])
   pub frames : rule (Ascii ending) (cutShort ++ asciiFrame) ≡ output (foundAt 5 13 four ∷ []) 5
 
 -- The same frame with CR alone, and with LF alone.
-abbrev pub withReturn : List ℕ
-withReturn = dropLast asciiFrame
+abbrev pub endedByCr : List ℕ
+endedByCr = dropLast asciiFrame
 
-abbrev pub withFeed : List ℕ
-withFeed = dropLast withReturn ++ (0x0A ∷ [])
+abbrev pub endedByLf : List ℕ
+endedByLf = dropLast endedByCr ++ (0x0A ∷ [])
 
 -- Six good frames under any ending, mixed.
 abbrev pub mixedLines : List (List ℕ)
-mixedLines = withReturn ∷ asciiFrame ∷ withFeed ∷ withFeed ∷ withReturn ∷ asciiFrame ∷ []
+mixedLines = endedByCr ∷ asciiFrame ∷ endedByLf ∷ endedByLf ∷ endedByCr ∷ asciiFrame ∷ []
 
 -- Under any ending: all come back behind a start cut short. An LF behind the frame's own LF, and a second one behind CR LF, is noise; CR behind CR is too.
 pub record MixedLines : Type 0 where
@@ -152,21 +153,21 @@ pub record MixedLines : Type 0 where
       ≡ output
       (foundAt 5 12 four ∷ foundAt 17 13 four ∷ foundAt 30 12 four ∷ foundAt 42 12 four ∷ foundAt 54 12 four ∷ foundAt 66 13 four ∷ [])
       5
-  pub doubledFeed : rule (Ascii Any) (withFeed ++ (0x0A ∷ withFeed)) ≡ output (foundAt 0 12 four ∷ foundAt 13 12 four ∷ []) 1
-  pub secondFeed : rule (Ascii Any) (asciiFrame ++ (0x0A ∷ [])) ≡ output (foundAt 0 13 four ∷ []) 1
-  pub doubledReturn : rule (Ascii Any) (withReturn ++ (0x0D ∷ 0x0A ∷ [])) ≡ output (foundAt 0 12 four ∷ []) 2
+  pub doubledLf : rule (Ascii Any) (endedByLf ++ (0x0A ∷ endedByLf)) ≡ output (foundAt 0 12 four ∷ foundAt 13 12 four ∷ []) 1
+  pub secondLf : rule (Ascii Any) (asciiFrame ++ (0x0A ∷ [])) ≡ output (foundAt 0 13 four ∷ []) 1
+  pub doubledCr : rule (Ascii Any) (endedByCr ++ (0x0D ∷ 0x0A ∷ [])) ≡ output (foundAt 0 12 four ∷ []) 2
 
 -- Under the strict ending a frame without CR LF is no good frame: with CR it is cut short (2), and before another frame refused (5); with LF it is refused (6).
 pub record StrictLines : Type 0 where
-  pub cutShort : read (Ascii CrLf) withReturn ≡ cut
-  pub before : read (Ascii CrLf) (withReturn ++ asciiFrame) ≡ refused 13 5
-  pub feed : read (Ascii CrLf) withFeed ≡ refused 12 6
-  pub frames : rule (Ascii CrLf) (withReturn ++ (withFeed ++ asciiFrame)) ≡ output (foundAt 24 13 four ∷ []) 24
+  pub alone : read (Ascii CrLf) endedByCr ≡ cut
+  pub before : read (Ascii CrLf) (endedByCr ++ asciiFrame) ≡ refused 13 5
+  pub atLf : read (Ascii CrLf) endedByLf ≡ refused 12 6
+  pub frames : rule (Ascii CrLf) (endedByCr ++ (endedByLf ++ asciiFrame)) ≡ output (foundAt 24 13 four ∷ []) 24
 
 -- Under any ending an LF gives 3 and 4 as a CR does; another character gives 6.
-pub record FeedJudges : Type 0 where
+pub record LfJudges : Type 0 where
   pub odd : read (Ascii Any) (0x3A ∷ 0x30 ∷ 0x30 ∷ 0x30 ∷ 0x30 ∷ 0x30 ∷ 0x0A ∷ []) ≡ refused 7 3
   pub few : read (Ascii Any) (0x3A ∷ 0x30 ∷ 0x30 ∷ 0x0A ∷ []) ≡ refused 4 3
   pub sum : read (Ascii Any) (0x3A ∷ 0x30 ∷ 0x31 ∷ 0x30 ∷ 0x30 ∷ 0x0A ∷ []) ≡ refused 6 4
-  pub sumAtReturn : read (Ascii Any) (0x3A ∷ 0x30 ∷ 0x31 ∷ 0x30 ∷ 0x30 ∷ 0x0D ∷ []) ≡ refused 6 4
+  pub sumAtCr : read (Ascii Any) (0x3A ∷ 0x30 ∷ 0x31 ∷ 0x30 ∷ 0x30 ∷ 0x0D ∷ []) ≡ refused 6 4
   pub other : read (Ascii Any) (0x3A ∷ 0x30 ∷ 0x31 ∷ 0x46 ∷ 0x46 ∷ 0x20 ∷ []) ≡ refused 6 6

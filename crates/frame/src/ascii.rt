@@ -32,7 +32,7 @@ fn ends_digits(ending: Ending, c: u8) -> bool
     }
 }
 
-// Judges the sum of the bytes that the `count` digits behind the colon stand for and, where LF is to follow the character that ends them, what does.
+// Judges the sum of the bytes that the `count` digits behind the colon stand for; under the ending CR LF also the character behind the one that ends them.
 fn judge_end(ending: Ending, s: &[u8], count: usize, total: u32) -> Judged
     requires { ⌜ count ≡ digitRun 515 (drop 1 (now s)) ⌝ }
     requires { ⌜ 4 ≤ count ⌝ }

@@ -73,7 +73,7 @@ pub(crate) fn start_of(format: Format) -> u8
     }
 }
 
-// The longest frame of a framing.
+// The longest frame of a format.
 pub(crate) fn limit_of(format: Format) -> usize
     ensures { λ r. ⌜ r ≡ limit format ⌝ }
 {
@@ -149,7 +149,7 @@ pub(crate) fn judge_complete(end: usize, right: bool, len: usize) -> Judged
 }
 
 // Whether a frame may lack its footer.
-fn may_lack(footer: Footer) -> bool
+fn footer_may_follow(footer: Footer) -> bool
     ensures { λ r. ⌜ ((last : ℕ) → r ≡ mayFollow (Binary footer) last) ⌝ }
 {
     match footer {
@@ -159,7 +159,7 @@ fn may_lack(footer: Footer) -> bool
 }
 
 // Whether an LF may follow a frame that was judged complete with the byte before `end`.
-fn may_feed(ending: Ending, s: &[u8], end: usize) -> bool
+fn lf_may_follow(ending: Ending, s: &[u8], end: usize) -> bool
     requires { ⌜ 1 ≤ end ⌝ }
     requires { ⌜ end ≤ length (now s) ⌝ }
     ensures { λ r. ⌜ r ≡ isOpen (Ascii ending) end (now (s .entry)) ⌝ }
@@ -177,13 +177,13 @@ pub(crate) fn may_follow(format: Format, s: &[u8], end: usize) -> bool
     ensures { λ r. ⌜ r ≡ isOpen format end (now (s .entry)) ⌝ }
 {
     match format {
-        Format::Binary(footer) => may_lack(footer),
-        Format::Ascii(ending) => may_feed(ending, s, end),
+        Format::Binary(footer) => footer_may_follow(footer),
+        Format::Ascii(ending) => lf_may_follow(ending, s, end),
     }
 }
 
 // Whether b is the 04 that may be left out.
-fn is_footer(footer: Footer, b: u8) -> bool
+fn is_optional_footer(footer: Footer, b: u8) -> bool
     ensures { λ r. ⌜ r ≡ isOptional (Binary footer) b ⌝ }
 {
     match footer {
@@ -193,7 +193,7 @@ fn is_footer(footer: Footer, b: u8) -> bool
 }
 
 // Whether b is the LF that may follow a CR.
-fn is_feed(ending: Ending, b: u8) -> bool
+fn is_optional_lf(ending: Ending, b: u8) -> bool
     ensures { λ r. ⌜ r ≡ isOptional (Ascii ending) b ⌝ }
 {
     match ending {
@@ -207,8 +207,8 @@ fn is_optional(format: Format, b: u8) -> bool
     ensures { λ r. ⌜ r ≡ isOptional format b ⌝ }
 {
     match format {
-        Format::Binary(footer) => is_footer(footer, b),
-        Format::Ascii(ending) => is_feed(ending, b),
+        Format::Binary(footer) => is_optional_footer(footer, b),
+        Format::Ascii(ending) => is_optional_lf(ending, b),
     }
 }
 

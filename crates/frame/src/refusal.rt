@@ -11,9 +11,9 @@ pub enum Refusal {
     Length,
     // 4: the checksum is another one.
     Checksum,
-    // 5: the frame's end is another one; in binary framing given only where the footer is required.
+    // 5: the frame's end is another one; given only where the footer is required, and under the ending CR LF.
     Footer,
-    // 6: a character that is neither a digit nor CR.
+    // 6: a character that is neither a digit nor CR nor, under any ending, LF.
     Character,
     // 13: the buffer is too short.
     Buffer,

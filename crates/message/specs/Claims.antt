@@ -1,5 +1,6 @@
 -- What is claimed of messages: that they read back as they were written. Document 00, demand 2, and document 01, "Payloads" and "Refusal numbers"; document
--- 02, CR 1, for those that set up the module, and CR 2: in every format of the framing in which they are written.
+-- 02, CR 1, for those that set up the module, and CR 2 and 9: in every format of the framing in which they are
+-- written.
 -- proofs/Theorems.antt proves each claim.
 use Prim.Native.Nat.{ℕ, _≤_, _<_}
 use mathlib.Core.Path.{_≡_}

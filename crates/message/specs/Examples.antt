@@ -248,11 +248,12 @@ footerRows =
     ∷ row (segment required lateFailure) (call 0 13 4 ((0x11 ∷ []) ∷ []) ∷ call 0 0 2 [] ∷ call 0 0 0 [] ∷ call 0 0 0 [] ∷ [])
     ∷ []
 
--- Line ends (document 02, CR 9): under any ending a frame is complete at CR or LF, and an LF next belongs to one that ended with CR; 3, 4 and 6 are given at LF
--- as at CR, 5 never. The ending CR LF is the default.
+-- A payload of four bytes.
 abbrev fourBytes : List ℕ
 fourBytes = 0x00 ∷ 0x01 ∷ 0x02 ∷ 0x03 ∷ []
 
+-- Line ends (document 02, CR 9): under any ending a frame is complete at CR or LF, and an LF next belongs to one that ended with CR; 3 and 4 are given at LF as
+-- at CR, 6 at any other character, 5 never. The ending CR LF is the default.
 abbrev pub endingRows : List Row
 endingRows =
     reads anyEnding (text ":00010203FA\r\n") 13 fourBytes

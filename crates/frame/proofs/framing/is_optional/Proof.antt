@@ -7,28 +7,28 @@ use Rattle.frame.proofs.framing.is_optional.Tie as tie
 enum-known-format : tie.Need-enum-known-format
 enum-known-format c = search needs
 
-is-footer-requires : tie.Need-is-footer-requires
-is-footer-requires c κs = search needs
+is-optional-footer-requires : tie.Need-is-optional-footer-requires
+is-optional-footer-requires c κs = search needs
 
 enum-known-format-2 : tie.Need-enum-known-format-2
 enum-known-format-2 c = search needs
 
-is-feed-requires : tie.Need-is-feed-requires
-is-feed-requires c κs = search needs
+is-optional-lf-requires : tie.Need-is-optional-lf-requires
+is-optional-lf-requires c κs = search needs
 
 returns : tie.Need-returns
-returns c = rw (c .before .before .format .given .1) (c .is-footer .ensures)
+returns c = rw (c .before .before .format .given .1) (c .is-optional-footer .ensures)
 
 returns-2 : tie.Need-returns-2
-returns-2 c = rw (c .before .before .format2 .given .1) (c .is-feed .ensures)
+returns-2 c = rw (c .before .before .format2 .given .1) (c .is-optional-lf .ensures)
 
 pub is-optional-spec : {M : Type 1} → statement M
 is-optional-spec =
     tie.close
     (tie.spec
     enum-known-format
-    is-footer-requires
+    is-optional-footer-requires
     enum-known-format-2
-    is-feed-requires
+    is-optional-lf-requires
     returns
     returns-2)

@@ -1,4 +1,4 @@
--- `frame::framing::may_feed` meets its contract: each arm is the definition's case.
+-- `frame::framing::lf_may_follow` meets its contract: each arm is the definition's case.
 -- Assumes nothing.
 use Prim.Native.Nat.{_-_}
 use mathlib.Core.Path.{sym, ap}
@@ -7,8 +7,8 @@ use lib.ListN.{getD}
 use Rattle.frame.specs.Framing.{mayFollow}
 use Rattle.frame.specs.declared.framing.Ending.{Ending}
 use Rattle.frame.specs.declared.framing.Format.the-variants.{Ascii}
-use Rattle.frame.proofs.framing.may_feed.Statement.{statement}
-use Rattle.frame.proofs.framing.may_feed.Tie as tie
+use Rattle.frame.proofs.framing.lf_may_follow.Statement.{statement}
+use Rattle.frame.proofs.framing.lf_may_follow.Tie as tie
 
 enum-told : tie.Need-enum-told
 enum-told c = search needs
@@ -30,7 +30,7 @@ returns-2 c =
     let a = c .before .before .before .args in
     ap (λ (ending : Ending). mayFollow (Ascii ending) (getD (a .s .now) (a .end - 1) 0)) (sym (c .before .enum-told2 .given .1))
 
-pub may-feed-spec : {M : Type 1} → statement M
-may-feed-spec =
+pub lf-may-follow-spec : {M : Type 1} → statement M
+lf-may-follow-spec =
     tie.close
     (tie.spec enum-told enum-told-2 sub-result shared-slice-read-result returns returns-2)
