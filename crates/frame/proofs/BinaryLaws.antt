@@ -13,7 +13,7 @@ use lib.ListN.{length, getD, take, drop, length-append, drop-of-length-le}
 use lib.Bits.{bitXor}
 use Rattle.frame.specs.Checks.{Checks, whole, byte, test, word, bytes, frame, behind, run}
 use Rattle.frame.specs.Framing.{layout}
-use Rattle.frame.specs.Binary.{xorFrom, xorOf, bigEndian, binaryFront, binaryEnding, footerByte, footer, ending, lengthWord, body, binary}
+use Rattle.frame.specs.Binary.{xorFrom, xorOf, bigEndian, binaryFront, binaryEnding, footerByte, footer, behindChecksum, lengthWord, body, binary}
 use Rattle.frame.specs.Elements.{Bytes}
 use Rattle.frame.specs.declared.framing.Framing.the-variants.{Binary as BinaryFraming}
 use Rattle.frame.specs.declared.framing.Footer.{Footer}
@@ -183,13 +183,13 @@ module _ (end : List ℕ → Checks) where
         )
 
 -- An ending takes one byte at most.
-pub ending-within : (footer : Footer) (p : List ℕ) → Within 1 (ending footer p)
+pub ending-within : (footer : Footer) (p : List ℕ) → Within 1 (behindChecksum footer p)
 unfolding footer
 ending-within Optional p = within-whole 1 p
 ending-within Required p = within-byte 0 footerByte 5 (whole p) (within-whole 0 p)
 
 -- It hands on the payload.
-pub ending-keeps : (footer : Footer) → Keeps (ending footer)
+pub ending-keeps : (footer : Footer) → Keeps (behindChecksum footer)
 unfolding footer
 ending-keeps Optional q s p used e = took-whole q s p used e .1
 ending-keeps Required q s p used e = keeps-byte footerByte 5 q s p used e
@@ -229,7 +229,7 @@ abbrev pub binaryJudged : Footer → ℕ → ℕ
 binaryJudged Optional n = n + 5
 binaryJudged Required n = n + 6
 
-pub binary-used : (footer : Footer) (s p : List ℕ) (used : ℕ) → run (binary (ending footer)) s ≡ frame used p → used ≡ binaryJudged footer (length p)
+pub binary-used : (footer : Footer) (s p : List ℕ) (used : ℕ) → run (binary (behindChecksum footer)) s ≡ frame used p → used ≡ binaryJudged footer (length p)
 unfolding footer
 binary-used Optional s p used e =
     let h = took-binary whole (ending-keeps Optional) s p used e in

@@ -7,7 +7,7 @@ use mathlib.Core.List.{List}
 use lib.Dec.{lit≤}
 use lib.ListN.{length, take, drop, length-append, length-take, length-drop}
 use Rattle.frame.specs.Checks.{frame}
-use Rattle.frame.specs.Binary.{ending}
+use Rattle.frame.specs.Binary.{behindChecksum}
 use Rattle.frame.specs.Hex.{hex}
 use Rattle.frame.specs.Ascii.{lineEnding}
 use Rattle.frame.specs.Framing.{checks, judge, front, endingBytes, layout, limit}
@@ -35,7 +35,7 @@ length-layout AsciiFraming p = omega (arith, length-append (front AsciiFraming p
 
 -- No way through the checks takes more bytes than the limit.
 pub within-limit : (m : Format) → Within (limit m) (checks m)
-within-limit (Binary footer) = binary-within (ending footer) 1 (ending-within footer)
+within-limit (Binary footer) = binary-within (behindChecksum footer) 1 (ending-within footer)
 within-limit (Ascii ending) = ascii-within (lineEnding ending) 1 (line-within ending)
 
 -- How many characters of an ASCII frame with a payload of n bytes are judged: all but an LF behind its CR under any ending.
@@ -91,7 +91,7 @@ frontLength (Ascii ending) n = 2 * n + 3
 -- The payload of a frame has 1 to 256 bytes, and all of the front that it is in is there.
 fronted : (f : Format) (s p : List ℕ) (used : ℕ) → judge f s ≡ frame used p → PayloadSize p × (frontLength f (length p) ≤ length s)
 fronted (Binary footer) s p used e =
-    let h = took-binary (ending footer) (ending-keeps footer) s p used e in
+    let h = took-binary (behindChecksum footer) (ending-keeps footer) s p used e in
     let long = simp length-append at (ap length (h .ends .split)) in
     ((h .some, h .most), omega arith)
 fronted (Ascii ending) s p used e =

@@ -7,7 +7,7 @@ use mathlib.Core.Bool.{Bool, true, false, cond}
 use lib.Dec.{eqb}
 use lib.ListN.{length}
 use Rattle.frame.specs.Checks.{Checks, next, fails, whole, byte, test, Verdict, cut, refused, frame, behind, run}
-use Rattle.frame.specs.Binary.{binary, ending}
+use Rattle.frame.specs.Binary.{binary, behindChecksum}
 use Rattle.frame.specs.Digit.{isDigit, digitValue}
 use Rattle.frame.specs.Hex.{pairs, sumOf}
 use Rattle.frame.specs.Ascii.{colon, lineFeed, hexDigits, digitCount, afterDigits, ascii, endsDigits, lineEnd, behindDigits, lineEnding}
@@ -162,4 +162,4 @@ pub colon-first : (ending : Ending) (s p : List ℕ) (used : ℕ) → judge (Asc
 colon-first ending = ascii-first (lineEnding ending)
 
 pub pair-first : (footer : Footer) (s p : List ℕ) (used : ℕ) → judge (Binary footer) s ≡ frame used p → (rest : List ℕ) × (s ≡ 0xA5 ∷ 0x5A ∷ rest)
-pair-first footer = binary-first (ending footer)
+pair-first footer = binary-first (behindChecksum footer)

@@ -47,11 +47,11 @@ body end n = bytes n (λ p. byte (xorOf p) 4 (end p))
 unfoldable pub binary : (List ℕ → Checks) → Checks
 binary end = byte 0xA5 1 (byte 0x5A 1 (word (λ w. test (lengthWord w) 3 (body end (w - 0x8000)))))
 
--- The ending of a frame with the payload p, where the footer is required: it is there (5).
+-- The footer of a frame with the payload p is there (5).
 unfoldable pub footer : List ℕ → Checks
 footer p = byte footerByte 5 (whole p)
 
--- Where it is optional, the frame is complete at its checksum.
-abbrev pub ending : Footer → List ℕ → Checks
-ending Optional p = whole p
-ending Required p = footer p
+-- Behind the checksum of such a frame: where the footer is optional, the frame is complete; where it is required, the footer.
+abbrev pub behindChecksum : Footer → List ℕ → Checks
+behindChecksum Optional p = whole p
+behindChecksum Required p = footer p

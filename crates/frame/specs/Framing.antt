@@ -6,7 +6,7 @@ use mathlib.Core.Bool.{Bool, true, false, cond}
 use lib.Dec.{eqb}
 use lib.ListN.{length, getD, drop}
 use Rattle.frame.specs.Checks.{Checks, Verdict, cut, refused, frame, run}
-use Rattle.frame.specs.Binary.{binary, binaryFront, binaryEnding, footerByte, ending}
+use Rattle.frame.specs.Binary.{binary, binaryFront, binaryEnding, footerByte, behindChecksum}
 use Rattle.frame.specs.Ascii.{ascii, asciiFront, asciiEnding, carriageReturn, lineFeed, lineEnding}
 use Rattle.frame.specs.declared.framing.Framing.{Framing}
 use Rattle.frame.specs.declared.framing.Framing.the-variants.{Binary as BinaryFraming, Ascii as AsciiFraming}
@@ -41,7 +41,7 @@ framingOf (Ascii ending) = AsciiFraming
 
 -- The checks of a format.
 abbrev pub checks : Format → Checks
-checks (Binary footer) = binary (ending footer)
+checks (Binary footer) = binary (behindChecksum footer)
 checks (Ascii ending) = ascii (lineEnding ending)
 
 -- The longest frame.

@@ -9,7 +9,7 @@ ghost use Prim.Native.Nat.{_≤_, _<_, _+_};
 ghost use lib.ListN.{length, take, drop};
 ghost use Rattle.frame.specs.declared.framing.Format.the-variants.{Binary};
 ghost use Rattle.frame.specs.declared.framing.Framing.the-variants.{Binary as BinaryFraming};
-ghost use Rattle.frame.specs.Binary.{xorOf, body, ending};
+ghost use Rattle.frame.specs.Binary.{xorOf, body, behindChecksum};
 ghost use Rattle.frame.specs.Checks.{run, behind};
 ghost use Rattle.frame.specs.Framing.{judge, inFront, layout};
 ghost use Rattle.frame.specs.Judged.{verdictOf, handedOut};
@@ -39,7 +39,7 @@ fn wide(b: u8) -> usize
 fn judge_body(footer: Footer, s: &[u8], len: usize) -> Judged
     requires { ⌜ 4 ≤ length (now s) ⌝ }
     requires { ⌜ len ≤ 256 ⌝ }
-    ensures { λ r. ⌜ behind 4 (run (body (ending footer) len) (drop 4 (now (s .entry)))) ≡ verdictOf (Binary footer) (now (s .entry)) r ⌝ }
+    ensures { λ r. ⌜ behind 4 (run (body (behindChecksum footer) len) (drop 4 (now (s .entry)))) ≡ verdictOf (Binary footer) (now (s .entry)) r ⌝ }
 {
     let end = 4 + len;
     if s.len() <= end {

@@ -6,7 +6,7 @@ use mathlib.Core.Logic.{inl, inr}
 use mathlib.Core.Path.{_≡_, ap₂, _∙_}
 use borrow.Author.Needs.{needs}
 use lib.ListN.{getD}
-use Rattle.frame.specs.Binary.{ending}
+use Rattle.frame.specs.Binary.{behindChecksum}
 use Rattle.frame.proofs.BinaryJudge.{judge-empty, judge-first, judge-one, judge-second, judge-short, judge-length, judge-rest}
 use Rattle.frame.proofs.binary.judge.Statement.{statement}
 use Rattle.frame.proofs.binary.judge.Tie as tie
@@ -31,30 +31,30 @@ word-is c = ap₂ (λ (a b : ℕ). a * 256 + b) (c .before .before .wide .ensure
 
 returns : tie.Need-returns
 returns c =
-    judge-empty (ending (c .before .before .args .footer)) (c .before .before .args .s .now) (c .if1 .taken)
+    judge-empty (behindChecksum (c .before .before .args .footer)) (c .before .before .args .s .now) (c .if1 .taken)
 
 shared-slice-read-if2 : tie.Need-shared-slice-read-if2
 shared-slice-read-if2 c = search needs
 
 returns-2 : tie.Need-returns-2
 returns-2 c =
-    judge-first (ending (c .before .before .before .before .args .footer)) (c .before .before .before .before .args .s .now) (omega arith) (c .if2 .taken)
+    judge-first (behindChecksum (c .before .before .before .before .args .footer)) (c .before .before .before .before .args .s .now) (omega arith) (c .if2 .taken)
 
 returns-3 : tie.Need-returns-3
 returns-3 c =
-    judge-one (ending (start (c .before) .args .footer)) (start (c .before) .args .s .now) (c .before .if2 .left) (c .if3 .taken)
+    judge-one (behindChecksum (start (c .before) .args .footer)) (start (c .before) .args .s .now) (c .before .if2 .left) (c .if3 .taken)
 
 shared-slice-read-if4 : tie.Need-shared-slice-read-if4
 shared-slice-read-if4 c = search needs
 
 returns-4 : tie.Need-returns-4
 returns-4 c =
-    judge-second (ending (start (c .before .before .before) .args .footer)) (start (c .before .before .before) .args .s .now) (c .before .before .before .if2 .left) (omega arith) (c .if4 .taken)
+    judge-second (behindChecksum (start (c .before .before .before) .args .footer)) (start (c .before .before .before) .args .s .now) (c .before .before .before .if2 .left) (omega arith) (c .if4 .taken)
 
 returns-5 : tie.Need-returns-5
 returns-5 c =
     let d = first-right (c .before) in
-    judge-short (ending (start d .args .footer)) (start d .args .s .now) (d .if2 .left) (c .before .if4 .left) (omega arith) (c .if5 .taken)
+    judge-short (behindChecksum (start d .args .footer)) (start d .args .s .now) (d .if2 .left) (c .before .if4 .left) (omega arith) (c .if5 .taken)
 
 shared-slice-read-wide : tie.Need-shared-slice-read-wide
 shared-slice-read-wide c = search needs
@@ -81,7 +81,7 @@ returns-6 c =
     let w = c .before in
     let b = both-right w in
     let d = first-right b in
-    judge-length (ending (start d .args .footer)) (start d .args .s .now) (d .if2 .left) (b .if4 .left)
+    judge-length (behindChecksum (start d .args .footer)) (start d .args .s .now) (d .if2 .left) (b .if4 .left)
     (w .before .before .wide .result * 256 + w .wide2 .result) (word-is w) (w .before .before .before .before .if5 .left) (inl (c .if6 .taken))
 
 returns-7 : tie.Need-returns-7
@@ -89,7 +89,7 @@ returns-7 c =
     let w = c .before .before in
     let b = both-right w in
     let d = first-right b in
-    judge-length (ending (start d .args .footer)) (start d .args .s .now) (d .if2 .left) (b .if4 .left)
+    judge-length (behindChecksum (start d .args .footer)) (start d .args .s .now) (d .if2 .left) (b .if4 .left)
     (w .before .before .wide .result * 256 + w .wide2 .result) (word-is w) (w .before .before .before .before .if5 .left) (inr (c .if7 .taken))
 
 sub-judge-body : tie.Need-sub-judge-body
@@ -103,7 +103,7 @@ returns-8 c =
     let w = c .before .before .before in
     let b = both-right w in
     let d = first-right b in
-    judge-rest (ending (start d .args .footer)) (start d .args .s .now) (d .if2 .left) (b .if4 .left)
+    judge-rest (behindChecksum (start d .args .footer)) (start d .args .s .now) (d .if2 .left) (b .if4 .left)
     (w .before .before .wide .result * 256 + w .wide2 .result) (word-is w) (w .before .before .before .before .if5 .left) (c .before .before .if6 .left) (c .before .if7 .left)
     ∙ c .judge-body .ensures
 

@@ -8,7 +8,7 @@ use borrow.Author.Needs.{needs}
 use lib.Dec.{eqb}
 use lib.ListN.{getD, take, drop}
 use Rattle.frame.specs.Checks.{Verdict, behind, run}
-use Rattle.frame.specs.Binary.{xorOf, body, footer, ending}
+use Rattle.frame.specs.Binary.{xorOf, body, footer, behindChecksum}
 use Rattle.frame.specs.declared.framing.Footer.{Footer}
 use Rattle.frame.specs.declared.framing.Format.the-variants.{Binary}
 use Rattle.frame.proofs.BinaryJudge.{body-short}
@@ -30,14 +30,14 @@ summed c =
 abbrev ended : tie.After-xor-of → Footer → Verdict
 ended c footer =
     let a = start c .args in
-    endingAt (ending footer) (take (a .len) (drop 4 (a .s .now))) (a .s .now) (4 + a .len) (eqb (c .xor-of .result) (getD (a .s .now) (4 + a .len) 0))
+    endingAt (behindChecksum footer) (take (a .len) (drop 4 (a .s .now))) (a .s .now) (4 + a .len) (eqb (c .xor-of .result) (getD (a .s .now) (4 + a .len) 0))
 
 -- The ending is left.
 left : (c : tie.After-xor-of) → let a = start c .args in
-    behind 4 (run (body (ending (a .footer)) (a .len)) (drop 4 (a .s .now))) ≡ ended c (a .footer)
+    behind 4 (run (body (behindChecksum (a .footer)) (a .len)) (drop 4 (a .s .now))) ≡ ended c (a .footer)
 left c =
     let a = start c .args in
-    body-ending (ending (a .footer)) (a .s .now) (a .len) (omega arith) _ (ap (λ (n : ℕ). eqb n (getD (a .s .now) (4 + a .len) 0)) (sym (summed c)))
+    body-ending (behindChecksum (a .footer)) (a .s .now) (a .len) (omega arith) _ (ap (λ (n : ℕ). eqb n (getD (a .s .now) (4 + a .len) 0)) (sym (summed c)))
 
 add-end : tie.Need-add-end
 add-end c = search needs
@@ -45,7 +45,7 @@ add-end c = search needs
 returns : tie.Need-returns
 returns c =
     let a = c .before .before .args in
-    body-short (ending (a .footer)) (a .s .now) (a .len) (c .before .before .pre .0) (c .if1 .taken)
+    body-short (behindChecksum (a .footer)) (a .s .now) (a .len) (c .before .before .pre .0) (c .if1 .taken)
 
 sub-xor-of : tie.Need-sub-xor-of
 sub-xor-of c = search needs
