@@ -148,7 +148,7 @@ pub(crate) fn judge_complete(end: usize, right: bool, len: usize) -> Judged
     }
 }
 
-// Whether a frame may lack its footer.
+// Whether a footer may follow a frame that was judged complete.
 fn footer_may_follow(footer: Footer) -> bool
     ensures { λ r. ⌜ ((last : ℕ) → r ≡ mayFollow (Binary footer) last) ⌝ }
 {
