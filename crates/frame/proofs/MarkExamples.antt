@@ -4,7 +4,7 @@ use mathlib.Core.Path.{refl}
 use Rattle.frame.specs.Checks.{byte, test, word, bytes}
 use Rattle.frame.specs.Binary.{binary, body, footer}
 use Rattle.frame.specs.Digit.{isDigit, digitValue}
-use Rattle.frame.specs.Ascii.{hexDigits, lineEnding, afterDigits, ascii}
+use Rattle.frame.specs.Ascii.{hexDigits, lineEnding, lineEnd, afterDigits, ascii}
 use Rattle.frame.specs.Rule.{join, places, outFrom, rule}
 use Rattle.frame.specs.Reader.{settle, lineFrom, lineOn, quietHeld}
 use Rattle.frame.specs.MarkExamples.{NextCallTakesIt, OtherFormats, HeldBehindTheFrame, QuietEndsIt, AnyEnding}
@@ -15,8 +15,8 @@ next-call-takes-it =
     record { stops = refl; cut = refl; stays = refl; taken = refl; once = refl; other = refl }
 
 pub other-formats : OtherFormats
-unfolding lineOn lineFrom settle join binary body footer ascii hexDigits isDigit byte test word bytes
-other-formats = record { required = refl; ascii = refl; stays = refl; unset = refl }
+unfolding lineOn lineFrom settle join binary body footer ascii hexDigits isDigit digitValue lineEnding lineEnd afterDigits byte test word bytes
+other-formats = record { required = refl; ascii = refl; stays = refl; unset = refl; unsetAscii = refl }
 
 pub held-behind-the-frame : HeldBehindTheFrame
 unfolding lineOn lineFrom settle quietHeld join rule places outFrom binary body footer byte test word bytes

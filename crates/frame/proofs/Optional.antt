@@ -421,7 +421,10 @@ refused-from m s (frame used p) judged n e = absurd (refused≢frame judged n (u
 
 -- Where the footer is optional, and under any ending, 5 is never given.
 pub five-never : NeverFive
-five-never = (
-  λ s judged e. never-run 5 (binary whole) s never-five judged (refused-from (Binary Optional) s (judge (Binary Optional) s) judged 5 e),
-  λ s judged e. never-run 5 (ascii (lineEnding Any)) s never-five-any judged (refused-from (Ascii Any) s (judge (Ascii Any) s) judged 5 e),
-)
+five-never =
+    record {
+      optionalFooter =
+          λ s judged e. never-run 5 (binary whole) s never-five judged (refused-from (Binary Optional) s (judge (Binary Optional) s) judged 5 e);
+      anyEnding =
+          λ s judged e. never-run 5 (ascii (lineEnding Any)) s never-five-any judged (refused-from (Ascii Any) s (judge (Ascii Any) s) judged 5 e);
+    }

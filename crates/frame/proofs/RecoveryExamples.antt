@@ -192,4 +192,4 @@ strict-lines = record { alone = refl; before = refl; atLf = refl; frames = refl 
 -- LF gives 3 and 4 as CR does.
 pub lf-judges : LfJudges
 unfolding ascii hexDigits isDigit digitValue lineEnding afterDigits byte test
-lf-judges = record { odd = refl; few = refl; sum = refl; sumAtCr = refl; other = refl }
+lf-judges = record { odd = refl; few = refl; oddAtCr = refl; sum = refl; sumAtCr = refl; other = refl }

@@ -6,20 +6,16 @@ use native.Mathlib.Numerals.{one-add}
 use native.Mathlib.Omega.{arith}
 use mathlib.Core.Path.{_≡_, refl, sym, ap, ap₂, _∙_, subst}
 use mathlib.Core.List.{List, [], _∷_, _++_, append-nil}
-use mathlib.Core.Bool.{Bool, true, false, true≢false}
+use mathlib.Core.Bool.{Bool, true, false, cond}
 use lib.ListN.{length, getD, take, drop, length-append, take-append-drop}
 use lib.Seq.{drop-append-le, drop-cons, drop-length, drop-drop, take-suc, take-length, take-append-seam, drop-append-seam}
 use Rattle.frame.specs.Checks.{Verdict, cut, refused, frame}
-use Rattle.frame.specs.Ascii.{carriageReturn}
-use Rattle.frame.specs.Framing.{checks, judge, mayFollow, isOpen, absorbed}
+use Rattle.frame.specs.Framing.{checks, judge, isOptional, isOpen, absorbed}
 use Rattle.frame.specs.Rule.{output, nothing, noiseByte, handed, join}
 use Rattle.frame.specs.Reader.{Settled, settled, settleAs, settle, Called, called, stopped, oneMore, ifFrame, lineFrom, lineOn, tookFirst, lineBehind, quietHeld}
 use Rattle.frame.specs.Claims.{remaining, TakenIsNeeded, HeldThenChunk, SameButMark, MarkMeansNothing}
 use Rattle.frame.specs.Scan.{judgedBytes}
-use Rattle.frame.specs.declared.framing.Footer.the-variants.{Optional, Required}
-use Rattle.frame.specs.declared.framing.Ending.the-variants.{CrLf, Any}
 use Rattle.frame.specs.declared.framing.Format.{Format}
-use Rattle.frame.specs.declared.framing.Format.the-variants.{Binary, Ascii}
 use Rattle.frame.proofs.Lists.{drop-take}
 use Rattle.frame.proofs.Framings.{frame-sized, some-used}
 use Rattle.frame.proofs.Optional.{open-take, absorbed-one, absorbed-there, absorbed-front}
@@ -228,13 +224,10 @@ then-chunk f follows (b ∷ h) chunk =
 pub held-then-chunk : HeldThenChunk
 held-then-chunk s chunk = then-chunk (s .format) (s .follows) (s .held) chunk
 
--- Where no byte may follow, none is absorbed.
-none-follows : (m : Format) (s : List ℕ) → ((last : ℕ) → mayFollow m last ≡ false) → absorbed m true s ≡ 0
+-- Where no byte is optional, none is absorbed.
+none-follows : (m : Format) (s : List ℕ) → ((b : ℕ) → isOptional m b ≡ false) → absorbed m true s ≡ 0
 none-follows m [] e = refl
-none-follows (Binary Optional) (b ∷ s) e = absurd (true≢false (e 0))
-none-follows (Binary Required) (b ∷ s) e = refl
-none-follows (Ascii CrLf) (b ∷ s) e = refl
-none-follows (Ascii Any) (b ∷ s) e = absurd (true≢false (e carriageReturn))
+none-follows m (b ∷ s) e = ap (λ (q : Bool). cond q 1 0) (e b)
 
 same-calls : {a b : Called} → a ≡ b → SameButMark a b
 same-calls e =
@@ -242,7 +235,7 @@ same-calls e =
 
 -- So a line call is the same with the mark and without.
 same-line :
-    (m : Format) (h chunk : List ℕ) → ((last : ℕ) → mayFollow m last ≡ false) → SameButMark (lineBehind m true h chunk) (lineBehind m false h chunk)
+    (m : Format) (h chunk : List ℕ) → ((b : ℕ) → isOptional m b ≡ false) → SameButMark (lineBehind m true h chunk) (lineBehind m false h chunk)
 same-line m [] [] e = record { taken = refl; out = refl; held = refl }
 same-line m [] (b ∷ chunk) e = same-calls (ap (λ (n : ℕ). tookFirst n (lineOn m [] (drop n (b ∷ chunk)))) (none-follows m (b ∷ chunk) e))
 same-line m (b ∷ h) chunk e = same-calls (ap (λ (n : ℕ). lineOn m (drop n (b ∷ h)) chunk) (none-follows m (b ∷ h) e))

@@ -62,12 +62,12 @@ endsDigits Any c = eqb c carriageReturn || eqb c lineFeed
 unfoldable pub lineEnd : List ℕ → Checks
 lineEnd p = byte lineFeed 5 (whole p)
 
--- Behind that character, of a frame with the payload p: LF; under any ending the frame is complete.
+-- Behind the character that ended the digits of a frame with the payload p: under the ending CR LF there is LF; under any ending the frame is complete.
 abbrev pub behindDigits : Ending → List ℕ → Checks
 behindDigits CrLf p = lineEnd p
 behindDigits Any p = whole p
 
--- The ending, at the first character c that is no digit: where c does not end digits it is refusal 6; where it does they are judged, and then what stands
--- behind it.
+-- The ending, at the first character c that is no digit: where c does not end digits it is refusal 6; otherwise the digits are judged, and then the characters
+-- behind c.
 unfoldable pub lineEnding : Ending → List ℕ → ℕ → Checks
 lineEnding e ds c = test (endsDigits e c) 6 (afterDigits ds (behindDigits e))

@@ -1,5 +1,5 @@
 -- What is claimed of single frames, of the leftmost rule, of line calls and of lists of calls, in that order; the claims on damage stand in Recovery.antt.
--- proofs/Theorems.antt proves each claim, one that takes a format, a footer or an ending for every one.
+-- proofs/Theorems.antt proves each claim, one that takes a format for every format.
 use Prim.Native.Nat.{ℕ, _+_, _≤_, _<_}
 use mathlib.Core.Path.{_≡_}
 use mathlib.Core.List.{List, [], _∷_, _++_, map, List·Memᴰ}
@@ -10,7 +10,7 @@ use Rattle.frame.specs.Checks.{Verdict, cut, refused, frame}
 use Rattle.frame.specs.Hex.{sumOf}
 use Rattle.frame.specs.Binary.{binaryEnding}
 use Rattle.frame.specs.Ascii.{asciiEnding, carriageReturn, lineFeed}
-use Rattle.frame.specs.Framing.{judge, read, mayFollow, front, layout, framingOf, limit}
+use Rattle.frame.specs.Framing.{judge, read, isOptional, front, layout, framingOf, limit}
 use Rattle.frame.specs.Rule.{Output, Found, rule, payloads}
 use Rattle.frame.specs.Reader.{State, holding, Called, line, quiet, newReader, feedValuesOf, Feeds}
 use Rattle.frame.specs.View.{inside, Views, Stands}
@@ -35,7 +35,8 @@ abbrev pub LayoutReads : Format → Type 0
 LayoutReads m =
     (p more : List ℕ) → Payload p → let whole : List ℕ = layout (framingOf m) p in read m (whole ++ more) ≡ frame (length whole) p
 
--- The endings that a frame may have in a format: the published one; where the footer is optional, also none; under any ending, also CR and LF.
+-- The endings that a frame may have in a format: the published one; where the footer is optional, also none; under any ending, also CR alone and LF
+-- alone.
 abbrev pub endings : Format → List (List ℕ)
 endings (Binary Optional) = binaryEnding ∷ [] ∷ []
 endings (Binary Required) = binaryEnding ∷ []
@@ -46,19 +47,17 @@ endings (Ascii Any) = asciiEnding ∷ (carriageReturn ∷ []) ∷ (lineFeed ∷ 
 abbrev pub Longest : Format → List ℕ → List ℕ → Type 0
 Longest m ending more = (b : ℕ) (rest : List ℕ) → more ≡ b ∷ rest → List·Memᴰ (ending ++ (b ∷ [])) (endings m) → ⊥
 
--- The front of a frame and any of its endings, where what follows does not make that longer, are read as a frame of just that length with just that payload.
+-- The front of a frame and any of its endings, where what follows does not make that ending longer, are read as a frame of just that length with just that
+-- payload.
 abbrev pub EndingsRead : Format → Type 0
 EndingsRead m =
     (p ending more : List ℕ) → Payload p → List·Memᴰ ending (endings m) → Longest m ending more →
     let whole : List ℕ = front (framingOf m) p ++ ending in read m (whole ++ more) ≡ frame (length whole) p
 
--- No bytes are refused with the number n.
-abbrev pub NeverGiven : ℕ → Format → Type 0
-NeverGiven n m = (s : List ℕ) (judged : ℕ) → read m s ≡ refused judged n → ⊥
-
 -- Document 02, CR 2 and 9: where the footer is optional, and under any ending, 5 is never given.
-abbrev pub NeverFive : Type 0
-NeverFive = NeverGiven 5 (Binary Optional) × NeverGiven 5 (Ascii Any)
+pub record NeverFive : Type 0 where
+  pub optionalFooter : (s : List ℕ) (judged : ℕ) → read (Binary Optional) s ≡ refused judged 5 → ⊥
+  pub anyEnding : (s : List ℕ) (judged : ℕ) → read (Ascii Any) s ≡ refused judged 5 → ⊥
 
 -- The bytes used of s are the front of a frame with this payload and an ending.
 pub record IsLayout (m : Format) (s : List ℕ) (used : ℕ) (p : List ℕ) : Type 0 where
@@ -68,7 +67,7 @@ pub record IsLayout (m : Format) (s : List ℕ) (used : ℕ) (p : List ℕ) : Ty
   pub count : used ≡ length (front (framingOf m) p ++ ending)
   pub payload : Payload p
 
--- Of bytes, whatever is read as a frame is the layout of its payload, with one of the format's endings: the encoding is unique but for these.
+-- Of bytes, whatever is read as a frame is the front of a frame with its payload, and one of the format's endings: the encoding is unique but for these.
 abbrev pub FrameIsLayout : Format → Type 0
 FrameIsLayout m = (s p : List ℕ) (used : ℕ) → Bytes s → read m s ≡ frame used p → IsLayout m s used p
 
@@ -138,14 +137,14 @@ pub record SameButMark (a b : Called) : Type 0 where
   pub out : a .out ≡ b .out
   pub held : a .held ≡ b .held
 
--- Document 02, CR 2 and 9: in a format without an optional byte the mark means nothing. With it and without, a line call gives the same but for the mark, and a
--- quiet call the same.
+-- What follows from document 02, CR 2 and 9, for a format in which no byte is optional: the mark means nothing. With it and without, a line call gives the same
+-- but for the mark, and a quiet call the same.
 pub record SameWithMark (m : Format) (h chunk : List ℕ) : Type 0 where
   pub atLine : SameButMark (line (holding m h true) chunk) (line (holding m h false) chunk)
   pub atQuiet : quiet (holding m h true) ≡ quiet (holding m h false)
 
 abbrev pub MarkMeansNothing : Format → Type 0
-MarkMeansNothing m = ((last : ℕ) → mayFollow m last ≡ false) → (h chunk : List ℕ) → SameWithMark m h chunk
+MarkMeansNothing m = ((b : ℕ) → isOptional m b ≡ false) → (h chunk : List ℕ) → SameWithMark m h chunk
 
 -- Where the view is inside the chunk, its call is the line call of the reader that it stands for, offered what stands behind the view in the chunk, and the
 -- view that follows stands for the reader that follows; where it is refused, that reader is refused so with the chunk. So lists of calls admit it.

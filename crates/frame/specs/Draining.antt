@@ -75,8 +75,8 @@ ViewReports =
     let c : Called = viewCall v chunk in
     Reports (viewRefusal v (length buf) (length chunk)) c (Follows v chunk c) v buf (feedValuesOf (a .answer)) (a .view) buf′
 
--- The bytes of a frame besides its payload, at least: of a binary one 5, and 6 where the footer is required. An ASCII one has 5, or 4 under any ending, and its
--- payload twice, the second time at least one byte.
+-- The bytes of a frame besides its payload, at least: of a binary one 5, and 6 where the footer is required. An ASCII one has two
+-- characters for each byte of its payload, of which one is counted here, and 5 more, or 4 under any ending; so 6 and 5 for a payload of one byte.
 abbrev pub overhead : Format → ℕ
 overhead (Binary Optional) = 5
 overhead (Binary Required) = 6

@@ -20,7 +20,7 @@ abbrev pub front : Framing → List ℕ → List ℕ
 front BinaryFraming p = binaryFront p
 front AsciiFraming p = asciiFront p
 
--- The bytes of the ending.
+-- The bytes of the published ending.
 abbrev pub endingBytes : Framing → List ℕ
 endingBytes BinaryFraming = binaryEnding
 endingBytes AsciiFraming = asciiEnding
@@ -53,7 +53,7 @@ limit (Ascii ending) = 517
 abbrev pub judge : Format → List ℕ → Verdict
 judge m s = run (checks m) s
 
--- Behind a frame that the checks decide an optional byte may follow, which belongs to it. Whether it may is told by the format and the last byte that was
+-- Behind a frame that the checks accept an optional byte may follow, which belongs to it. Whether it may is told by the format and the last byte that was
 -- judged. Document 02, CR 2: where the footer is optional, it may follow every frame; CR 9: under any ending, one that ended with CR.
 abbrev pub mayFollow : Format → ℕ → Bool
 mayFollow (Binary Optional) last = true
@@ -61,7 +61,7 @@ mayFollow (Binary Required) last = false
 mayFollow (Ascii CrLf) last = false
 mayFollow (Ascii Any) last = eqb last carriageReturn
 
--- The optional byte is 04, in ASCII framing LF.
+-- The optional byte is 04, in ASCII framing LF; where the footer is required, and under the ending CR LF, there is none.
 abbrev pub isOptional : Format → ℕ → Bool
 isOptional (Binary Optional) b = eqb b footerByte
 isOptional (Binary Required) b = false
@@ -78,7 +78,7 @@ absorbed m false s = 0
 absorbed m true [] = 0
 absorbed m true (b ∷ s) = cond (isOptional m b) 1 0
 
--- The bytes of s without them.
+-- The bytes of s behind those that belong to the frame before.
 abbrev pub behindOptional : Format → Bool → List ℕ → List ℕ
 behindOptional m follows s = drop (absorbed m follows s) s
 

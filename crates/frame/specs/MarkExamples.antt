@@ -11,7 +11,7 @@ use Rattle.frame.specs.declared.framing.Footer.the-variants.{Optional, R
 use Rattle.frame.specs.declared.framing.Ending.the-variants.{CrLf, Any}
 use Rattle.frame.specs.declared.framing.Format.the-variants.{Binary, Ascii}
 
--- A reader that holds these bytes, with the mark and without.
+-- A reader with the footer optional that holds these bytes, with the mark and without.
 abbrev pub marked : List ℕ → State
 marked h = holding (Binary Optional) h true
 
@@ -27,13 +27,14 @@ pub record NextCallTakesIt : Type 0 where
   pub once : line (marked []) (0x04 ∷ 0x04 ∷ []) ≡ called 2 (output [] 1) [] false
   pub other : line (marked []) (0x05 ∷ 0x04 ∷ []) ≡ called 2 (output [] 2) [] false
 
--- In a format without an optional byte a mark that was set by hand stays where no byte is held or offered; it changes nothing else, which MarkMeansNothing says
--- of all bytes.
+-- In a format without an optional byte a frame sets no mark. One that was set by hand stays where no byte is held or offered, and is gone behind other calls;
+-- what these give besides is the same with it and without (MarkMeansNothing).
 pub record OtherFormats : Type 0 where
   pub required : line (holding (Binary Required) [] true) (0x04 ∷ []) ≡ called 1 (output [] 1) [] false
   pub ascii : line (holding (Ascii CrLf) [] true) (0x0A ∷ []) ≡ called 1 (output [] 1) [] false
   pub stays : line (holding (Binary Required) [] true) [] ≡ called 0 nothing [] true
   pub unset : line (holding (Binary Required) [] false) response ≡ called 10 (output (success ∷ []) 0) [] false
+  pub unsetAscii : line (holding (Ascii CrLf) [] false) asciiFrame ≡ called 13 (output (four ∷ []) 0) [] false
 
 -- A start that claims eight bytes of payload and fails late, and a frame inside its claim.
 abbrev pub failsLate : List ℕ
@@ -65,8 +66,8 @@ markedLine h = holding (Ascii Any) h true
 abbrev pub plainLine : List ℕ → State
 plainLine h = holding (Ascii Any) h false
 
--- Under any ending, a frame in one chunk or two: the call stops at CR or LF. Behind CR the next call takes an LF, once, and drops one that is held; behind LF,
--- and behind "empty", an LF is noise.
+-- Under any ending, a frame in one chunk or two: the call stops at CR or LF. Behind CR the next call takes an LF, once, and drops one that is held in a state
+-- made by hand; behind LF, and behind "empty", an LF is noise.
 pub record AnyEnding : Type 0 where
   pub atCr : line (plainLine []) asciiFrame ≡ called 12 (output (four ∷ []) 0) [] true
   pub cut : line (plainLine []) endedByCr ≡ called 12 (output (four ∷ []) 0) [] true

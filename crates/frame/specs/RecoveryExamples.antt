@@ -145,7 +145,8 @@ endedByLf = dropLast endedByCr ++ (0x0A ∷ [])
 abbrev pub mixedLines : List (List ℕ)
 mixedLines = endedByCr ∷ asciiFrame ∷ endedByLf ∷ endedByLf ∷ endedByCr ∷ asciiFrame ∷ []
 
--- Under any ending: all come back behind a start cut short. An LF behind the frame's own LF, and a second one behind CR LF, is noise; CR behind CR is too.
+-- Under any ending: all come back behind a start cut short. An LF behind the frame's own LF, and a second one behind CR LF, is noise; CR LF
+-- behind a CR that ended a frame is two bytes of noise.
 pub record MixedLines : Type 0 where
   pub good : Stretch (Ascii Any) mixedLines
   pub kept :
@@ -157,7 +158,7 @@ pub record MixedLines : Type 0 where
   pub secondLf : rule (Ascii Any) (asciiFrame ++ (0x0A ∷ [])) ≡ output (foundAt 0 13 four ∷ []) 1
   pub doubledCr : rule (Ascii Any) (endedByCr ++ (0x0D ∷ 0x0A ∷ [])) ≡ output (foundAt 0 12 four ∷ []) 2
 
--- Under the strict ending a frame without CR LF is no good frame: with CR it is cut short (2), and before another frame refused (5); with LF it is refused (6).
+-- Under the ending CR LF a frame with CR alone is cut short (2), and before another frame refused (5); with LF alone it is refused (6).
 pub record StrictLines : Type 0 where
   pub alone : read (Ascii CrLf) endedByCr ≡ cut
   pub before : read (Ascii CrLf) (endedByCr ++ asciiFrame) ≡ refused 13 5
@@ -168,6 +169,7 @@ pub record StrictLines : Type 0 where
 pub record LfJudges : Type 0 where
   pub odd : read (Ascii Any) (0x3A ∷ 0x30 ∷ 0x30 ∷ 0x30 ∷ 0x30 ∷ 0x30 ∷ 0x0A ∷ []) ≡ refused 7 3
   pub few : read (Ascii Any) (0x3A ∷ 0x30 ∷ 0x30 ∷ 0x0A ∷ []) ≡ refused 4 3
+  pub oddAtCr : read (Ascii Any) (0x3A ∷ 0x30 ∷ 0x30 ∷ 0x30 ∷ 0x30 ∷ 0x30 ∷ 0x0D ∷ []) ≡ refused 7 3
   pub sum : read (Ascii Any) (0x3A ∷ 0x30 ∷ 0x31 ∷ 0x30 ∷ 0x30 ∷ 0x0A ∷ []) ≡ refused 6 4
   pub sumAtCr : read (Ascii Any) (0x3A ∷ 0x30 ∷ 0x31 ∷ 0x30 ∷ 0x30 ∷ 0x0D ∷ []) ≡ refused 6 4
   pub other : read (Ascii Any) (0x3A ∷ 0x30 ∷ 0x31 ∷ 0x46 ∷ 0x46 ∷ 0x20 ∷ []) ≡ refused 6 6
