@@ -251,6 +251,16 @@ fn overlap(rng: &mut Rng, framing: Framing) -> Vec<u8> {
     [run, frame(rng, framing, message)].concat()
 }
 
+/// Starts that fail late, over and over, and nothing else: of all lines, nearly the most bytes judged for each byte. In binary framing each start claims the
+/// longest payload and fails at its checksum, the 261st byte, and the next one begins 4 bytes behind it: 66 for each. In ASCII framing each fails at its 515th
+/// digit, and then each digit fails by itself: 2 for each digit.
+fn worst(_: &mut Rng, framing: Framing) -> Vec<u8> {
+    match framing {
+        Ascii => [&b":"[..], &b"0123456789ABCDEF".repeat(33)[..515]].concat(),
+        Binary => vec![0xA5, 0x5A, 0x81, 0x00],
+    }
+}
+
 /// Runs of the first start byte, some with the second behind them, and some frames.
 fn storm(rng: &mut Rng, framing: Framing) -> Vec<u8> {
     let run = vec![0xA5; 1 + rng.below(100)];
@@ -319,6 +329,7 @@ fn sources(framing: Framing) -> Vec<(&'static str, Source)> {
             ("colons", colons),
             ("setup", setups),
             ("endings", endings),
+            ("worst", worst),
         ],
         Binary => vec![
             ("mixed", mixed),
@@ -328,6 +339,7 @@ fn sources(framing: Framing) -> Vec<(&'static str, Source)> {
             ("truncated", truncated),
             ("footers", footers),
             ("random", random),
+            ("worst", worst),
         ],
     }
 }

@@ -23,6 +23,7 @@ pub struct Reader {
     pub held: [u8; 517],
     pub count: usize,
     pub follows: u8,
+    pub judged: usize,
 }
 
 #[repr(C)]
@@ -32,6 +33,7 @@ pub struct Answer {
     pub is_frame: u8,
     pub taken: usize,
     pub noise: usize,
+    pub judged: usize,
     pub len: usize,
 }
 

@@ -251,22 +251,28 @@ struct Pair {
     state: State,
     frames: Vec<Vec<u8>>,
     noise: usize,
+    judged: usize,
 }
 
 /// What a call was given, for a report.
 fn told(name: &str, r: &Reader, chunk: &[u8], room: usize) -> String {
-    let (count, held) = (r.count, hex(&r.held));
-    format!("{name} format {} follows {} count {count} held {held} chunk ({}) {} room {room}", r.format, r.follows, chunk.len(), hex(chunk))
+    let state = format!("format {} follows {} judged {} count {} held {}", r.format, r.follows, r.judged, r.count, hex(&r.held));
+    format!("{name} {state} chunk ({}) {} room {room}", chunk.len(), hex(chunk))
 }
 
 impl Pair {
     fn new(format: Format) -> Pair {
         let reader = library::new_reader(format_number(format));
-        Pair { format, reader, state: State::default(), frames: Vec::new(), noise: 0 }
+        Pair { format, reader, state: State::default(), frames: Vec::new(), noise: 0, judged: 0 }
     }
 
     fn over_limit(&self) -> bool {
         self.reader.count > self.format.limit()
+    }
+
+    /// Whether the state says that more bytes were judged than it holds.
+    fn overstates(&self) -> bool {
+        self.reader.judged > self.reader.count
     }
 
     fn has_unknown_mark(&self) -> bool {
@@ -288,18 +294,21 @@ impl Pair {
         };
         let is_frame = call.payload.is_some() as u8;
         let held = &call.state.held;
-        same("answer", input, got.answer, Answer { refusal: 0, is_frame, taken: call.taken, noise: call.noise, len })?;
+        let answer = Answer { refusal: 0, is_frame, taken: call.taken, noise: call.noise, judged: call.judged, len };
+        same("answer", input, got.answer, answer)?;
         same("buffer", input, buf, &after[..])?;
         same("format", input, got.reader.format, self.reader.format)?;
         same("count", input, got.reader.count, held.len())?;
         same("held bytes", input, &got.reader.held[..held.len()], &held[..])?;
         same("mark", input, got.reader.follows, call.state.follows as u8)?;
+        same("held bytes judged", input, got.reader.judged, call.state.judged)?;
         if fresh {
             same("fresh state", input, got.reader, Pair::new(self.format).reader)?;
         }
         self.reader = got.reader;
         self.state = call.state;
         self.noise += call.noise;
+        self.judged += got.answer.judged;
         self.frames.extend(call.payload);
         Ok(())
     }
@@ -315,7 +324,7 @@ impl Pair {
         let input = || told("feed", &was, chunk, room);
         let refusal = match () {
             _ if self.has_unknown_mark() => messages::UNKNOWN,
-            _ if self.over_limit() => 16,
+            _ if self.over_limit() || self.overstates() => 16,
             _ if room < 256 => 13,
             _ if chunk.len() > 65536 => 15,
             _ => 0,
@@ -344,7 +353,7 @@ impl Pair {
         let input = || told("quiet", &was, &[], room);
         let refusal = match () {
             _ if self.has_unknown_mark() => messages::UNKNOWN,
-            _ if self.over_limit() => 16,
+            _ if self.over_limit() || self.overstates() => 16,
             _ if room < 256 => 13,
             _ => 0,
         };
@@ -409,14 +418,19 @@ impl Pair {
         }
     }
 
-    /// Frames and noise since `start` are those of the leftmost rule over the whole segment, whose bytes that were not held then are `rest`.
+    /// Frames and noise since `start` are those of the leftmost rule over the whole segment, whose bytes that were not held then are `rest`. The numbers of
+    /// judged bytes that the calls gave, quiet ones too, make up the rule's own count, which is bounded by the segment's length.
     fn by_rule(&self, start: &State, rest: &[u8], tally: &mut Tally) -> Outcome {
-        let (frames, noise) = start.rule(self.format, rest);
-        tally.frames += frames.len();
-        tally.noise += noise;
+        let output = start.rule(self.format, rest);
+        tally.frames += output.frames.len();
+        tally.noise += output.noise;
+        tally.judged += output.judged;
         let input = || format!("segment {:?} from {start:?} {}", self.format, hex(rest));
-        same("payloads of the segment", &input, &self.frames, &frames)?;
-        same("noise of the segment", &input, self.noise, noise)
+        same("payloads of the segment", &input, &self.frames, &output.frames)?;
+        same("noise of the segment", &input, self.noise, output.noise)?;
+        same("judged bytes of the segment", &input, self.judged, output.judged)?;
+        let most = self.format.most_judged() * (start.held.len() + rest.len());
+        same("judged bytes within their bound", &input, self.judged <= most, true)
     }
 }
 
@@ -470,12 +484,23 @@ pub fn segment(r: &mut Random, tally: &mut Tally) -> Outcome {
         pair.by_rule(&State::default(), &s, tally)?;
         pair.frames.clear();
         pair.noise = 0;
+        pair.judged = 0;
     }
     Ok(())
 }
 
-/// A state made by hand: any bytes up to the limit and above it, with and without the mark, then chunks and the quiet. One whose mark is neither 0 nor 1, or
-/// whose bytes are over the limit, gets a call of each kind, which is refused.
+/// How many bytes a state that holds `count` says were judged: none, all of them, some of them, or more.
+fn judged_number(r: &mut Random, count: usize) -> usize {
+    match r.below(12) {
+        0 => r.pick(&[count.saturating_add(1), 262, 263, 517, 518, 65536, usize::MAX]),
+        1..=3 => 0,
+        4..=6 => count,
+        _ => r.below(count.min(517) + 1),
+    }
+}
+
+/// A state made by hand: any bytes up to the limit and above it, with and without the mark, and any number of judged bytes, then chunks and the quiet. One
+/// whose mark is neither 0 nor 1, whose bytes are over the limit, or whose number of judged bytes is over theirs, gets a call of each kind, which is refused.
 pub fn made_state(r: &mut Random, tally: &mut Tally) -> Outcome {
     let mut pair = Pair::new(random::format(r));
     let limit = pair.format.limit();
@@ -491,30 +516,34 @@ pub fn made_state(r: &mut Random, tally: &mut Tally) -> Outcome {
         1..=5 => 0,
         _ => 1,
     };
+    pair.reader.judged = judged_number(r, pair.reader.count);
     tally.add("states whose mark is neither 0 nor 1", pair.has_unknown_mark());
-    if pair.has_unknown_mark() || pair.over_limit() {
-        let (n, room) = (r.below(30), r.pick(&[0, 255, 256, 300]));
-        let chunk = r.bytes(n);
+    tally.add("states that say of more bytes than they hold that they were judged", pair.overstates() && !pair.over_limit());
+    if pair.has_unknown_mark() || pair.over_limit() || pair.overstates() {
+        let n = if r.once_in(50) { 65537 } else { r.below(30) };
+        let (chunk, room) = (r.bytes(n), r.pick(&[0, 255, 256, 300]));
         pair.feed(r, tally, &chunk, room)?;
         return pair.quiet(r, tally, room).map(drop);
     }
     let held = pair.reader.held[..pair.reader.count].to_vec();
-    let start = State { held, follows: pair.reader.follows == 1 };
+    let start = State { held, follows: pair.reader.follows == 1, judged: pair.reader.judged };
+    tally.judged_in_state(pair.format, &start);
     pair.state = start.clone();
     let rest = if r.once_in(3) { Vec::new() } else { random::next_segment(r, pair.format.framing()) };
     drive(&mut pair, r, tally, &rest)?;
     pair.by_rule(&start, &rest, tally)
 }
 
-/// A state whose format number stands for none, with any mark.
+/// A state whose format number stands for none, with any mark and any number of judged bytes.
 pub fn unknown_format(r: &mut Random, tally: &mut Tally) -> Outcome {
     let number = unknown_number(r, 4);
     let mut reader = library::new_reader(number);
-    same("new reader", &|| format!("format {number}"), reader, Reader { format: number, held: [0; 517], count: 0, follows: 0 })?;
+    same("new reader", &|| format!("format {number}"), reader, Reader { format: number, held: [0; 517], count: 0, follows: 0, judged: 0 })?;
     let bytes = r.bytes(517);
     reader.held.copy_from_slice(&bytes);
     reader.count = r.below(600);
     reader.follows = r.byte();
+    reader.judged = judged_number(r, reader.count);
     let (n, room) = (r.below(40), r.pick(&[0, 255, 256, 300]));
     let chunk = r.bytes(n);
     let before = patterned(r, room);

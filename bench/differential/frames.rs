@@ -1,5 +1,5 @@
-//! Document 01's frames, leftmost rule and line reader, with CR 2 and CR 9 of document 02, byte by byte. Nothing is shared with the library: this is a
-//! second reading of the same text.
+//! Document 01's frames, leftmost rule and line reader, with CR 2, CR 7 and CR 9 of document 02, byte by byte. Nothing is shared with the library: this is
+//! a second reading of the same text.
 
 /// How frames are written.
 #[derive(Clone, Copy, Debug, PartialEq)]
@@ -35,6 +35,14 @@ impl Format {
         }
     }
 
+    /// How many bytes are judged at most for each byte of a segment.
+    pub fn most_judged(self) -> usize {
+        match self.framing() {
+            Framing::Binary => 262,
+            Framing::Ascii => 2,
+        }
+    }
+
     /// The byte that, next to a complete frame, may belong to it.
     pub fn optional(self) -> Option<u8> {
         match self {
@@ -59,9 +67,25 @@ impl Format {
 pub enum Verdict {
     /// They run out before a failure and before the end.
     Cut,
-    Fails(u8),
+    /// The last of `size` bytes fails a check.
+    Fails { refusal: u8, size: usize },
     /// A frame, decided by the last of `size` bytes.
     Frame { size: usize, payload: Vec<u8> },
+}
+
+impl Verdict {
+    /// How many bytes were judged where n were there: those up to and with the deciding one, or all where none decides.
+    fn judged(&self, n: usize) -> usize {
+        match self {
+            Verdict::Cut => n,
+            Verdict::Fails { size, .. } | Verdict::Frame { size, .. } => *size,
+        }
+    }
+}
+
+/// The verdict where byte i, counted from 0, fails.
+fn fails(refusal: u8, i: usize) -> Verdict {
+    Verdict::Fails { refusal, size: i + 1 }
 }
 
 pub fn judge(format: Format, s: &[u8]) -> Verdict {
@@ -78,26 +102,26 @@ fn judge_binary(s: &[u8], needs_footer: bool) -> Verdict {
     let mut xor = 0;
     for (i, &b) in s.iter().enumerate() {
         match i {
-            0 if b != 0xA5 => return Verdict::Fails(1),
-            1 if b != 0x5A => return Verdict::Fails(1),
+            0 if b != 0xA5 => return fails(1, i),
+            1 if b != 0x5A => return fails(1, i),
             0..=2 => {}
             3 => {
                 let word = s[2] as usize * 256 + b as usize;
                 if !(0x8001..=0x8100).contains(&word) {
-                    return Verdict::Fails(3);
+                    return fails(3, i);
                 }
                 length = word - 0x8000;
             }
             _ if i < 4 + length => xor ^= b,
             _ if i == 4 + length => {
                 if b != xor {
-                    return Verdict::Fails(4);
+                    return fails(4, i);
                 }
                 if !needs_footer {
                     return Verdict::Frame { size: i + 1, payload: s[4..4 + length].to_vec() };
                 }
             }
-            _ if b != 0x04 => return Verdict::Fails(5),
+            _ if b != 0x04 => return fails(5, i),
             _ => return Verdict::Frame { size: i + 1, payload: s[4..4 + length].to_vec() },
         }
     }
@@ -110,26 +134,26 @@ fn judge_ascii(s: &[u8], takes_any_ending: bool) -> Verdict {
     for (i, &b) in s.iter().enumerate() {
         if i == 0 {
             if b != b':' {
-                return Verdict::Fails(1);
+                return fails(1, i);
             }
         } else if let Some(payload) = payload.take() {
             if b != 0x0A {
-                return Verdict::Fails(5);
+                return fails(5, i);
             }
             return Verdict::Frame { size: i + 1, payload };
         } else if b.is_ascii_digit() || (b'A'..=b'F').contains(&b) {
             if digits.len() == 514 {
-                return Verdict::Fails(3);
+                return fails(3, i);
             }
             digits.push(b);
         } else if b == 0x0D || (takes_any_ending && b == 0x0A) {
             match line(&digits) {
                 Ok(payload) if takes_any_ending => return Verdict::Frame { size: i + 1, payload },
                 Ok(bytes) => payload = Some(bytes),
-                Err(number) => return Verdict::Fails(number),
+                Err(number) => return fails(number, i),
             }
         } else {
-            return Verdict::Fails(6);
+            return fails(6, i);
         }
     }
     Verdict::Cut
@@ -178,7 +202,7 @@ fn has_optional(format: Format, s: &[u8], size: usize) -> bool {
 pub fn read_frame(format: Format, s: &[u8], room: usize) -> Result<(usize, Vec<u8>), u8> {
     match judge(format, s) {
         Verdict::Cut => Err(2),
-        Verdict::Fails(number) => Err(number),
+        Verdict::Fails { refusal, .. } => Err(refusal),
         Verdict::Frame { payload, .. } if room < payload.len() => Err(13),
         Verdict::Frame { size, payload } => Ok((size + has_optional(format, s, size) as usize, payload)),
     }
@@ -196,31 +220,60 @@ pub fn write_frame(framing: Framing, payload: &[u8], room: usize) -> Result<Vec<
     Ok(out)
 }
 
-/// The leftmost rule over a whole segment: the payloads, and the noise.
-fn rule(format: Format, segment: &[u8]) -> (Vec<Vec<u8>>, usize) {
-    let mut frames = Vec::new();
-    let mut noise = 0;
+/// What the leftmost rule makes of a segment: the payloads, the noise, and its own count of judged bytes.
+#[derive(Default)]
+pub struct Output {
+    pub frames: Vec<Vec<u8>>,
+    pub noise: usize,
+    pub judged: usize,
+}
+
+/// The leftmost rule over a whole segment. It counts the bytes judged at each place at which it stands; it never stands at an optional byte behind a frame.
+fn rule(format: Format, segment: &[u8]) -> Output {
+    let mut output = Output::default();
     let mut place = 0;
     while place < segment.len() {
-        match judge(format, &segment[place..]) {
+        let rest = &segment[place..];
+        let verdict = judge(format, rest);
+        output.judged += verdict.judged(rest.len());
+        match verdict {
             Verdict::Frame { size, payload } => {
-                frames.push(payload);
-                place += size + has_optional(format, &segment[place..], size) as usize;
+                output.frames.push(payload);
+                place += size + has_optional(format, rest, size) as usize;
             }
             _ => {
-                noise += 1;
+                output.noise += 1;
                 place += 1;
             }
         }
     }
-    (frames, noise)
+    output
 }
 
-/// What a reader remembers between calls: undecided bytes, and whether the optional byte of the frame that it gave last may follow.
+/// The bytes judged at the places of a line in order, up to and with the first that does not fail, where a call stops. Where the segment has ended with the
+/// line, an undecided place fails too.
+fn judged_to_stop(format: Format, line: &[u8], has_ended: bool) -> usize {
+    let mut judged = 0;
+    for place in 0..line.len() {
+        let rest = &line[place..];
+        let verdict = judge(format, rest);
+        judged += verdict.judged(rest.len());
+        match verdict {
+            Verdict::Fails { .. } => {}
+            Verdict::Cut if has_ended => {}
+            Verdict::Cut | Verdict::Frame { .. } => break,
+        }
+    }
+    judged
+}
+
+/// What a reader remembers between calls: undecided bytes, whether the optional byte of the frame that it gave last may follow, and how many of the held
+/// bytes were judged at the place of the first.
 #[derive(Clone, Debug, Default, PartialEq)]
 pub struct State {
     pub held: Vec<u8>,
     pub follows: bool,
+    pub judged: usize,
 }
 
 impl State {
@@ -230,10 +283,32 @@ impl State {
         self.follows && next.is_some() && next.copied() == format.optional()
     }
 
-    /// The rule from this state on, where `rest` is what is to come of the segment.
-    pub fn rule(&self, format: Format, rest: &[u8]) -> (Vec<Vec<u8>>, usize) {
+    /// The held bytes and then `rest`, without an optional byte in front, which is not judged.
+    fn judgeable(&self, format: Format, rest: &[u8]) -> Vec<u8> {
         let line = [&self.held, rest].concat();
-        rule(format, &line[self.meets_optional(format, rest) as usize..])
+        line[self.meets_optional(format, rest) as usize..].to_vec()
+    }
+
+    /// How many of these are not counted again at the first place: as many as were judged there before, and no more than are judged there. Behind an optional
+    /// byte there are none: the state's number was of the place of that byte.
+    pub fn counted_before(&self, format: Format, rest: &[u8]) -> usize {
+        if self.meets_optional(format, rest) {
+            return 0;
+        }
+        let line = self.judgeable(format, rest);
+        self.judged.min(judge(format, &line).judged(line.len()))
+    }
+
+    /// The bytes that a call judges in this state.
+    fn judged_by_call(&self, format: Format, chunk: &[u8], has_ended: bool) -> usize {
+        judged_to_stop(format, &self.judgeable(format, chunk), has_ended) - self.counted_before(format, chunk)
+    }
+
+    /// The rule from this state on, where `rest` is what is to come of the segment. It counts all that it judges but what was counted before.
+    pub fn rule(&self, format: Format, rest: &[u8]) -> Output {
+        let mut output = rule(format, &self.judgeable(format, rest));
+        output.judged -= self.counted_before(format, rest);
+        output
     }
 }
 
@@ -242,13 +317,16 @@ impl State {
 pub struct Call {
     pub taken: usize,
     pub noise: usize,
+    pub judged: usize,
     pub payload: Option<Vec<u8>>,
     pub state: State,
 }
 
 /// The line call by the taking rule: a further byte is taken only while the held bytes are empty or have passed every check without completing a frame.
-/// Before that the optional byte that may follow is passed over; it is taken if it was not held.
+/// Before that the optional byte that may follow is passed over; it is taken if it was not held. All bytes held when more are needed were judged at the place
+/// of the first; behind a frame none were.
 pub fn feed(format: Format, state: &State, chunk: &[u8]) -> Call {
+    let judged = state.judged_by_call(format, chunk, false);
     let mut held = state.held.clone();
     let mut taken = 0;
     let mut noise = 0;
@@ -263,14 +341,14 @@ pub fn feed(format: Format, state: &State, chunk: &[u8]) -> Call {
         while !held.is_empty() {
             match judge(format, &held) {
                 Verdict::Cut => break,
-                Verdict::Fails(_) => {
+                Verdict::Fails { .. } => {
                     held.remove(0);
                     noise += 1;
                 }
                 Verdict::Frame { size, payload } => {
                     let follows = format.may_follow(held[size - 1]);
                     held.drain(..size);
-                    return Call { taken, noise, payload: Some(payload), state: State { held, follows } };
+                    return Call { taken, noise, judged, payload: Some(payload), state: State { held, follows, judged: 0 } };
                 }
             }
         }
@@ -281,11 +359,13 @@ pub fn feed(format: Format, state: &State, chunk: &[u8]) -> Call {
         taken += 1;
     }
     let nothing_came = state.held.is_empty() && chunk.is_empty();
-    Call { taken, noise, payload: None, state: State { held, follows: state.follows && nothing_came } }
+    let count = held.len();
+    Call { taken, noise, judged, payload: None, state: State { held, follows: state.follows && nothing_came, judged: count } }
 }
 
 /// The quiet call: the held bytes end the segment, so an unfinished frame fails like any other, and no optional byte comes any more but a held one.
 pub fn quiet(format: Format, state: &State) -> Call {
+    let judged = state.judged_by_call(format, &[], true);
     let mut held = state.held.clone();
     let mut noise = 0;
     if state.meets_optional(format, &[]) {
@@ -295,10 +375,10 @@ pub fn quiet(format: Format, state: &State) -> Call {
         if let Verdict::Frame { size, payload } = judge(format, &held) {
             let follows = format.may_follow(held[size - 1]);
             held.drain(..size);
-            return Call { taken: 0, noise, payload: Some(payload), state: State { held, follows } };
+            return Call { taken: 0, noise, judged, payload: Some(payload), state: State { held, follows, judged: 0 } };
         }
         held.remove(0);
         noise += 1;
     }
-    Call { taken: 0, noise, payload: None, state: State::default() }
+    Call { taken: 0, noise, judged, payload: None, state: State::default() }
 }

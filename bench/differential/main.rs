@@ -19,6 +19,7 @@ pub struct Tally {
     pub from_kinds: [usize; 8],
     pub frames: usize,
     pub noise: usize,
+    pub judged: usize,
 }
 
 impl Tally {
@@ -80,6 +81,15 @@ impl Tally {
         let words = Words::of(format);
         self.add(words.dropped_by_quiet, state.meets_optional(format, &[]));
         self.add(words.behind_quiet, call.payload.is_some() && call.state.meets_optional(format, &[]));
+    }
+
+    /// What a state made by hand says of the bytes judged at its first held place.
+    pub fn judged_in_state(&mut self, format: Format, state: &State) {
+        let meets = state.meets_optional(format, &[]);
+        let counted = state.counted_before(format, &[]);
+        self.add("states of whose bytes some were judged, but not all", 0 < state.judged && state.judged < state.held.len());
+        self.add("states that say that more bytes were judged than the rule judges there", !meets && counted < state.judged);
+        self.add("states whose bytes were judged at the place of a held optional one", meets && 0 < state.judged);
     }
 
     pub fn optional_apart(&mut self, format: Format, seen: bool) {
@@ -168,7 +178,7 @@ fn report(tally: &Tally, total: u64) {
     for (what, count) in &tally.calls {
         println!("  {what}: {count}");
     }
-    println!("  segments by the leftmost rule: {} frames, {} bytes of noise", tally.frames, tally.noise);
+    println!("  segments by the leftmost rule: {} frames, {} bytes of noise, {} bytes judged", tally.frames, tally.noise, tally.judged);
     println!("  kinds read to the module (refused, simple, extended, to an extended address, change, settings, setup): {:?}", &tally.to_kinds[..7]);
     println!("  kinds read from the module (refused, simple, extended, response, standard, remote, settings, report): {:?}", tally.from_kinds);
     for number in (1..=17).chain([255]) {
@@ -181,7 +191,7 @@ fn main() {
     let seed = args.first().copied().unwrap_or(1);
     let scale = args.get(1).copied().unwrap_or(100);
     let mut tally =
-        Tally { refusals: [0; 256], calls: BTreeMap::new(), to_kinds: [0; 8], from_kinds: [0; 8], frames: 0, noise: 0 };
+        Tally { refusals: [0; 256], calls: BTreeMap::new(), to_kinds: [0; 8], from_kinds: [0; 8], frames: 0, noise: 0, judged: 0 };
     println!("seed {seed}, scale {scale}");
     if let [_, _, family, index] = args[..] {
         run(seed, family as usize, index..index + 1, &mut tally);

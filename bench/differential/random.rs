@@ -116,6 +116,14 @@ fn stray_start(r: &mut Random, f: Framing) -> Vec<u8> {
     }
 }
 
+/// Starts that fail as late as the longest frame ends, one after the other: nearly the most bytes judged for each byte.
+fn worst(r: &mut Random, f: Framing) -> Vec<u8> {
+    match f {
+        Framing::Binary => [0xA5, 0x5A, 0x81, 0x00].repeat(r.within(1, 200)),
+        Framing::Ascii => [b":".to_vec(), r.bytes_of(515, b"0123456789ABCDEF")].concat().repeat(r.within(1, 2)),
+    }
+}
+
 /// A line whose digits sum to 0, with any count of them: the count alone decides about it.
 fn long_line(r: &mut Random) -> Vec<u8> {
     let n = r.pick(&[0, 1, 2, 3, 4, 5, 511, 512, 513, 514, 515, 516]);
@@ -180,6 +188,7 @@ fn part(r: &mut Random, f: Framing) -> Vec<u8> {
         }
         7 | 8 => stray_start(r, f),
         _ if r.once_in(2) => optional(r, f),
+        _ if r.once_in(8) => worst(r, f),
         _ if f == Framing::Ascii => long_line(r),
         _ => frame(Framing::Ascii, &payload(r)),
     }
@@ -224,6 +233,9 @@ pub fn storm(r: &mut Random, f: Framing, size: usize) -> Vec<u8> {
         if r.once_in(8) {
             let n = r.below(300);
             s.extend(garbage(r, f, n));
+        }
+        if r.once_in(40) {
+            s.extend(worst(r, f));
         }
     }
     s.truncate(size);

@@ -24,7 +24,7 @@ fn write_text(answer: ListAnswer, out: &[u8]) -> bool
     requires { ⌜ valuesOf answer .len ≤ length (now out) ⌝ }
 {
     match answer {
-        ListAnswer::Lines { len, noise: _ } => io::write_all(STDOUT_FILENO, &out[..len]),
+        ListAnswer::Lines { len, .. } => io::write_all(STDOUT_FILENO, &out[..len]),
         ListAnswer::Refused(_) => false,
     }
 }
@@ -34,7 +34,7 @@ fn noise_of(answer: ListAnswer) -> u64
     ensures { λ r. ⌜ r ≡ valuesOf answer .noise ⌝ }
 {
     match answer {
-        ListAnswer::Lines { len: _, noise } => noise as u64,
+        ListAnswer::Lines { noise, .. } => noise as u64,
         ListAnswer::Refused(_) => 0,
     }
 }

@@ -19,7 +19,8 @@ use Rattle.boundary.specs.declared.line.LineFed.{LineFed}
 
 -- The numbers of an answer as they cross.
 abbrev pub flatValues : Values → LineAnswer
-flatValues v = record { refusal = v .number; «is_frame» = v .isFrame; taken = v .taken; noise = v .noise; len = v .len }
+flatValues v =
+    record { refusal = v .number; «is_frame» = v .isFrame; taken = v .taken; noise = v .noise; judged = v .judged; len = v .len }
 
 -- The mark as it crosses: 1 for yes, 0 for no. Any other number is no mark.
 abbrev pub markNumber : Bool → ℕ
@@ -31,7 +32,8 @@ markIn n = eqb n 1
 
 -- A state as it crosses.
 abbrev pub flatReader : Reader → LineReader
-flatReader r = record { format = formatNumber (r .format); held = r .held; count = r .count; follows = markNumber (r .follows) }
+flatReader r =
+    record { format = formatNumber (r .format); held = r .held; count = r .count; follows = markNumber (r .follows); judged = r .judged }
 
 -- The format of a state that crossed: the one that its number stands for, and none where its mark is neither 0 nor 1.
 unfoldable pub formatIn : LineReader → NamedFormat
@@ -39,11 +41,11 @@ formatIn r = cond (leb (r .follows) 1) (formatOf (r .format)) Unknown
 
 -- The state that crossed, whose format is m.
 abbrev pub readerIn : Format → LineReader → Reader
-readerIn m r = record { format = m; held = r .held; count = r .count; follows = markIn (r .follows) }
+readerIn m r = record { format = m; held = r .held; count = r .count; follows = markIn (r .follows); judged = r .judged }
 
 -- A new reader's state.
 abbrev pub newFlat : ℕ → LineReader
-newFlat n = record { format = n; held = replicate 517 0; count = 0; follows = 0 }
+newFlat n = record { format = n; held = replicate 517 0; count = 0; follows = 0; judged = 0 }
 
 -- There is an answer that keeps the frame crate's promise, and it is what crosses.
 pub record Crosses (A : Type 0) (Promised : A → Type 0) (flat : A → LineFed) (fed : LineFed) : Type 0 where

@@ -10,23 +10,26 @@ ghost use mathlib.Core.Path.{_≡_};
 ghost use Rattle.frame.specs.Reader.{refusalValues, feedValuesOf, quietValuesOf};
 ghost use Rattle.boundary.specs.Line.{markNumber, flatReader, flatValues, formatIn, readerIn, newFlat, FeedsFlat, QuietsFlat};
 
-// A reader's state: its format as a number, the bytes that it holds, the first `count` of `held`, and whether an optional byte may follow the last frame: 0
-// for no, 1 for yes. A call with a state whose mark is any other number, or whose format is none, is refused with 255.
+// A reader's state: its format as a number, the bytes that it holds, the first `count` of `held`, whether an optional byte may follow the last frame, 0 for no,
+// 1 for yes, and how many of the held bytes were judged at the first held place. A call with a state whose mark is any other number, or whose format is none,
+// is refused with 255; one with a state that holds more bytes than a frame can have, or says that more bytes were judged than it holds, with 16.
 #[repr(C)]
 pub struct LineReader {
     pub format: u8,
     pub held: [u8; 517],
     pub count: usize,
     pub follows: u8,
+    pub judged: usize,
 }
 
-// The answer's numbers: the refusal's, 0 for none, bytes taken, noise, the payload's length, and whether there is a frame.
+// The answer's numbers: the refusal's, 0 for none, whether there is a frame, bytes taken, noise, bytes judged, and the payload's length.
 #[repr(C)]
 pub struct LineAnswer {
     pub refusal: u8,
     pub is_frame: bool,
     pub taken: usize,
     pub noise: usize,
+    pub judged: usize,
     pub len: usize,
 }
 
@@ -45,6 +48,7 @@ fn refused(number: u8) -> LineAnswer
         is_frame: false,
         taken: 0,
         noise: 0,
+        judged: 0,
         len: 0,
     }
 }
@@ -53,18 +57,29 @@ fn fed_numbers(answer: FeedAnswer) -> LineAnswer
     ensures { λ r. ⌜ r ≡ flatValues (feedValuesOf answer) ⌝ }
 {
     match answer {
-        FeedAnswer::Frame { taken, noise, len } => LineAnswer {
+        FeedAnswer::Frame {
+            taken,
+            noise,
+            judged,
+            len,
+        } => LineAnswer {
             refusal: 0,
             is_frame: true,
             taken: taken,
             noise: noise,
+            judged: judged,
             len: len,
         },
-        FeedAnswer::NeedsMore { taken, noise } => LineAnswer {
+        FeedAnswer::NeedsMore {
+            taken,
+            noise,
+            judged,
+        } => LineAnswer {
             refusal: 0,
             is_frame: false,
             taken: taken,
             noise: noise,
+            judged: judged,
             len: 0,
         },
         FeedAnswer::Refused(refusal) => refused(refusal.number()),
@@ -75,18 +90,20 @@ fn quiet_numbers(answer: QuietAnswer) -> LineAnswer
     ensures { λ r. ⌜ r ≡ flatValues (quietValuesOf answer) ⌝ }
 {
     match answer {
-        QuietAnswer::Frame { noise, len } => LineAnswer {
+        QuietAnswer::Frame { noise, judged, len } => LineAnswer {
             refusal: 0,
             is_frame: true,
             taken: 0,
             noise: noise,
+            judged: judged,
             len: len,
         },
-        QuietAnswer::Empty { noise } => LineAnswer {
+        QuietAnswer::Empty { noise, judged } => LineAnswer {
             refusal: 0,
             is_frame: false,
             taken: 0,
             noise: noise,
+            judged: judged,
             len: 0,
         },
         QuietAnswer::Refused(refusal) => refused(refusal.number()),
@@ -112,6 +129,7 @@ fn flat(reader: Reader) -> LineReader
         held: held,
         count: reader.count,
         follows: mark_number(reader.follows),
+        judged: reader.judged,
     }
 }
 
@@ -134,6 +152,7 @@ fn reader_in(format: Format, reader: LineReader) -> Reader
         held: held,
         count: reader.count,
         follows: reader.follows == 1,
+        judged: reader.judged,
     }
 }
 
@@ -147,6 +166,7 @@ pub extern "C" fn boundary_new_reader(format: u8) -> LineReader
         held: [0u8; Reader::MAX_ASCII],
         count: 0,
         follows: 0,
+        judged: 0,
     }
 }
 

@@ -75,23 +75,15 @@ fn with_noise(tally: Tally, noise: usize) -> Tally {
 // The tally after an answer.
 fn with_answer(tally: Tally, answer: FeedAnswer, buf: &[u8]) -> Tally {
     match answer {
-        FeedAnswer::Frame {
-            taken: _,
-            noise,
-            len,
-        } => with_frame(tally, noise, buf, len),
-        FeedAnswer::NeedsMore { taken: _, noise } => with_noise(tally, noise),
+        FeedAnswer::Frame { noise, len, .. } => with_frame(tally, noise, buf, len),
+        FeedAnswer::NeedsMore { noise, .. } => with_noise(tally, noise),
         FeedAnswer::Refused(_) => tally,
     }
 }
 
 // Whether a frame was handed out.
 fn is_frame(answer: FeedAnswer) -> bool {
-    if let FeedAnswer::Frame {
-        taken: _,
-        noise: _,
-        len: _,
-    } = answer {
+    if let FeedAnswer::Frame { .. } = answer {
         return true;
     }
     false
@@ -114,11 +106,7 @@ fn next_span(answer: FeedAnswer, span: Span, size: usize, len: usize) -> Span
 {
     let at = span.at;
     let end = span.end;
-    if let FeedAnswer::Frame {
-        taken,
-        noise: _,
-        len: _,
-    } = answer {
+    if let FeedAnswer::Frame { taken, .. } = answer {
         return Span {
             at: at + smaller(taken, end - at),
             end: end,
@@ -143,7 +131,11 @@ fn is_viewed(count: usize, size: usize) -> bool {
 fn all_taken(reader: Reader) -> Fed {
     Fed {
         reader: reader,
-        answer: FeedAnswer::NeedsMore { taken: 0, noise: 0 },
+        answer: FeedAnswer::NeedsMore {
+            taken: 0,
+            noise: 0,
+            judged: 0,
+        },
     }
 }
 
@@ -156,6 +148,7 @@ fn drive_view(format: Format, follows: bool, start: Tally, chunk: &[u8], buf: &m
         from: 0,
         end: 0,
         follows: follows,
+        judged: 0,
     };
     let mut turns: u64 = 0x20000;
     while 0 < turns {
@@ -219,10 +212,10 @@ fn drive_quiet(start: Driven) -> Tally {
     while 0 < turns {
         let answer = last.answer;
         match answer {
-            QuietAnswer::Frame { noise, len } => {
+            QuietAnswer::Frame { noise, len, .. } => {
                 tally = with_frame(tally, noise, &buf, len);
             }
-            QuietAnswer::Empty { noise } => {
+            QuietAnswer::Empty { noise, .. } => {
                 return with_noise(tally, noise);
             }
             QuietAnswer::Refused(_) => {

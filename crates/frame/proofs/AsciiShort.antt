@@ -103,7 +103,8 @@ module _ (ending : Ending) (s : List ℕ) (count : ℕ) (h : Short ending s coun
 
 -- A short frame's sum is made.
 pub short-summed :
-    (ending : Ending) (s : List ℕ) (count total : ℕ) → count ≡ digitRun 515 (drop 1 s) → Short ending s count → total ≡ sumOf (decoded (take count (drop 1 s))) →
+    (ending : Ending) (s : List ℕ) (count total : ℕ) → count ≡ digitRun 515 (drop 1 s) → Short ending s count →
+    total ≡ sumOf (decoded (take count (drop 1 s))) →
     Summed s count total
 short-summed ending s count total r h e =
     record {

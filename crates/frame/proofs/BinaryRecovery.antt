@@ -443,7 +443,8 @@ module _ (footer : Footer) where
   -- A good frame that begins 260 or more bytes into the stretch is clear of the frames that begin in the damage.
   pub late-clear :
       (damage : List ℕ) (gs : List (List ℕ)) → Recovered footer damage gs → (x : Found) →
-      List·Memᴰ x (foundsFrom (Binary footer) (length damage) gs) → length damage + 260 ≤ x .place → List·Memᴰ x (clearOf footer (earlyOf footer damage gs) damage gs)
+      List·Memᴰ x (foundsFrom (Binary footer) (length damage) gs) → length damage + 260 ≤ x .place →
+      List·Memᴰ x (clearOf footer (earlyOf footer damage gs) damage gs)
   late-clear damage gs r x m l =
       let early : List Found = earlyOf footer damage gs in
       mem-select

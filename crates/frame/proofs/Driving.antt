@@ -10,15 +10,13 @@ use borrow.Author.Tests.{le-leb}
 use lib.Dec.{leb}
 use lib.ListN.{length, take, drop, replicate, length-append, length-drop, length-map}
 use lib.Seq.{take-append-seam, drop-append-seam, drop-append-le}
-use Rattle.frame.specs.Framing.{limit, inFront}
+use Rattle.frame.specs.Framing.{inFront}
 use Rattle.frame.specs.Rule.{Output, nothing, join, Found, rule}
-use Rattle.frame.specs.Reader.{State, holding, Called, line, quietHeld, quiet, after, stateOf, Holds, newReader, Values}
-use Rattle.frame.specs.Reader.{feedValuesOf, quietValuesOf, calledValues, bufferAt, quietRefusal}
-use Rattle.frame.specs.Reader.{feedRefusal, Gives, Feeds, AfterQuiet, Quiets}
+use Rattle.frame.specs.Reader.{State, holding, Called, line, quietHeld, quiet, lineJudged, quietJudged, judgedHeld, after, stateOf, Holds, newReader}
+use Rattle.frame.specs.Reader.{Values, feedValuesOf, quietValuesOf, calledValues, bufferAt, quietRefusal, feedRefusal, Gives, Feeds, AfterQuiet, Quiets}
 use Rattle.frame.specs.Drain.{ruleAfter}
 use Rattle.frame.specs.Elements.{All}
-use Rattle.frame.specs.Calls.{WithFrame, outOf, Phase, offering, ending, over}
-use Rattle.frame.specs.Calls.{Calls, fed, taken, quieted, emptied, feedRefused, quietRefused, done}
+use Rattle.frame.specs.Calls.{WithFrame, outOf, Phase, offering, ending, over, Calls, fed, taken, quieted, emptied, feedRefused, quietRefused, done}
 use Rattle.frame.specs.Driving.{countOf, chunksAfter, Offers, CanDrive, DrivesAreShort}
 use Rattle.frame.specs.declared.framing.Format.{Format}
 use Rattle.frame.specs.declared.reader.Reader.{Reader}
@@ -28,27 +26,33 @@ use Rattle.frame.specs.declared.reader.Quieted.{Quieted}
 use Rattle.frame.specs.declared.answer.QuietAnswer.the-variants.{Frame as QuietFrame, Empty}
 use Rattle.frame.proofs.Rules.{given-behind-nil, rule-few}
 use Rattle.frame.proofs.Promises.{answers}
-use Rattle.frame.proofs.Settling.{line-rule, line-one, line-taken, line-size, quiet-rule, quiet-one, quiet-left, quiet-size}
-use Rattle.frame.proofs.Settling.{needs-more-is-true}
+use Rattle.frame.proofs.Settling.{line-rule, line-one, line-taken, line-size, quiet-rule, quiet-one, quiet-left, quiet-size, needs-more-is-true}
 use Rattle.frame.proofs.Calling.{calls-follow-rule}
-use Rattle.frame.proofs.Refusals.{StateFits, fits-held, holds-fits}
+use Rattle.frame.proofs.Refusals.{StateFits, new-fits, fits-held, judged-few, holds-fits}
 
 -- A reader with this state.
 abbrev readerOf : State → Reader
-readerOf s = record { format = s .format; held = s .held ++ replicate (517 - length (s .held)) 0; count = length (s .held); follows = s .follows }
+readerOf s =
+    record {
+      format = s .format;
+      held = s .held ++ replicate (517 - length (s .held)) 0;
+      count = length (s .held);
+      follows = s .follows;
+      judged = s .judged;
+    }
 
 -- It has it.
 reader-holds : (s : State) → Holds s (readerOf s)
 reader-holds s = record {
-  state = ap (λ (h : List ℕ). holding (s .format) h (s .follows)) (take-append-seam (s .held) (replicate (517 - length (s .held)) 0));
+  state = ap (λ (h : List ℕ). holding (s .format) h (s .follows) (s .judged)) (take-append-seam (s .held) (replicate (517 - length (s .held)) 0));
   count = refl;
 }
 
 -- A call that is not refused answers by what came out of it.
 keeps :
-    {number : ℕ} (c : Called) {Next : Reader → Type 0} {r : Reader} (fs : List (List ℕ)) (buf : List ℕ) (r′ : Reader) →
-    number ≡ 0 → c .out .frames ≡ fs → Next r′ → Gives number c Next r buf (calledValues c fs) r′ (bufferAt fs buf)
-keeps c fs buf r′ z e next = answers z (ap (calledValues c) (sym e)) next (ap (λ (x : List (List ℕ)). bufferAt x buf) (sym e))
+    {number : ℕ} (c : Called) (j : ℕ) {Next : Reader → Type 0} {r : Reader} (fs : List (List ℕ)) (buf : List ℕ) (r′ : Reader) →
+    number ≡ 0 → c .out .frames ≡ fs → Next r′ → Gives number c j Next r buf (calledValues c j fs) r′ (bufferAt fs buf)
+keeps c j fs buf r′ z e next = answers z (ap (calledValues c j) (sym e)) next (ap (λ (x : List (List ℕ)). bufferAt x buf) (sym e))
 
 -- A buffer with room for any payload.
 buffer : List ℕ
@@ -62,14 +66,14 @@ buffer-room = refl
 -- A quiet call with it and a state that fits is not refused.
 quiet-free : (r : Reader) → StateFits r → quietRefusal r (length buffer) ≡ 0
 quiet-free r l =
-    ap₂ (λ (s t : Bool). cond s (cond t 0 13) 16) (le-leb (r .count) (limit (r .format)) l) buffer-room
+    ap₂ (λ (s t : Bool). cond s (cond t 0 13) 16) l buffer-room
 
 -- Nor is a line call, where the chunk is not too long.
 feed-free : (r : Reader) (chunk : List ℕ) → StateFits r → length chunk ≤ 65536 → feedRefusal r (length buffer) (length chunk) ≡ 0
 feed-free r chunk l k =
     ap₂
     (λ (s t : Bool). cond s (cond t (cond (leb (length chunk) 65536) 0 15) 13) 16)
-    (le-leb (r .count) (limit (r .format)) l)
+    l
     buffer-room
     ∙ ap (λ (t : Bool). cond t 0 15) (le-leb (length chunk) 65536 k)
 
@@ -103,12 +107,12 @@ module _ (r : Reader) (l : StateFits r) where
   unfolding quietHeld
   ends-empty n e h =
       let f : Format = r .format in
-      let a : Quieted = record { reader = newReader f; answer = Empty (quietCall .out .noise) } in
+      let a : Quieted = record { reader = newReader f; answer = Empty (quietCall .out .noise) (quietJudged (stateOf r)) } in
       let p : Quiets r buffer a buffer =
-      keeps quietCall [] buffer (newReader f) (quiet-free r l) h
+      keeps quietCall (quietJudged (stateOf r)) [] buffer (newReader f) (quiet-free r l) h
       (subst (λ (fs : List (List ℕ)). AfterQuiet (r .format) quietCall fs (newReader f)) (sym h) refl) in
       let left : payloadsIn (after (stateOf r) quietCall) [] ≡ 0 =
-      ap (λ (h : List ℕ). payloadsIn (holding f h (quietCall .follows)) []) (quiet-left (stateOf r) h)
+      ap (λ (h : List ℕ). payloadsIn (holding f h (quietCall .follows) 0) []) (quiet-left (stateOf r) h)
       ∙ ap (λ (o : Output (List ℕ)). length (o .frames)) (given-behind-nil f (quietCall .follows)) in
       let z : n ≡ 0 = sym e ∙ quiet-count ∙ ap₂ _+_ (ap length h) left in
       record {
@@ -126,14 +130,17 @@ module _ (r : Reader) (l : StateFits r) where
   ends-frame n p ps e h later =
       let s′ : State = after (stateOf r) quietCall in
       let r′ : Reader = readerOf s′ in
-      let a : Quieted = record { reader = r′; answer = QuietFrame (quietCall .out .noise) (length p) } in
+      let a : Quieted = record { reader = r′; answer = QuietFrame (quietCall .out .noise) (quietJudged (stateOf r)) (length p) } in
       let q : Quiets r buffer a (inFront p buffer) =
-      keeps quietCall (p ∷ ps) buffer r′ (quiet-free r l) h
-      (subst (λ (fs : List (List ℕ)). AfterQuiet (r .format) quietCall fs r′) (sym h) (reader-holds s′)) in
+      keeps quietCall (quietJudged (stateOf r)) (p ∷ ps) buffer r′ (quiet-free r l) h
+      (subst
+      (λ (fs : List (List ℕ)). AfterQuiet (r .format) quietCall fs r′) (sym h)
+      (subst (λ (fs : List (List ℕ)). Holds (holding (r .format) (quietCall .held) (quietCall .follows) (judgedHeld fs (quietCall .held))) r′)
+      h (reader-holds s′))) in
       let first : length (quietCall .out .frames) ≡ suc (length ps) = ap length h in
       let rest : payloadsIn s′ [] ≡ n = omega (arith, quiet-one (stateOf r), quiet-count) in
       let k : Ends r′ n =
-      later r′ (holds-fits (reader-holds s′) (le-trans (quiet-size (stateOf r)) (fits-held r l)))
+      later r′ (holds-fits (reader-holds s′) (le-trans (quiet-size (stateOf r)) (fits-held r l)) (judged-few (quietCall .out .frames) (quietCall .held)))
       (ap (λ (s : State). payloadsIn s []) (reader-holds s′ .state) ∙ rest) in
       record {
         out = join (outOf (quietValuesOf (a .answer)) (inFront p buffer)) (k .out);
@@ -201,7 +208,8 @@ module _
 
     -- It fits.
     next-fits : StateFits next
-    next-fits = holds-fits (reader-holds (after (stateOf r) call)) (line-size (stateOf r) chunk (fits-held r l))
+    next-fits =
+        holds-fits (reader-holds (after (stateOf r) call)) (line-size (stateOf r) chunk (fits-held r l)) (judged-few (call .out .frames) (call .held))
 
     -- The payloads still to come are those of this call and those that come after it.
     next-left : payloadsIn (stateOf r) todo ≡ length (call .out .frames) + payloadsIn (stateOf next) (drop (call .taken) todo)
@@ -222,9 +230,9 @@ module _
     goes-on : (fs : List (List ℕ)) → call .out .frames ≡ fs → Goes r todo (chunk ∷ chunks) (suc n)
     unfolding flatten
     goes-on [] h =
-        let a : Fed = record { reader = next; answer = NeedsMore (call .taken) (call .out .noise) } in
+        let a : Fed = record { reader = next; answer = NeedsMore (call .taken) (call .out .noise) (lineJudged (stateOf r) chunk) } in
         let q : Feeds r chunk buffer a buffer =
-        keeps call [] buffer next (feed-free r chunk l (short .0)) h (reader-holds (after (stateOf r) call)) in
+        keeps call (lineJudged (stateOf r) chunk) [] buffer next (feed-free r chunk l (short .0)) h (reader-holds (after (stateOf r) call)) in
         let rest : drop (call .taken) todo ≡ flatten chunks =
         ap₂ drop (needs-more-is-true (stateOf r) chunk h .0) e ∙ drop-append-seam chunk (flatten chunks) in
         let none : length (call .out .frames) ≡ 0 = ap length h in
@@ -237,9 +245,9 @@ module _
           count = ap suc {x = countOf (k .calls)} (k .count);
         }
     goes-on (p ∷ ps) h =
-        let a : Fed = record { reader = next; answer = FeedFrame (call .taken) (call .out .noise) (length p) } in
+        let a : Fed = record { reader = next; answer = FeedFrame (call .taken) (call .out .noise) (lineJudged (stateOf r) chunk) (length p) } in
         let q : Feeds r chunk buffer a (inFront p buffer) =
-        keeps call (p ∷ ps) buffer next (feed-free r chunk l (short .0)) h (reader-holds (after (stateOf r) call)) in
+        keeps call (lineJudged (stateOf r) chunk) (p ∷ ps) buffer next (feed-free r chunk l (short .0)) h (reader-holds (after (stateOf r) call)) in
         let again : List (List ℕ) = drop (call .taken) chunk ∷ chunks in
         let rest : drop (call .taken) todo ≡ flatten again =
         ap (drop (call .taken)) e ∙ drop-append-le (call .taken) chunk (flatten chunks) (line-taken (stateOf r) chunk) in
@@ -267,14 +275,14 @@ goes (suc n) r todo (chunk ∷ chunks) l e short z =
     (line (stateOf r) chunk .out .frames) refl
 
 -- A segment has no more payloads than bytes.
-payloads-few : (f : Format) (s : List ℕ) → payloadsIn (holding f [] false) s ≤ length s
+payloads-few : (f : Format) (s : List ℕ) → payloadsIn (holding f [] false 0) s ≤ length s
 payloads-few f s = rw (length-map (rule f s .frames) (λ (x : Found). x .payload)) (rule-few f s)
 
 -- However a segment is cut into chunks, a caller gets it through a new reader.
 pub can-drive : (f : Format) → CanDrive f
 can-drive f chunks short =
-    let n : ℕ = payloadsIn (holding f [] false) (flatten chunks) + length chunks in
-    let k : Goes (newReader f) (flatten chunks) chunks n = goes n (newReader f) (flatten chunks) chunks zero-le refl short refl in
+    let n : ℕ = payloadsIn (holding f [] false 0) (flatten chunks) + length chunks in
+    let k : Goes (newReader f) (flatten chunks) chunks n = goes n (newReader f) (flatten chunks) chunks (new-fits f) refl short refl in
     record { out = k .out; calls = k .calls; offers = k .offers; few = omega (arith, k .count, payloads-few f (flatten chunks)) }
 
 -- The call that says "empty" is still to come, or not.
@@ -328,6 +336,6 @@ few-calls done chunks o = zero-le
 -- However a caller offers a segment in chunks, the calls are no more than chunks and bytes, and one.
 pub drives-are-short : (f : Format) → DrivesAreShort f
 drives-are-short f chunks out calls o =
-    let all : length (out .frames) ≡ payloadsIn (holding f [] false) (flatten chunks) =
+    let all : length (out .frames) ≡ payloadsIn (holding f [] false 0) (flatten chunks) =
     ap (λ (x : Output (List ℕ)). length (x .frames)) (calls-follow-rule f (flatten chunks) out calls) in
     omega (arith, few-calls calls chunks o, payloads-few f (flatten chunks))

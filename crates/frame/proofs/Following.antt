@@ -3,16 +3,17 @@
 use Prim.Native.Nat.{ℕ, zero, suc, _+_, _-_, _≤_, _<_, min, zero-le}
 use native.Mathlib.Nat.{zero-add, not-suc-le-zero}
 use native.Mathlib.Omega.{arith}
-use mathlib.Core.Bool.{Bool}
+use mathlib.Core.Bool.{Bool, true, false}
 use mathlib.Core.List.{List, [], _∷_}
 use mathlib.Core.Path.{_≡_, refl, sym, ap, ap₂, _∙_, subst}
 use lib.ListN.{length, take, drop, length-drop}
 use lib.Seq.{drop-drop}
 use Rattle.frame.specs.Framing.{absorbed, behindOptional}
-use Rattle.frame.specs.Reader.{Called, called, lineOn, tookFirst, lineBehind, Values, feedValuesOf, valuesAt}
+use Rattle.frame.specs.Reader.{holding, Called, called, lineOn, tookFirst, lineBehind, judgedTo, lineJudged}
+use Rattle.frame.specs.Reader.{Values, noFrameValues, feedValuesOf, valuesAt}
 use Rattle.frame.specs.View.{part}
 use Rattle.frame.specs.Answer.{TookFirst, scanWhole}
-use Rattle.frame.specs.Feeding.{Leaves, KeepsCall}
+use Rattle.frame.specs.Feeding.{Leaves, judgedIn, KeepsCall}
 use Rattle.frame.specs.declared.framing.Format.{Format}
 use Rattle.frame.specs.declared.reader.Left.{Left}
 use Rattle.frame.specs.declared.answer.Kept.{Kept}
@@ -37,40 +38,55 @@ behind-held f follows (b ∷ h) chunk l = refl
 
 -- An answer's bytes taken are those of its call, and no more than the chunk has.
 pub few-taken :
-    (f : Format) (h chunk : List ℕ) (answer : FeedAnswer) → feedValuesOf answer ≡ valuesAt (lineOn f h chunk) → length chunk ≤ 65536 →
+    (f : Format) (h chunk : List ℕ) (total : ℕ) (answer : FeedAnswer) → feedValuesOf answer ≡ valuesAt (lineOn f h chunk) total → length chunk ≤ 65536 →
     feedValuesOf answer .taken ≤ 65536
-few-taken f h chunk answer e l =
+few-taken f h chunk total answer e l =
     let c : Called = lineOn f h chunk in
-    omega (arith, ap (λ (v : Values). v .taken) e ∙ called-taken c (c .out .frames), on-taken f h chunk)
+    omega (arith, ap (λ (v : Values). v .taken) e ∙ called-taken c total (c .out .frames), on-taken f h chunk)
+
+-- Of no bytes none is judged.
+none-judged : (f : Format) (follows : Bool) (judged : ℕ) → lineJudged (holding f [] follows judged) [] ≡ 0
+unfolding judgedTo
+none-judged f true judged = omega arith
+none-judged f false judged = omega arith
 
 -- Nothing is held: with an empty chunk the mark stays.
 pub next-empty :
     (f : Format) (follows : Bool) (chunk buf held : List ℕ) → length chunk ≡ 0 →
-    Leaves (lineBehind f follows [] chunk) buf (record { answer = NeedsMore 0 0; count = 0; follows = follows }) held buf
-next-empty f follows [] buf held e = record { values = refl; count = refl; bytes = refl; follows = refl; buffer = refl }
+    Leaves (lineBehind f follows [] chunk) (lineJudged (holding f [] follows 0) chunk) buf
+    (record { answer = NeedsMore 0 0 0; count = 0; follows = follows }) held buf
+next-empty f follows [] buf held e =
+    record {
+      values = ap (noFrameValues 0 0) (sym (none-judged f follows 0));
+      count = refl;
+      bytes = refl;
+      follows = refl;
+      buffer = refl;
+    }
 next-empty f follows (b ∷ chunk) buf held e = absurd (let z : ⊥ = omega arith in z)
 
 -- The chunk alone was fed.
 pub next-values :
-    (f : Format) (rest buf : List ℕ) (left : Left) (held buf′ : List ℕ) → Leaves (scanWhole f 0 0 0 rest) buf left held buf′ →
-    Leaves (lineOn f [] rest) buf left held buf′
-next-values f rest buf left held buf′ h = subst (λ (c : Called). Leaves c buf left held buf′) (scan-chunk f rest) h
+    (f : Format) (rest : List ℕ) (total : ℕ) (buf : List ℕ) (left : Left) (held buf′ : List ℕ) → Leaves (scanWhole f 0 0 0 rest) total buf left held buf′ →
+    Leaves (lineOn f [] rest) total buf left held buf′
+next-values f rest total buf left held buf′ h = subst (λ (c : Called). Leaves c total buf left held buf′) (scan-chunk f rest) h
 
 -- Otherwise an optional byte in front of it is taken first.
 pub next-leaves :
-    (f : Format) (follows : Bool) (chunk rest buf : List ℕ) (n : ℕ) (left : Left) (answer : FeedAnswer) (held buf′ : List ℕ) → 0 < length chunk →
-    n ≡ absorbed f follows chunk → rest ≡ drop n chunk → Leaves (scanWhole f 0 0 0 rest) buf left held buf′ → TookFirst n (left .answer) answer →
-    Leaves (lineBehind f follows [] chunk) buf (record { answer = answer; count = left .count; follows = left .follows }) held buf′
-next-leaves f follows [] rest buf n left answer held buf′ l e r h t = absurd (not-suc-le-zero l)
-next-leaves f follows (b ∷ chunk) rest buf n left answer held buf′ l e r h t =
-    let k : Leaves (lineOn f [] rest) buf left held buf′ = next-values f rest buf left held buf′ h in
+    (f : Format) (follows : Bool) (chunk rest buf : List ℕ) (n total : ℕ) (left : Left) (answer : FeedAnswer) (held buf′ : List ℕ) → 0 < length chunk →
+    n ≡ absorbed f follows chunk → rest ≡ drop n chunk → Leaves (scanWhole f 0 0 0 rest) total buf left held buf′ → TookFirst n (left .answer) answer →
+    Leaves (lineBehind f follows [] chunk) total buf
+    (record { answer = answer; count = left .count; follows = left .follows }) held buf′
+next-leaves f follows [] rest buf n total left answer held buf′ l e r h t = absurd (not-suc-le-zero l)
+next-leaves f follows (b ∷ chunk) rest buf n total left answer held buf′ l e r h t =
+    let k : Leaves (lineOn f [] rest) total buf left held buf′ = next-values f rest total buf left held buf′ h in
     let same : tookFirst n (lineOn f [] rest) ≡ lineBehind f follows [] (b ∷ chunk) =
     ap (λ (s : List ℕ). tookFirst n (lineOn f [] s)) r ∙ ap (λ (i : ℕ). tookFirst i (lineOn f [] (drop i (b ∷ chunk)))) e in
     subst
-    (λ (c : Called). Leaves c buf (record { answer = answer; count = left .count; follows = left .follows }) held buf′)
+    (λ (c : Called). Leaves c total buf (record { answer = answer; count = left .count; follows = left .follows }) held buf′)
     same
     (record {
-      values = t (lineOn f [] rest) (k .values);
+      values = t (lineOn f [] rest) total (k .values);
       count = k .count;
       bytes = k .bytes;
       follows = k .follows;
@@ -79,12 +95,21 @@ next-leaves f follows (b ∷ chunk) rest buf n left answer held buf′ l e r h t
 
 -- A view of no bytes: the mark stays.
 pub view-empty :
-    (f : Format) (follows : Bool) (w buf : List ℕ) (count : ℕ) → length w ≡ 0 → count ≤ length w →
-    KeepsCall (lineBehind f follows (take count w) (drop count w)) count w (record { answer = NeedsMore 0 0; from = 0; end = 0; follows = follows }) buf buf
-view-empty f follows [] buf zero e l =
-    record { values = refl; held = refl; inside = zero-le; there = zero-le; ends = refl; follows = refl; buffer = refl }
-view-empty f follows [] buf (suc count) e l = absurd (not-suc-le-zero l)
-view-empty f follows (b ∷ w) buf count e l = absurd (let z : ⊥ = omega arith in z)
+    (f : Format) (follows : Bool) (w buf : List ℕ) (count judged : ℕ) → length w ≡ 0 → count ≤ length w →
+    KeepsCall (lineBehind f follows (take count w) (drop count w)) (judgedIn f follows count judged w) count w
+    (record { answer = NeedsMore 0 0 0; from = 0; end = 0; follows = follows }) buf buf
+view-empty f follows [] buf zero judged e l =
+    record {
+      values = ap (noFrameValues 0 0) (sym (none-judged f follows judged));
+      held = refl;
+      inside = zero-le;
+      there = zero-le;
+      ends = refl;
+      follows = refl;
+      buffer = refl;
+    }
+view-empty f follows [] buf (suc count) judged e l = absurd (not-suc-le-zero l)
+view-empty f follows (b ∷ w) buf count judged e l = absurd (let z : ⊥ = omega arith in z)
 
 -- A call over w, the first `count` bytes of which are held: an optional byte in front of w is passed over, and taken where it was not held.
 split-line :
@@ -113,20 +138,21 @@ split-line f follows (b ∷ w) (suc count) n l e =
 
 -- The part that is kept of what stands behind that byte.
 pub view-follows :
-    (f : Format) (follows : Bool) (w s buf : List ℕ) (count n held : ℕ) (k : Kept) (answer : FeedAnswer) (buf′ : List ℕ) → 0 < length w →
+    (f : Format) (follows : Bool) (w s buf : List ℕ) (total count n held : ℕ) (k : Kept) (answer : FeedAnswer) (buf′ : List ℕ) → 0 < length w →
     n ≡ absorbed f follows w → n ≤ length w → held ≡ min n count → s ≡ drop n w →
-    KeepsCall (lineOn f (take (count - held) s) (drop (count - held) s)) (count - held) s k buf buf′ → TookFirst (n - held) (k .answer) answer →
-    KeepsCall (lineBehind f follows (take count w) (drop count w)) count w
+    KeepsCall (lineOn f (take (count - held) s) (drop (count - held) s)) total (count - held) s k buf buf′ → TookFirst (n - held) (k .answer) answer →
+    KeepsCall (lineBehind f follows (take count w) (drop count w)) total count w
     (record { answer = answer; from = n + k .from; end = n + k .end; follows = k .follows }) buf buf′
-view-follows f follows w s buf count n held k answer buf′ l e there m r h t =
+view-follows f follows w s buf total count n held k answer buf′ l e there m r h t =
     let c : Called = lineOn f (take (count - held) s) (drop (count - held) s) in
     let same : tookFirst (n - held) c ≡ lineBehind f follows (take count w) (drop count w) =
     ap₂ (λ (i : ℕ) (x : List ℕ). tookFirst (n - i) (lineOn f (take (count - i) x) (drop (count - i) x))) m r ∙ sym (split-line f follows w count n l e) in
     subst
-    (λ (x : Called). KeepsCall x count w (record { answer = answer; from = n + k .from; end = n + k .end; follows = k .follows }) buf buf′)
+    (λ (x : Called).
+    KeepsCall x total count w (record { answer = answer; from = n + k .from; end = n + k .end; follows = k .follows }) buf buf′)
     same
     (record {
-      values = t c (h .values);
+      values = t c total (h .values);
       held = sym (part-rest n (k .from) (k .end) w) ∙ ap (part (k .from) (k .end)) (sym r) ∙ h .held;
       inside = omega (arith, h .inside);
       there = omega (arith, h .there, ap length r ∙ length-drop n w);

@@ -32,6 +32,11 @@ pub mod Calling
 pub mod Views
 pub mod Refusals
 pub mod Driving
+-- How many bytes are judged.
+pub mod RuleCounts
+pub mod CallCounts
+pub mod Bounds
+pub mod CountExamples
 -- Good frames behind damage.
 pub mod Stretches
 pub mod AsciiRecovery
@@ -42,7 +47,9 @@ pub mod MarkExamples
 -- How the code scans, and that what it makes of a scan is the call.
 pub mod Scanning
 pub mod Skipping
+pub mod Counting
 pub mod ScanCalls
+pub mod JudgedCalls
 pub mod Readers
 pub mod Following
 -- Every claim of specs/ under its name; a crate above this one cites this file alone.

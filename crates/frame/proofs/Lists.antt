@@ -8,7 +8,8 @@ use native.Mathlib.Nat.{le-refl, le-of-lt, zero-add, sub-zero, zero-sub, suc-sub
 use native.Mathlib.Numerals.{add-one, add-two}
 use native.Mathlib.Omega.{arith}
 use lib.ListN.{length, getD, take, drop, set, length-append, length-drop}
-use lib.Seq.{paste, take-append-le, take-take, take-add, take-nil, drop-cons, set-at, append-snoc, take-at, take-all, take-length, drop-append-add, drop-drop, take-suc, length-take-le}
+use lib.Seq.{paste, take-append-le, take-take, take-add, take-nil, drop-cons, set-at, append-snoc, take-at}
+use lib.Seq.{take-all, take-length, drop-append-add, drop-drop, take-suc, length-take-le}
 use Rattle.frame.specs.Elements.{Bytes}
 use Rattle.frame.specs.DigitRuns.{allPass}
 

@@ -157,13 +157,19 @@ read-most (Binary Optional) s p judged e =
 read-most (Binary Required) s p judged e = omega (arith, frame-sized (Binary Required) s p judged e .most)
 read-most (Ascii CrLf) s p judged e = omega (arith, frame-sized (Ascii CrLf) s p judged e .most)
 read-most (Ascii Any) s p judged e =
-    omega (arith, used-is (Ascii Any) s p judged e, payload-size (Ascii Any) s p judged e .1, absorbed-one (Ascii Any) (isOpen (Ascii Any) judged s) (drop judged s))
+    omega (
+      arith,
+      used-is (Ascii Any) s p judged e,
+      payload-size (Ascii Any) s p judged e .1,
+      absorbed-one (Ascii Any) (isOpen (Ascii Any) judged s) (drop judged s),
+    )
 
 pub read-sized : (m : Format) → ReadIsSized m
 read-sized m s p used e =
     let (judged, is, size) = read-frame m s used p e in
     let h : Sized m s judged = frame-sized m s p judged is in
-    let more : behindFrame m s judged ≤ length s - judged = subst (λ (k : ℕ). behindFrame m s judged ≤ k) (length-drop judged s) (absorbed-there m (isOpen m judged s) (drop judged s)) in
+    let more : behindFrame m s judged ≤ length s - judged =
+    subst (λ (k : ℕ). behindFrame m s judged ≤ k) (length-drop judged s) (absorbed-there m (isOpen m judged s) (drop judged s)) in
     record {
       some = omega (arith, h .some);
       most = subst (λ (k : ℕ). k ≤ limit m) (sym size) (read-most m s p judged is);

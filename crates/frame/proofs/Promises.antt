@@ -28,41 +28,46 @@ module _ {A S : Type 0} {refusal answer : A} {Next : S → Type 0} {filled : Lis
       record { refuses = λ t. absurd (true≢false (ap (λ (n : ℕ). eqb n 0) (sym z) ∙ t)); answers = λ _. (e, k, b) }
 
 -- A call that is not refused has the number 0.
-called-number : (c : Called) (fs : List (List ℕ)) → calledValues c fs .number ≡ 0
-called-number c [] = refl
-called-number c (p ∷ ps) = refl
+called-number : (c : Called) (j : ℕ) (fs : List (List ℕ)) → calledValues c j fs .number ≡ 0
+called-number c j [] = refl
+called-number c j (p ∷ ps) = refl
 
--- The answer says how many bytes the call took.
-pub called-taken : (c : Called) (fs : List (List ℕ)) → calledValues c fs .taken ≡ c .taken
-called-taken c [] = refl
-called-taken c (p ∷ ps) = refl
+-- The answer says how many bytes the call took, and how many it judged.
+pub called-taken : (c : Called) (j : ℕ) (fs : List (List ℕ)) → calledValues c j fs .taken ≡ c .taken
+called-taken c j [] = refl
+called-taken c j (p ∷ ps) = refl
+
+called-judged : (c : Called) (j : ℕ) (fs : List (List ℕ)) → calledValues c j fs .judged ≡ j
+called-judged c j [] = refl
+called-judged c j (p ∷ ps) = refl
 
 -- No payload came out of a call whose answer is no frame.
-pub no-frames : (c : Called) (fs : List (List ℕ)) → calledValues c fs .isFrame ≡ false → fs ≡ []
-no-frames c [] e = refl
-no-frames c (p ∷ ps) e = absurd (true≢false e)
+pub no-frames : (c : Called) (j : ℕ) (fs : List (List ℕ)) → calledValues c j fs .isFrame ≡ false → fs ≡ []
+no-frames c j [] e = refl
+no-frames c j (p ∷ ps) e = absurd (true≢false e)
 
 -- A call's answer hands out what came out of the call: the buffer's front is the payload.
 called-out :
-    (c : Called) (fs : List (List ℕ)) (buf : List ℕ) → length fs ≤ 1 →
-    outOf (calledValues c fs) (bufferAt fs buf) ≡ output fs (c .out .noise)
-called-out c [] buf l = refl
-called-out c (p ∷ []) buf l = λ i. output (take-append-seam p (drop (length p) buf) i ∷ []) (c .out .noise)
-called-out c (p ∷ q ∷ ps) buf l = absurd (not-suc-le-zero (le-of-suc-le-suc l))
+    (c : Called) (j : ℕ) (fs : List (List ℕ)) (buf : List ℕ) → length fs ≤ 1 →
+    outOf (calledValues c j fs) (bufferAt fs buf) ≡ output fs (c .out .noise)
+called-out c j [] buf l = refl
+called-out c j (p ∷ []) buf l = λ i. output (take-append-seam p (drop (length p) buf) i ∷ []) (c .out .noise)
+called-out c j (p ∷ q ∷ ps) buf l = absurd (not-suc-le-zero (le-of-suc-le-suc l))
 
 -- A payload that came out is in the buffer's front.
 len-of :
-    (c : Called) (fs : List (List ℕ)) (buf buf′ : List ℕ) (v : Values) → v ≡ calledValues c fs → buf′ ≡ bufferAt fs buf → v .len ≤ length buf′
-len-of c [] buf buf′ v e l = omega (arith, ap (λ (x : Values). x .len) e)
-len-of c (p ∷ ps) buf buf′ v e l = omega (arith, ap (λ (x : Values). x .len) e, simp length-append at (ap length l))
+    (c : Called) (j : ℕ) (fs : List (List ℕ)) (buf buf′ : List ℕ) (v : Values) → v ≡ calledValues c j fs → buf′ ≡ bufferAt fs buf →
+    v .len ≤ length buf′
+len-of c j [] buf buf′ v e l = omega (arith, ap (λ (x : Values). x .len) e)
+len-of c j (p ∷ ps) buf buf′ v e l = omega (arith, ap (λ (x : Values). x .len) e, simp length-append at (ap length l))
 
 module _
-    (c : Called) {S : Type 0} {number : ℕ} {Next : S → Type 0} {s : S} {buf : List ℕ} {v : Values} {s′ : S} {buf′ : List ℕ}
-    (p : Gives number c Next s buf v s′ buf′)
+    (c : Called) (j : ℕ) {S : Type 0} {number : ℕ} {Next : S → Type 0} {s : S} {buf : List ℕ} {v : Values} {s′ : S} {buf′ : List ℕ}
+    (p : Gives number c j Next s buf v s′ buf′)
   where
     same-number : (q : Bool) → eqb number 0 ≡ q → eqb (v .number) 0 ≡ q
     same-number true e =
-        ap (λ (x : Values). eqb (x .number) 0) (p .answers e .0) ∙ ap (λ (n : ℕ). eqb n 0) (called-number c (c .out .frames))
+        ap (λ (x : Values). eqb (x .number) 0) (p .answers e .0) ∙ ap (λ (n : ℕ). eqb n 0) (called-number c j (c .out .frames))
     same-number false e = ap (λ (x : Values). eqb (x .number) 0) (p .refuses e .0) ∙ e
 
     -- The number of a call is 0 just where that of its answer is.
@@ -70,7 +75,7 @@ module _
     numbered q z = sym (same-number (eqb number 0) refl) ∙ z
 
     -- A call whose answer has the number 0 kept the promise of one that is not refused, any other that of a refusal.
-    pub answered : Answered v → (v ≡ valuesAt c) × Next s′ × (buf′ ≡ bufferAt (c .out .frames) buf)
+    pub answered : Answered v → (v ≡ valuesAt c j) × Next s′ × (buf′ ≡ bufferAt (c .out .frames) buf)
     answered z = p .answers (numbered true z)
 
     pub refusing : Refused v → (v ≡ refusalValues number) × (s′ ≡ s) × (buf′ ≡ buf)
@@ -78,30 +83,35 @@ module _
 
     len-by : (none : Bool) → eqb number 0 ≡ none → v .len ≤ length buf′
     len-by false e = omega (arith, ap (λ (x : Values). x .len) (p .refuses e .0))
-    len-by true e = len-of c (c .out .frames) buf buf′ v (p .answers e .0) (p .answers e .2)
+    len-by true e = len-of c j (c .out .frames) buf buf′ v (p .answers e .0) (p .answers e .2)
 
     taken-by : (none : Bool) → eqb number 0 ≡ none → v .taken ≤ c .taken
     taken-by false e = omega (arith, ap (λ (x : Values). x .taken) (p .refuses e .0))
-    taken-by true e = omega (arith, ap (λ (x : Values). x .taken) (p .answers e .0) ∙ called-taken c (c .out .frames))
+    taken-by true e = omega (arith, ap (λ (x : Values). x .taken) (p .answers e .0) ∙ called-taken c j (c .out .frames))
 
     -- What an answered call hands out is what came out of it.
     pub hands-out : length (c .out .frames) ≤ 1 → Answered v → outOf v buf′ ≡ c .out
-    hands-out l z = let h = answered z in rw (h .0, h .2) (called-out c (c .out .frames) buf l)
+    hands-out l z = let h = answered z in rw (h .0, h .2) (called-out c j (c .out .frames) buf l)
 
     -- It says how many bytes were taken.
     pub takes : Answered v → v .taken ≡ c .taken
-    takes z = ap (λ (x : Values). x .taken) (answered z .0) ∙ called-taken c (c .out .frames)
+    takes z = ap (λ (x : Values). x .taken) (answered z .0) ∙ called-taken c j (c .out .frames)
+
+    -- And how many were judged.
+    pub counts : Answered v → v .judged ≡ j
+    counts z = ap (λ (x : Values). x .judged) (answered z .0) ∙ called-judged c j (c .out .frames)
 
     -- Without a frame, no payload came out.
     pub none-out : Answered v → v .isFrame ≡ false → c .out .frames ≡ []
-    none-out z e = no-frames c (c .out .frames) (ap (λ (x : Values). x .isFrame) (sym (answered z .0)) ∙ e)
+    none-out z e = no-frames c j (c .out .frames) (ap (λ (x : Values). x .isFrame) (sym (answered z .0)) ∙ e)
 
     -- All that an answer says.
-    pub says : length (c .out .frames) ≤ 1 → Reports number c Next s buf v s′ buf′
+    pub says : length (c .out .frames) ≤ 1 → Reports number c j Next s buf v s′ buf′
     says l =
         record {
           inside = len-by (eqb number 0) refl;
           most = taken-by (eqb number 0) refl;
           answered = λ z. (eqb-true number 0 (numbered true z), hands-out l z, takes z, answered z .1);
+          counted = counts;
           refused = λ z. let h = refusing z in (numbered false z, ap (λ (x : Values). x .number) (h .0), h .1, h .2);
         }

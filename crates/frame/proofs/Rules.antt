@@ -233,8 +233,11 @@ module _ (f : Format) (more : List ℕ) (breaks : (b : ℕ) (s : List ℕ) → j
   split-at place b s cut e =
       rw (read-cut f (b ∷ s) e) (rule-noise f place b (s ++ more) (no-frame-read f ((b ∷ s) ++ more) (breaks b s e)), zero-le)
   split-at place b s (refused judged n) e =
-      rw (read-refused f (b ∷ s) judged n e)
-      (rule-noise f place b (s ++ more) (no-frame-read f ((b ∷ s) ++ more) (subst NoFrame (sym (judge-stands f (b ∷ s) more (refused judged n) tt e)) tt)), zero-le)
+      rw (read-refused f (b ∷ s) judged n e) (
+        rule-noise f place b (s ++ more)
+            (no-frame-read f ((b ∷ s) ++ more) (subst NoFrame (sym (judge-stands f (b ∷ s) more (refused judged n) tt e)) tt)),
+        zero-le,
+      )
   split-at place b s (frame used p) e =
       let here : read f (b ∷ s) ≡ frame (used + behindFrame f (b ∷ s) used) p = read-judged f (b ∷ s) used p e in
       let same : read f ((b ∷ s) ++ more) ≡ read f (b ∷ s) = read-stands f (b ∷ s) more used p e (plain (isOpen f used (b ∷ s))) in

@@ -230,7 +230,7 @@ pub scan-chunk : (f : Format) (chunk : List ℕ) → scanWhole f 0 0 0 chunk ≡
 scan-chunk f chunk = scan-whole f 0 chunk zero-le
 
 -- The front of a list that holds the longest frame at each of n places is scanned as the whole list is.
-scan-front :
+pub scan-front :
     (f : Format) (n place reach k : ℕ) (s : List ℕ) → n + limit f ≤ k →
     scanFrom (judge f) n place reach (take k s) ≡ scanFrom (judge f) n place reach s
 unfolding scanFrom

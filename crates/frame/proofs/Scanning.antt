@@ -19,11 +19,11 @@ use Rattle.frame.proofs.Framings.{frame-sized}
 use Rattle.frame.proofs.Prefixes.{refused-sized}
 
 -- What is decided is judged so whether the segment ends or not.
-judging-refused : (e : Bool) (f : Format) (s : List ℕ) (judged n : ℕ) → judge f s ≡ refused judged n → judging e f s ≡ refused judged n
+pub judging-refused : (e : Bool) (f : Format) (s : List ℕ) (judged n : ℕ) → judge f s ≡ refused judged n → judging e f s ≡ refused judged n
 judging-refused true f s judged n q = ap ended q
 judging-refused false f s judged n q = q
 
-judging-frame : (e : Bool) (f : Format) (s p : List ℕ) (used : ℕ) → judge f s ≡ frame used p → judging e f s ≡ frame used p
+pub judging-frame : (e : Bool) (f : Format) (s p : List ℕ) (used : ℕ) → judge f s ≡ frame used p → judging e f s ≡ frame used p
 judging-frame true f s p used q = ap ended q
 judging-frame false f s p used q = q
 

@@ -340,6 +340,10 @@ on-sound f held chunk =
 pub on-taken : (f : Format) (held chunk : List ℕ) → lineOn f held chunk .taken ≤ length chunk
 on-taken f held chunk = on-sound f held chunk .most
 
+-- Without a payload all of it is.
+pub on-all : (f : Format) (held chunk : List ℕ) → lineOn f held chunk .out .frames ≡ [] → lineOn f held chunk .taken ≡ length chunk
+on-all f held chunk = on-sound f held chunk .all
+
 -- Any line call.
 line-sound : (f : Format) (follows : Bool) (held chunk : List ℕ) → Sounds f held chunk (lineBehind f follows held chunk)
 line-sound f follows [] [] =

@@ -60,7 +60,8 @@ module _ (f : Framing) (p buf : List ℕ) where
       (⊎-elim (λ z. inl (lt-leb 1 (length p) (omega arith))) (λ m. inr (lt-leb (length p) 256 m)) h)
       in
       record {
-        answers = ap (λ (q : Bool). cond q (cond (leb (length (layout f p)) (length buf)) (lengthWriting (length (layout f p))) (noWriting 13)) (noWriting 14)) (sym not);
+        answers = ap (λ (q : Bool). cond q (cond (leb (length (layout f p)) (length buf)) (lengthWriting (length (layout f p))) (noWriting 13)) (noWriting 14))
+            (sym not);
         leaves = ap (λ (q : Bool). cond (q && leb (length (layout f p)) (length buf)) (inFront (layout f p) buf) buf) (sym not);
       }
 

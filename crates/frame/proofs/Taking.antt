@@ -12,7 +12,8 @@ use lib.Seq.{drop-append-le, drop-cons, drop-length, drop-drop, take-suc, take-l
 use Rattle.frame.specs.Checks.{Verdict, cut, refused, frame}
 use Rattle.frame.specs.Framing.{checks, judge, isOptional, isOpen, absorbed}
 use Rattle.frame.specs.Rule.{output, nothing, noiseByte, handed, join}
-use Rattle.frame.specs.Reader.{Settled, settled, settleAs, settle, Called, called, stopped, oneMore, ifFrame, lineFrom, lineOn, tookFirst, lineBehind, quietHeld}
+use Rattle.frame.specs.Reader.{Settled, settled, settleAs, settle, Called, called, stopped, oneMore, ifFrame, lineFrom, lineOn}
+use Rattle.frame.specs.Reader.{tookFirst, lineBehind, quietHeld, holding, ended, judgedTo, leftOut, countFrom}
 use Rattle.frame.specs.Claims.{remaining, TakenIsNeeded, HeldThenChunk, SameButMark, MarkMeansNothing}
 use Rattle.frame.specs.Scan.{judgedBytes}
 use Rattle.frame.specs.declared.framing.Format.{Format}
@@ -139,7 +140,7 @@ module _ (f : Format) where
       rw less (line-refused b (take m s) (drop m s) judged n there)
 
   -- What a call over s hands out and leaves, where the first m bytes of s are held: what all of s gives when it is judged at once.
-  abbrev Whole : List ℕ → ℕ → Settled → Type 0
+  abbrev pub Whole : List ℕ → ℕ → Settled → Type 0
   Whole s m st = (lineAt s m .out ≡ st .out) × (remaining (lineAt s m) (drop m s) ≡ st .rest) × (lineAt s m .follows ≡ st .follows)
 
   -- Undecided bytes.
@@ -149,7 +150,8 @@ module _ (f : Format) where
       rw (line-cut s m l q) (refl, rw (drop-drop, all, drop-length) (append-nil s), refl)
 
   -- A frame.
-  whole-frame : (s : List ℕ) (m used : ℕ) (p : List ℕ) → m ≤ length s → judge f s ≡ frame used p → Whole s m (settled (handed p) (drop used s) (isOpen f used s))
+  whole-frame :
+      (s : List ℕ) (m used : ℕ) (p : List ℕ) → m ≤ length s → judge f s ≡ frame used p → Whole s m (settled (handed p) (drop used s) (isOpen f used s))
   whole-frame s m used p l q =
       let far : ℕ = max m used in
       let there : m + (far - m) ≡ used + (far - used) = omega arith in
@@ -181,7 +183,7 @@ module _ (f : Format) where
   whole-at b m s (frame used p) q l later = whole-frame (b ∷ s) m used p l q
 
   -- All places.
-  whole : (s : List ℕ) (m : ℕ) → m ≤ length s → Whole s m (settle f (judge f) s)
+  pub whole : (s : List ℕ) (m : ℕ) → m ≤ length s → Whole s m (settle f (judge f) s)
   unfolding lineOn lineFrom settle
   whole [] zero l = (refl, refl, refl)
   whole [] (suc m) l = absurd (not-suc-le-zero l)
@@ -240,9 +242,21 @@ same-line m [] [] e = record { taken = refl; out = refl; held = refl }
 same-line m [] (b ∷ chunk) e = same-calls (ap (λ (n : ℕ). tookFirst n (lineOn m [] (drop n (b ∷ chunk)))) (none-follows m (b ∷ chunk) e))
 same-line m (b ∷ h) chunk e = same-calls (ap (λ (n : ℕ). lineOn m (drop n (b ∷ h)) chunk) (none-follows m (b ∷ h) e))
 
+-- And it judges as many bytes.
+same-count :
+    (m : Format) (bytes : List ℕ) (judged : ℕ) → ((b : ℕ) → isOptional m b ≡ false) → (count : List ℕ → ℕ) →
+    countFrom (holding m [] true judged) count bytes ≡ countFrom (holding m [] false judged) count bytes
+same-count m bytes judged e count =
+    ap (λ (n : ℕ). count (drop n bytes) - leftOut m n judged (drop n bytes)) (none-follows m bytes e)
+
 pub mark-means-nothing : (m : Format) → MarkMeansNothing m
-mark-means-nothing m e h chunk =
-    record { atLine = same-line m h chunk e; atQuiet = ap (λ (n : ℕ). quietHeld m (drop n h)) (none-follows m h e) }
+mark-means-nothing m e h judged chunk =
+    record {
+      atLine = same-line m h chunk e;
+      lineCounts = same-count m (h ++ chunk) judged e (judgedTo m (judge m));
+      atQuiet = ap (λ (n : ℕ). quietHeld m (drop n h)) (none-follows m h e);
+      quietCounts = same-count m h judged e (judgedTo m (λ x. ended (judge m x)));
+    }
 
 -- A call begun with st that took more than n bytes hands out no frame of the first n.
 needed-step :
@@ -280,7 +294,9 @@ first-needed f b (suc zero) n chunk l h = on-needed f [] chunk n (omega arith)
 first-needed f b (suc (suc k)) n chunk l h = absurd (not-suc-le-zero (le-of-suc-le-suc l))
 
 -- A line call takes no byte that it can do without.
-needed : (f : Format) (follows : Bool) (held chunk : List ℕ) (n : ℕ) → n < lineBehind f follows held chunk .taken → lineBehind f follows held (take n chunk) .out .frames ≡ []
+needed :
+    (f : Format) (follows : Bool) (held chunk : List ℕ) (n : ℕ) → n < lineBehind f follows held chunk .taken →
+    lineBehind f follows held (take n chunk) .out .frames ≡ []
 needed f follows [] [] n h = absurd (not-suc-le-zero h)
 needed f follows [] (b ∷ chunk) zero h = refl
 needed f follows [] (b ∷ chunk) (suc n) h =

@@ -2,13 +2,16 @@
 -- Every export has its statement in specs/; a crate above this one names this module alone.
 -- Assumes nothing.
 use Rattle.frame.specs.Framing.{checks}
-use Rattle.frame.specs.Claims.{LayoutReads, EndingsRead, NeverFive, FrameIsLayout, DecisionStands, UndecidedIsShort, FrameIsSized, ReadIsSized, BytesAddUp, TakenIsInside}
+use Rattle.frame.specs.Claims.{LayoutReads, EndingsRead, NeverFive, FrameIsLayout, DecisionStands}
+use Rattle.frame.specs.Claims.{UndecidedIsShort, FrameIsSized, ReadIsSized, BytesAddUp, TakenIsInside}
 use Rattle.frame.specs.Claims.{TakenIsNeeded, NeedsMoreIsTrue, HeldThenChunk, MarkMeansNothing, CallsFollowRule, ViewIsFeed, ViewStaysInside}
 use Rattle.frame.specs.Recovery.{CleanLine, AsciiRecovers, BinaryRecovers}
 use Rattle.frame.specs.Recovery.{LateFramesComeBack, AsciiCallsRecover, BinaryCallsRecover, CleanCalls}
 use Rattle.frame.specs.Draining.{LineDrains, NeedsMoreIsDrained, DrainFollowsRule, QuietFollowsRule, EmptyIsDrained}
 use Rattle.frame.specs.Draining.{FeedReports, QuietReports, ViewReports, DrainIsSized, RuleIsSized}
-use Rattle.frame.specs.Driving.{CanDrive, DrivesAreShort, StateNeverRefused, FeedStaysInLimit, QuietStaysInLimit, EndsFresh}
+use Rattle.frame.specs.Driving.{CanDrive, DrivesAreShort, StateNeverRefused, FeedStaysSound, QuietStaysSound, EndsFresh}
+use Rattle.frame.specs.Counts.{CallsCount, CallsCountFrom, RuleBound, CallsBound, StateBound, ColonsCount, NestedStartsCount, LineCounts, QuietCounts}
+use Rattle.frame.specs.Counts.{DrainCounts, DrainSums, Unfinished, OptionalNotJudged, HandMadeCounts}
 use Rattle.frame.specs.MarkExamples.{NextCallTakesIt, OtherFormats, HeldBehindTheFrame, QuietEndsIt, AnyEnding}
 use Rattle.frame.specs.RecoveryExamples.{LostAndBack, ProvisoNeeded, MixedFooters, FooterRequired, AsciiBack, MixedLines, StrictLines, LfJudges}
 use Rattle.frame.specs.declared.framing.Footer.{Footer}
@@ -31,6 +34,9 @@ use Rattle.frame.proofs.Refusals as refusals
 use Rattle.frame.proofs.Taking as taking
 use Rattle.frame.proofs.RecoveryExamples as recovery-examples
 use Rattle.frame.proofs.MarkExamples as mark-examples
+use Rattle.frame.proofs.CallCounts as call-counts
+use Rattle.frame.proofs.Bounds as bounds
+use Rattle.frame.proofs.CountExamples as count-examples
 
 pub layout-reads : (m : Format) → LayoutReads m
 layout-reads = optional.layout-reads
@@ -143,11 +149,11 @@ drives-are-short = driving.drives-are-short
 pub state-never-refused : (f : Format) → StateNeverRefused f
 state-never-refused = refusals.state-never-refused
 
-pub feed-stays-in-limit : FeedStaysInLimit
-feed-stays-in-limit = refusals.feed-stays-in-limit
+pub feed-stays-sound : FeedStaysSound
+feed-stays-sound = refusals.feed-stays-sound
 
-pub quiet-stays-in-limit : QuietStaysInLimit
-quiet-stays-in-limit = refusals.quiet-stays-in-limit
+pub quiet-stays-sound : QuietStaysSound
+quiet-stays-sound = refusals.quiet-stays-sound
 
 pub ends-fresh : (f : Format) → EndsFresh f
 ends-fresh = calling.ends-fresh
@@ -190,3 +196,45 @@ lf-judges = recovery-examples.lf-judges
 
 pub any-ending : AnyEnding
 any-ending = mark-examples.any-ending
+
+pub calls-count : (f : Format) → CallsCount f
+calls-count = call-counts.calls-count
+
+pub calls-count-from : CallsCountFrom
+calls-count-from = call-counts.calls-count-from
+
+pub rule-bound : (f : Format) → RuleBound f
+rule-bound = bounds.rule-bound
+
+pub calls-bound : (f : Format) → CallsBound f
+calls-bound = bounds.calls-bound
+
+pub state-bound : StateBound
+state-bound = bounds.state-bound
+
+pub colons-count : (ending : Ending) → ColonsCount ending
+colons-count = bounds.colons-count
+
+pub nested-starts-count : (footer : Footer) → NestedStartsCount footer
+nested-starts-count = bounds.nested-starts-count
+
+pub line-counts : LineCounts
+line-counts = call-counts.line-counts
+
+pub quiet-counts : QuietCounts
+quiet-counts = call-counts.quiet-counts
+
+pub drain-counts : DrainCounts
+drain-counts = call-counts.drain-counts
+
+pub drain-sums : DrainSums
+drain-sums = call-counts.drain-sums
+
+pub unfinished : Unfinished
+unfinished = count-examples.unfinished
+
+pub optional-not-judged : OptionalNotJudged
+optional-not-judged = count-examples.optional-not-judged
+
+pub hand-made-counts : HandMadeCounts
+hand-made-counts = count-examples.hand-made-counts

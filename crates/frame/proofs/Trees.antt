@@ -215,12 +215,14 @@ took-next t (b ∷ s) p used e =
     let h = frame-behind 1 (run (t b) s) used p e in
     (b, record { rest = s; left = h .0; split = refl; count = h .2; goes = h .1 })
 
-pub took-test : (holds : Bool) (n : ℕ) (t : Checks) (s p : List ℕ) (used : ℕ) → run (test holds n t) s ≡ frame used p → (holds ≡ true) × (run t s ≡ frame used p)
+pub took-test :
+    (holds : Bool) (n : ℕ) (t : Checks) (s p : List ℕ) (used : ℕ) → run (test holds n t) s ≡ frame used p → (holds ≡ true) × (run t s ≡ frame used p)
 unfolding test
 took-test true n t s p used e = (refl, e)
 took-test false n t s p used e = absurd (refused≢frame 0 n used p e)
 
-took-cond : (b n x : ℕ) (t : Checks) (s p : List ℕ) (used : ℕ) (q : Bool) → eqb x b ≡ q → run (cond q t (fails n)) s ≡ frame used p → (x ≡ b) × (run t s ≡ frame used p)
+took-cond :
+    (b n x : ℕ) (t : Checks) (s p : List ℕ) (used : ℕ) (q : Bool) → eqb x b ≡ q → run (cond q t (fails n)) s ≡ frame used p → (x ≡ b) × (run t s ≡ frame used p)
 took-cond b n x t s p used true q e = (eqb-true x b q, e)
 took-cond b n x t s p used false q e = absurd (refused≢frame 0 n used p e)
 
@@ -248,14 +250,16 @@ took-both t u q q′ s p used h k =
       goes = k .goes;
     }
 
-pub took-word : (t : ℕ → Checks) (s p : List ℕ) (used : ℕ) → run (word t) s ≡ frame used p → (high low : ℕ) × Behind (t (high * 256 + low)) (high ∷ low ∷ []) s used p
+pub took-word :
+    (t : ℕ → Checks) (s p : List ℕ) (used : ℕ) → run (word t) s ≡ frame used p → (high low : ℕ) × Behind (t (high * 256 + low)) (high ∷ low ∷ []) s used p
 unfolding word
 took-word t s p used e =
     let h = took-next (λ high. next (λ low. t (high * 256 + low))) s p used e in
     let k = took-next (λ low. t (h .0 * 256 + low)) (h .1 .rest) p (h .1 .left) (h .1 .goes) in
     (h .0, k .0, took-both (t (h .0 * 256 + k .0)) (next (λ low. t (h .0 * 256 + low))) (h .0 ∷ []) (k .0 ∷ []) s p used (h .1) (k .1))
 
-pub took-bytes : (n : ℕ) (t : List ℕ → Checks) (s p : List ℕ) (used : ℕ) → run (bytes n t) s ≡ frame used p → (q : List ℕ) × (length q ≡ n) × Behind (t q) q s used p
+pub took-bytes :
+    (n : ℕ) (t : List ℕ → Checks) (s p : List ℕ) (used : ℕ) → run (bytes n t) s ≡ frame used p → (q : List ℕ) × (length q ≡ n) × Behind (t q) q s used p
 unfolding bytes
 took-bytes zero t s p used e = ([], refl, record { rest = s; left = used; split = refl; count = sym (zero-add used); goes = e })
 took-bytes (suc n) t s p used e =

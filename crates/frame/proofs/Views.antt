@@ -10,14 +10,14 @@ use lib.Dec.{leb, eqb}
 use lib.ListN.{length, take, drop, length-drop}
 use lib.Seq.{drop-drop}
 use Rattle.frame.specs.Framing.{limit}
-use Rattle.frame.specs.Reader.{State, holding, Called, lineBehind, line, after, stateOf, Holds, refusalValues, valuesAt, bufferAt, sound, lineRefusalNumber}
-use Rattle.frame.specs.Reader.{feedRefusal}
-use Rattle.frame.specs.Reader.{feedValuesOf, Feeds}
+use Rattle.frame.specs.Reader.{State, holding, Called, lineBehind, line, lineJudged, after, stateOf, Holds, refusalValues, valuesAt}
+use Rattle.frame.specs.Reader.{bufferAt, sound, lineRefusalNumber, feedRefusal, feedValuesOf, Feeds}
 use Rattle.frame.specs.Refusal.{numberOf}
-use Rattle.frame.specs.View.{inside, part, viewed, viewCall, Follows, viewRefusal, Views, Stands}
+use Rattle.frame.specs.View.{inside, part, viewed, viewCall, viewJudged, Follows, viewRefusal, Views, Stands}
 use Rattle.frame.specs.Claims.{ViewIsFeed, ViewStaysInside}
 use Rattle.frame.specs.Draining.{ViewReports}
-use Rattle.frame.specs.Feeding.{KeepsCall}
+use Rattle.frame.specs.Answer.{HeldSo}
+use Rattle.frame.specs.Feeding.{judgedIn, KeepsCall}
 use Rattle.frame.specs.declared.reader.Reader.{Reader}
 use Rattle.frame.specs.declared.refusal.Refusal.{Refusal}
 use Rattle.frame.specs.declared.answer.Kept.{Kept}
@@ -27,10 +27,11 @@ use Rattle.frame.specs.declared.view.Viewed.{Viewed}
 use Rattle.frame.proofs.Parts.{part-size, part-rest}
 use Rattle.frame.proofs.Settling.{line-one, line-taken, line-size}
 use Rattle.frame.proofs.Promises.{refuses, answers, numbered, answered, refusing, says}
+use Rattle.frame.proofs.Refusals.{judged-few, holds-fits}
 
 -- What the answer of a view's call says.
 pub view-reports : ViewReports
-view-reports v chunk buf a buf′ p = says (viewCall v chunk) p (line-one (viewed v chunk) (drop (v .end) chunk))
+view-reports v chunk buf a buf′ p = says (viewCall v chunk) (viewJudged v chunk) p (line-one (viewed v chunk) (drop (v .end) chunk))
 
 -- Both of two tests hold.
 both : (a b : Bool) → a && b ≡ true → (a ≡ true) × (b ≡ true)
@@ -42,16 +43,24 @@ pub record Inside (v : View) (size : ℕ) : Type 0 where
   pub onward : v .from ≤ v .end
   pub there : v .end ≤ size
   pub fits : v .end - v .from ≤ limit (v .format)
+  pub few : v .judged ≤ v .end - v .from
 
 pub is-inside : (v : View) (size : ℕ) → inside v size ≡ true → Inside v size
 is-inside v size e =
-    let h = both (leb (v .from) (v .end)) (leb (v .end) size && leb (v .end - v .from) (limit (v .format))) e in
-    let k = both (leb (v .end) size) (leb (v .end - v .from) (limit (v .format))) (h .1) in
-    record { onward = leb-true _ _ (h .0); there = leb-true _ _ (k .0); fits = leb-true _ _ (k .1) }
+    let count : ℕ = v .end - v .from in
+    let h = both (leb (v .from) (v .end)) (leb (v .end) size && (leb count (limit (v .format)) && leb (v .judged) count)) e in
+    let k = both (leb (v .end) size) (leb count (limit (v .format)) && leb (v .judged) count) (h .1) in
+    let l = both (leb count (limit (v .format))) (leb (v .judged) count) (k .1) in
+    record { onward = leb-true _ _ (h .0); there = leb-true _ _ (k .0); fits = leb-true _ _ (l .0); few = leb-true _ _ (l .1) }
 
 pub inside-is : (v : View) (size : ℕ) → Inside v size → inside v size ≡ true
 inside-is v size h =
-    simp (le-leb (v .from) (v .end) (h .onward), le-leb (v .end) size (h .there), le-leb (v .end - v .from) (limit (v .format)) (h .fits))
+    simp (
+      le-leb (v .from) (v .end) (h .onward),
+      le-leb (v .end) size (h .there),
+      le-leb (v .end - v .from) (limit (v .format)) (h .fits),
+      le-leb (v .judged) (v .end - v .from) (h .few),
+    )
 
 -- The part of a view has as many bytes as it says.
 pub part-length : (v : View) (chunk : List ℕ) → Inside v (length chunk) → length (part (v .from) (v .end) chunk) ≡ v .end - v .from
@@ -59,7 +68,7 @@ part-length v chunk h = part-size (v .from) (v .end) chunk (h .onward) (h .there
 
 -- The reader of a view that lies in the chunk.
 stands-state : (v : View) (chunk : List ℕ) (r : Reader) → inside v (length chunk) ≡ true → Stands v chunk r → Holds (viewed v chunk) r
-stands-state v chunk r e h = subst (λ (q : Bool). Holds (cond q (viewed v chunk) (holding (v .format) [] false)) r) e h
+stands-state v chunk r e h = subst (λ (q : Bool). Holds (cond q (viewed v chunk) (holding (v .format) [] false 0)) r) e h
 
 -- The view that follows a call lies in the chunk.
 next-inside :
@@ -74,6 +83,7 @@ next-inside v chunk v′ h k =
       onward = omega (arith, k .from);
       there = omega (arith, k .end, length-drop (v .end) chunk, h .there);
       fits = rw format (omega (arith, k .from));
+      few = rw (ap (λ (s : State). s .judged) (k .state)) (omega (arith, judged-few (c .out .frames) (c .held), k .from));
     }
 
 pub view-stays-inside : ViewStaysInside
@@ -90,8 +100,8 @@ same-refusal :
 same-refusal v chunk room r e h =
     let k = is-inside v (length chunk) e in
     let format : r .format ≡ v .format = ap (λ (s : State). s .format) (h .state) in
-    let few : r .count ≤ limit (r .format) = rw format (omega (arith, h .count, part-length v chunk k, k .fits)) in
-    ap (λ (q : Bool). lineRefusalNumber q room (length chunk)) (e ∙ sym (le-leb (r .count) (limit (r .format)) few))
+    let size : length (part (v .from) (v .end) chunk) ≡ v .end - v .from = part-length v chunk k in
+    ap (λ (q : Bool). lineRefusalNumber q room (length chunk)) (e ∙ sym (holds-fits h (rw size (k .fits)) (rw size (k .few))))
 
 -- Where a chunk is not refused, no shorter one is.
 shorter : (q : Bool) (room size less : ℕ) → less ≤ size → lineRefusalNumber q room size ≡ 0 → lineRefusalNumber q room less ≡ 0
@@ -115,23 +125,23 @@ view-is-feed v chunk buf a buf′ r p e h =
     let same : c ≡ line (stateOf r) rest = ap (λ (s : State). line s rest) (sym (k .state)) in
     record {
       answered = λ z r′ h′.
-          let g = answered c p z in
+          let g = answered c (viewJudged v chunk) p z in
           let f = g .1 in
           let k′ : Holds (viewed (a .view) chunk) r′ =
           stands-state (a .view) chunk r′
           (inside-is (a .view) (length chunk) (next-inside v chunk (a .view) (is-inside v (length chunk) e) f)) h′ in
           answers
           (shorter (sound r) (length buf) (length chunk) (length rest) (rw length-drop (omega arith))
-          (sym number ∙ eqb-true (viewRefusal v (length buf) (length chunk)) 0 (numbered c p true z)))
-          (g .0 ∙ ap valuesAt same)
+          (sym number ∙ eqb-true (viewRefusal v (length buf) (length chunk)) 0 (numbered c (viewJudged v chunk) p true z)))
+          (g .0 ∙ ap₂ valuesAt same (ap (λ (s : State). lineJudged s rest) (sym (k .state))))
           (subst (λ (s : State). Holds s r′) (f .state ∙ ap₂ after (sym (k .state)) same) k′)
           (g .2 ∙ ap (λ (x : Called). bufferAt (x .out .frames) buf) same);
       refused = λ z.
-          let g = refusing c p z in
+          let g = refusing c (viewJudged v chunk) p z in
           subst
           (λ (b : List ℕ). Feeds r chunk buf (record { reader = r; answer = a .answer }) b)
           (sym (g .2))
-          (refuses (ap (λ (n : ℕ). eqb n 0) (sym number) ∙ numbered c p false z) (g .0 ∙ ap refusalValues number));
+          (refuses (ap (λ (n : ℕ). eqb n 0) (sym number) ∙ numbered c (viewJudged v chunk) p false z) (g .0 ∙ ap refusalValues number));
     }
 
 module _ (v : View) (room size : ℕ) where
@@ -160,25 +170,33 @@ refused-views v chunk buf a r n z e f =
 
 -- A call that is not refused: the kept part of the chunk's rest is the view that follows.
 pub kept-views :
-    (v : View) (chunk buf buf′ : List ℕ) (k : Kept) → Inside v (length chunk) → 256 ≤ length buf → length chunk ≤ 65536 →
+    (v : View) (chunk buf buf′ : List ℕ) (k : Kept) (judged : ℕ) → Inside v (length chunk) → 256 ≤ length buf → length chunk ≤ 65536 →
     let w : List ℕ = drop (v .from) chunk in
     let count : ℕ = v .end - v .from in
-    KeepsCall (lineBehind (v .format) (v .follows) (take count w) (drop count w)) count w k buf buf′ →
-    Views v chunk buf (record { view = record { format = v .format; from = v .from + k .from; end = v .from + k .end; follows = k .follows }; answer = k .answer }) buf′
-kept-views v chunk buf buf′ k h room few kept =
+    KeepsCall (lineBehind (v .format) (v .follows) (take count w) (drop count w)) (judgedIn (v .format) (v .follows) count (v .judged) w) count w k buf buf′ →
+    HeldSo (k .answer) (k .end - k .from) judged →
+    Views v chunk buf
+    (record {
+      view = record { format = v .format; from = v .from + k .from; end = v .from + k .end; follows = k .follows; judged = judged };
+      answer = k .answer;
+    })
+    buf′
+kept-views v chunk buf buf′ k judged h room few kept so =
     let w : List ℕ = drop (v .from) chunk in
     let count : ℕ = v .end - v .from in
     let end : v .from + count ≡ v .end = omega (arith, h .onward) in
-    let same : lineBehind (v .format) (v .follows) (take count w) (drop count w) ≡ viewCall v chunk =
-    ap (line (viewed v chunk)) (drop-drop count (v .from) chunk ∙ ap (λ (n : ℕ). drop n chunk) end) in
-    let g : KeepsCall (viewCall v chunk) count w k buf buf′ = subst (λ (c : Called). KeepsCall c count w k buf buf′) same kept in
+    let rest : drop count w ≡ drop (v .end) chunk = drop-drop count (v .from) chunk ∙ ap (λ (n : ℕ). drop n chunk) end in
+    let g : KeepsCall (viewCall v chunk) (viewJudged v chunk) count w k buf buf′ =
+    subst (λ (t : List ℕ). KeepsCall (line (viewed v chunk) t) (lineJudged (viewed v chunk) t) count w k buf buf′) rest kept in
     let size : length (viewCall v chunk .held) ≡ k .end - k .from = ap length (sym (g .held)) ∙ part-size (k .from) (k .end) w (g .inside) (g .there) in
+    let is = so (viewCall v chunk) _ (g .values) (sym size) in
     answers
     (view-accepted v (length buf) (length chunk) (inside-is v (length chunk) h) room few)
     (g .values)
     (record {
       end = omega (arith, g .ends);
       from = omega (arith, g .inside);
-      state = ap₂ (holding (v .format)) (sym (part-rest (v .from) (k .from) (k .end) chunk) ∙ g .held) (g .follows);
+      state = λ i.
+          holding (v .format) ((sym (part-rest (v .from) (k .from) (k .end) chunk) ∙ g .held) i) (g .follows i) (is i);
     })
     (g .buffer)

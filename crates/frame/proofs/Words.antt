@@ -84,7 +84,8 @@ run-two-small s at x y e k =
     (first, mul-le-mul one second)
 
 -- The characters from a place on: the one there is the lowest byte.
-little-endian-next : (n i j : ℕ) (s : List ℕ) → i + 1 ≡ j → i < length s → littleEndian (take (suc n) (drop i s)) ≡ getD s i 0 + 256 * littleEndian (take n (drop j s))
+little-endian-next :
+    (n i j : ℕ) (s : List ℕ) → i + 1 ≡ j → i < length s → littleEndian (take (suc n) (drop i s)) ≡ getD s i 0 + 256 * littleEndian (take n (drop j s))
 little-endian-next n i j s e h = rw (drop-next s i h, e)
 
 -- Eight characters, each counting 256 times as much as the one before.

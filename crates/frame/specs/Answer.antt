@@ -2,12 +2,12 @@
 use Prim.Native.Nat.{ℕ, _+_, _-_, _≤_}
 use mathlib.Core.Path.{_≡_}
 use mathlib.Core.List.{List, [], _∷_}
-use mathlib.Core.Bool.{false}
+use mathlib.Core.Bool.{Bool, false}
 use lib.ListN.{length, drop}
 use Rattle.frame.specs.Checks.{cut, frame}
 use Rattle.frame.specs.Framing.{judge, isOpen}
 use Rattle.frame.specs.Rule.{output}
-use Rattle.frame.specs.Reader.{Called, called, tookFirst, feedValuesOf, valuesAt}
+use Rattle.frame.specs.Reader.{Called, called, tookFirst, judgedHeld, feedValuesOf, valuesAt}
 use Rattle.frame.specs.View.{part}
 use Rattle.frame.specs.Scan.{Stop, found, undecided, passed, Scanned, scanFrom}
 use Rattle.frame.specs.declared.framing.Format.{Format}
@@ -21,7 +21,12 @@ beforeScan base noise size = record { base = base; noise = noise; size = size }
 
 -- Where an answer stands for a call, r stands for the call that took n bytes more, before the others.
 abbrev pub TookFirst : ℕ → FeedAnswer → FeedAnswer → Type 0
-TookFirst n answer r = (c : Called) → feedValuesOf answer ≡ valuesAt c → feedValuesOf r ≡ valuesAt (tookFirst n c)
+TookFirst n answer r = (c : Called) (total : ℕ) → feedValuesOf answer ≡ valuesAt c total → feedValuesOf r ≡ valuesAt (tookFirst n c) total
+
+-- Where an answer stands for a call that holds `count` bytes afterwards, as many of them as r were judged at the first.
+abbrev pub HeldSo : FeedAnswer → ℕ → ℕ → Type 0
+HeldSo answer count r =
+    (c : Called) (total : ℕ) → feedValuesOf answer ≡ valuesAt c total → count ≡ length (c .held) → r ≡ judgedHeld (c .out .frames) (c .held)
 
 -- What a scan of w that stopped so gives as a call.
 abbrev pub calledAs : Format → Stop → Before → List ℕ → ℕ → ℕ → Called
@@ -50,15 +55,19 @@ pub record Answerable (f : Format) (w : List ℕ) (x : Scanned) (before : Before
   pub there : x .reach ≤ length w
   pub small : before .noise ≤ 517
 
+-- An answer, and the part that is kept with it.
+abbrev pub keptAs : FeedAnswer → ℕ → ℕ → Bool → Kept
+keptAs answer from end follows = record { answer = answer; from = from; end = end; follows = follows }
+
 -- Where the kept part of w ends, by where the scan stopped.
 abbrev pub keptEnd : Stop → List ℕ → ℕ → ℕ
 keptEnd (found used p) w reach = reach
 keptEnd undecided w reach = length w
 keptEnd passed w reach = length w
 
--- The answer that is made of a scan of w, and the part of w that is held afterwards. The buffer is another function's.
-pub record Keeps (m : Format) (before : Before) (w : List ℕ) (x : Scanned) (k : Kept) : Type 0 where
-  pub values : feedValuesOf (k .answer) ≡ valuesAt (calledBy m before w x)
+-- The answer that is made of a scan of w, where the call judged `total` bytes, and the part of w that is held afterwards. The buffer is another function's.
+pub record Keeps (m : Format) (before : Before) (w : List ℕ) (x : Scanned) (total : ℕ) (k : Kept) : Type 0 where
+  pub values : feedValuesOf (k .answer) ≡ valuesAt (calledBy m before w x) total
   pub held : part (k .from) (k .end) w ≡ calledBy m before w x .held
   pub follows : k .follows ≡ calledBy m before w x .follows
   pub inside : k .from ≤ k .end

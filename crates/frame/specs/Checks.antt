@@ -29,7 +29,8 @@ bytes zero t = t []
 bytes (suc k) t = next (λ b. bytes k (λ p. t (b ∷ p)))
 
 -- What stands at the front of a list of bytes: cut short (2); refused, with the count of the bytes judged, the failing one the last, and
--- the number; or a frame, with the count of its bytes and its payload. (An optional byte behind those judged is counted by `read`, Framing.antt, alone.)
+-- the number; or a frame, with the count of its bytes and its payload. (An optional byte behind those judged is added to the frame's bytes by `read`,
+-- Framing.antt, alone.)
 pub data Verdict : Type 0 where
   cut : Verdict
   refused : ℕ → ℕ → Verdict

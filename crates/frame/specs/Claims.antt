@@ -1,5 +1,5 @@
--- What is claimed of single frames, of the leftmost rule, of line calls and of lists of calls, in that order; the claims on damage stand in Recovery.antt.
--- proofs/Theorems.antt proves each claim, one that takes a format for every format.
+-- What is claimed of single frames, of the leftmost rule, of line calls and of lists of calls, in that order; the claims on damage stand in Recovery.antt,
+-- those on judged bytes in Counts.antt. proofs/Theorems.antt proves each claim, one that takes a format for every format.
 use Prim.Native.Nat.{ℕ, _+_, _≤_, _<_}
 use mathlib.Core.Path.{_≡_}
 use mathlib.Core.List.{List, [], _∷_, _++_, map, List·Memᴰ}
@@ -12,7 +12,7 @@ use Rattle.frame.specs.Binary.{binaryEnding}
 use Rattle.frame.specs.Ascii.{asciiEnding, carriageReturn, lineFeed}
 use Rattle.frame.specs.Framing.{judge, read, isOptional, front, layout, framingOf, limit}
 use Rattle.frame.specs.Rule.{Output, Found, rule, payloads}
-use Rattle.frame.specs.Reader.{State, holding, Called, line, quiet, newReader, feedValuesOf, Feeds}
+use Rattle.frame.specs.Reader.{State, holding, Called, line, quiet, lineJudged, quietJudged, newReader, feedValuesOf, Feeds}
 use Rattle.frame.specs.View.{inside, Views, Stands}
 use Rattle.frame.specs.Elements.{Bytes}
 use Rattle.frame.specs.Calls.{Refused, Answered, Calls, offering}
@@ -128,7 +128,7 @@ abbrev pub HeldThenChunk : Type 0
 HeldThenChunk =
     (s : State) (chunk : List ℕ) →
     let c : Called = line s chunk in
-    let whole : Called = line (holding (s .format) [] (s .follows)) (s .held ++ chunk) in
+    let whole : Called = line (holding (s .format) [] (s .follows) 0) (s .held ++ chunk) in
     (c .out ≡ whole .out) × (remaining c chunk ≡ remaining whole (s .held ++ chunk)) × (c .follows ≡ whole .follows)
 
 -- Two calls that give the same, but for the mark afterwards.
@@ -138,13 +138,15 @@ pub record SameButMark (a b : Called) : Type 0 where
   pub held : a .held ≡ b .held
 
 -- What follows from document 02, CR 2 and 9, for a format in which no byte is optional: the mark means nothing. With it and without, a line call gives the same
--- but for the mark, and a quiet call the same.
-pub record SameWithMark (m : Format) (h chunk : List ℕ) : Type 0 where
-  pub atLine : SameButMark (line (holding m h true) chunk) (line (holding m h false) chunk)
-  pub atQuiet : quiet (holding m h true) ≡ quiet (holding m h false)
+-- but for the mark, and a quiet call the same, and they judge as many bytes.
+pub record SameWithMark (m : Format) (h : List ℕ) (judged : ℕ) (chunk : List ℕ) : Type 0 where
+  pub atLine : SameButMark (line (holding m h true judged) chunk) (line (holding m h false judged) chunk)
+  pub lineCounts : lineJudged (holding m h true judged) chunk ≡ lineJudged (holding m h false judged) chunk
+  pub atQuiet : quiet (holding m h true judged) ≡ quiet (holding m h false judged)
+  pub quietCounts : quietJudged (holding m h true judged) ≡ quietJudged (holding m h false judged)
 
 abbrev pub MarkMeansNothing : Format → Type 0
-MarkMeansNothing m = ((b : ℕ) → isOptional m b ≡ false) → (h chunk : List ℕ) → SameWithMark m h chunk
+MarkMeansNothing m = ((b : ℕ) → isOptional m b ≡ false) → (h : List ℕ) (judged : ℕ) (chunk : List ℕ) → SameWithMark m h judged chunk
 
 -- Where the view is inside the chunk, its call is the line call of the reader that it stands for, offered what stands behind the view in the chunk, and the
 -- view that follows stands for the reader that follows; where it is refused, that reader is refused so with the chunk. So lists of calls admit it.

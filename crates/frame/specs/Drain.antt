@@ -1,12 +1,13 @@
 -- What all line calls over one chunk give together. Document 01, "The leftmost rule and the line reader": the caller calls again with the rest, even an
 -- empty rest, until more bytes are needed.
-use Prim.Native.Nat.{ℕ, zero, suc}
+use Prim.Native.Nat.{ℕ, zero, suc, _-_}
 use mathlib.Core.List.{List, [], _∷_, _++_}
 use mathlib.Core.Bool.{Bool, false, cond, _&&_}
+use lib.ListN.{length}
 use Rattle.frame.specs.Checks.{Verdict, cut, refused, frame}
 use Rattle.frame.specs.Framing.{judge, isOpen, isOptional, behindOptional}
-use Rattle.frame.specs.Rule.{Output, nothing, noiseByte, handed, join, passAfter, rule, payloads}
-use Rattle.frame.specs.Reader.{State, holding, Settled, settled}
+use Rattle.frame.specs.Rule.{Output, nothing, noiseByte, handed, join, passAfter, rule, ruleJudged, payloads}
+use Rattle.frame.specs.Reader.{State, holding, Settled, settled, countFrom}
 use Rattle.frame.specs.declared.framing.Format.{Format}
 
 -- An output, and then what was settled.
@@ -34,13 +35,22 @@ drainFrom m follows zero (b ∷ s) =
     let v : Verdict = judge m (b ∷ s) in
     cond (follows && isOptional m b) (drainFrom m false zero s) (drainAs v (b ∷ s) (drainFrom m (followsAfter m v (b ∷ s)) (passAfter v) s))
 
--- What the line calls over a chunk give together from a state on, and the state that follows them.
+-- What the line calls over a chunk give together from a state on, and the state that follows them: the bytes that stay were all judged at the first of them.
 abbrev pub drain : State → List ℕ → Settled
 drain s chunk = drainFrom (s .format) (s .follows) 0 (s .held ++ chunk)
 
 abbrev pub afterDrain : State → Settled → State
-afterDrain s d = holding (s .format) (d .rest) (d .follows)
+afterDrain s d = holding (s .format) (d .rest) (d .follows) (length (d .rest))
 
 -- What the rule gives from a state on, where these bytes are still to come.
 abbrev pub ruleAfter : State → List ℕ → Output (List ℕ)
 ruleAfter s todo = payloads (rule (s .format) (behindOptional (s .format) (s .follows) (s .held ++ todo)))
+
+-- The bytes that the rule judges from a state on, where these are still to come: its own count, but for those judged already. Document 02, CR 7.
+abbrev pub judgedAfter : State → List ℕ → ℕ
+judgedAfter s todo = countFrom s (ruleJudged (s .format)) (s .held ++ todo)
+
+-- What the line calls over a chunk judge together: what the rule judges as if the segment ended with the chunk, but for what it judges at the places behind the
+-- first byte that stays. That it is the sum of the calls' counts is DrainSums, Counts.antt.
+abbrev pub drainJudged : State → List ℕ → ℕ
+drainJudged s chunk = judgedAfter s chunk - judgedAfter (afterDrain s (drain s chunk)) []

@@ -9,9 +9,9 @@ use lib.Dec.{eqb}
 use lib.ListN.{length, drop}
 use Rattle.frame.specs.Hex.{sumOf}
 use Rattle.frame.specs.Rule.{Output, nothing, join, rule, payloads}
-use Rattle.frame.specs.Reader.{State, Settled, settled, Called, line, quiet, after, stateOf, Holds, Values, feedValuesOf}
+use Rattle.frame.specs.Reader.{State, Settled, settled, Called, line, quiet, lineJudged, quietJudged, after, stateOf, Holds, Values, feedValuesOf}
 use Rattle.frame.specs.Reader.{quietValuesOf, feedRefusal, quietRefusal, Feeds, AfterQuiet, Quiets}
-use Rattle.frame.specs.View.{viewCall, Follows, viewRefusal, Views}
+use Rattle.frame.specs.View.{viewCall, viewJudged, Follows, viewRefusal, Views}
 use Rattle.frame.specs.Drain.{before, drain, afterDrain, ruleAfter}
 use Rattle.frame.specs.Calls.{Refused, Answered, outOf}
 use Rattle.frame.specs.declared.framing.Footer.the-variants.{Optional, Required}
@@ -48,32 +48,37 @@ QuietFollowsRule = (s : State) → let c : Called = quiet s in ruleAfter s [] �
 abbrev pub EmptyIsDrained : Type 0
 EmptyIsDrained = (s : State) → quiet s .out .frames ≡ [] → quiet s .held ≡ []
 
--- What the answer of a call that gives c says. Not refused: what it hands out, the bytes that it takes and the state that follows are those of the
--- call; refused: the number, and state and buffer stay. A payload is within the buffer as it then is, and no more is taken than the call takes.
-pub record Reports {S : Type 0} (number : ℕ) (c : Called) (Next : S → Type 0) (s : S) (buf : List ℕ) (v : Values) (s′ : S) (buf′ : List ℕ) : Type 0 where
+-- What the answer of a call that gives c and judges so many bytes says. Not refused: what it hands out, the bytes that it takes and judges and the state that
+-- follows are those of the call; refused: the number, and state and buffer stay. A payload is within the buffer as it then is, and no more is taken than the
+-- call takes.
+pub record Reports {S : Type 0} (number : ℕ) (c : Called) (judged : ℕ) (Next : S → Type 0) (s : S) (buf : List ℕ) (v : Values) (s′ : S) (buf′ : List ℕ)
+    : Type 0 where
   pub inside : v .len ≤ length buf′
   pub most : v .taken ≤ c .taken
   pub answered : Answered v → (number ≡ 0) × (outOf v buf′ ≡ c .out) × (v .taken ≡ c .taken) × Next s′
+  pub counted : Answered v → v .judged ≡ judged
   pub refused : Refused v → (eqb number 0 ≡ false) × (v .number ≡ number) × (s′ ≡ s) × (buf′ ≡ buf)
 
 -- Of a line call, of a quiet call, and of a view's call.
 abbrev pub FeedReports : Type 0
 FeedReports =
     (r : Reader) (chunk buf : List ℕ) (a : Fed) (buf′ : List ℕ) → Feeds r chunk buf a buf′ →
-    let c : Called = line (stateOf r) chunk in
-    Reports (feedRefusal r (length buf) (length chunk)) c (Holds (after (stateOf r) c)) r buf (feedValuesOf (a .answer)) (a .reader) buf′
+    let s : State = stateOf r in
+    let c : Called = line s chunk in
+    Reports (feedRefusal r (length buf) (length chunk)) c (lineJudged s chunk) (Holds (after s c)) r buf (feedValuesOf (a .answer)) (a .reader) buf′
 
 abbrev pub QuietReports : Type 0
 QuietReports =
     (r : Reader) (buf : List ℕ) (a : Quieted) (buf′ : List ℕ) → Quiets r buf a buf′ →
-    let c : Called = quiet (stateOf r) in
-    Reports (quietRefusal r (length buf)) c (AfterQuiet (r .format) c (c .out .frames)) r buf (quietValuesOf (a .answer)) (a .reader) buf′
+    let s : State = stateOf r in
+    let c : Called = quiet s in
+    Reports (quietRefusal r (length buf)) c (quietJudged s) (AfterQuiet (r .format) c (c .out .frames)) r buf (quietValuesOf (a .answer)) (a .reader) buf′
 
 abbrev pub ViewReports : Type 0
 ViewReports =
     (v : View) (chunk buf : List ℕ) (a : Viewed) (buf′ : List ℕ) → Views v chunk buf a buf′ →
     let c : Called = viewCall v chunk in
-    Reports (viewRefusal v (length buf) (length chunk)) c (Follows v chunk c) v buf (feedValuesOf (a .answer)) (a .view) buf′
+    Reports (viewRefusal v (length buf) (length chunk)) c (viewJudged v chunk) (Follows v chunk c) v buf (feedValuesOf (a .answer)) (a .view) buf′
 
 -- The bytes of a frame besides its payload, at least: of a binary one 5, and 6 where the footer is required. An ASCII one has two
 -- characters for each byte of its payload, of which one is counted here, and 5 more, or 4 under any ending; so 6 and 5 for a payload of one byte.

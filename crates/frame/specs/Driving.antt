@@ -3,11 +3,10 @@
 use Prim.Native.Nat.{ℕ, suc, _+_, _≤_}
 use mathlib.Core.Path.{_≡_}
 use mathlib.Core.List.{List, [], _∷_, flatten}
-use mathlib.Core.Bool.{cond}
+use mathlib.Core.Bool.{true, cond}
 use lib.ListN.{length, drop}
-use Rattle.frame.specs.Framing.{limit}
 use Rattle.frame.specs.Rule.{Output}
-use Rattle.frame.specs.Reader.{newReader, Values, feedValuesOf, quietValuesOf, Feeds, Quiets}
+use Rattle.frame.specs.Reader.{newReader, Values, feedValuesOf, quietValuesOf, sound, Feeds, Quiets}
 use Rattle.frame.specs.Elements.{All}
 use Rattle.frame.specs.Calls.{Phase, offering, Calls, fed, taken, quieted, emptied, feedRefused, quietRefused, done}
 use Rattle.frame.specs.declared.framing.Format.{Format}
@@ -83,17 +82,17 @@ abbrev pub StateNeverRefused : Format → Type 0
 StateNeverRefused f =
     (segment : List ℕ) (out : Output (List ℕ)) (calls : Calls offering (newReader f) segment out) → All (λ n. n ≡ 16 → ⊥) (refusalsOf calls)
 
--- Whatever state a line call gets: held bytes within the limit stay within it, and the format stays.
-abbrev pub FeedStaysInLimit : Type 0
-FeedStaysInLimit =
-    (r : Reader) (chunk buf : List ℕ) (a : Fed) (buf′ : List ℕ) → Feeds r chunk buf a buf′ → r .count ≤ limit (r .format) →
-    (a .reader .format ≡ r .format) × (a .reader .count ≤ limit (r .format))
+-- Whatever sound state a line call gets, the state that follows is sound, with the same format.
+abbrev pub FeedStaysSound : Type 0
+FeedStaysSound =
+    (r : Reader) (chunk buf : List ℕ) (a : Fed) (buf′ : List ℕ) → Feeds r chunk buf a buf′ → sound r ≡ true →
+    (a .reader .format ≡ r .format) × (sound (a .reader) ≡ true)
 
 -- The same of a quiet call.
-abbrev pub QuietStaysInLimit : Type 0
-QuietStaysInLimit =
-    (r : Reader) (buf : List ℕ) (a : Quieted) (buf′ : List ℕ) → Quiets r buf a buf′ → r .count ≤ limit (r .format) →
-    (a .reader .format ≡ r .format) × (a .reader .count ≤ limit (r .format))
+abbrev pub QuietStaysSound : Type 0
+QuietStaysSound =
+    (r : Reader) (buf : List ℕ) (a : Quieted) (buf′ : List ℕ) → Quiets r buf a buf′ → sound r ≡ true →
+    (a .reader .format ≡ r .format) × (sound (a .reader) ≡ true)
 
 -- A list of calls from a new reader ends in a new reader's state.
 abbrev pub EndsFresh : Format → Type 0

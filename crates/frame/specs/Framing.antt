@@ -53,6 +53,15 @@ limit (Ascii ending) = 517
 abbrev pub judge : Format → List ℕ → Verdict
 judge m s = run (checks m) s
 
+-- How many bytes are judged at the place where s begins, by the verdict there: up to the deciding one, or all of s where it is undecided. Document 02, CR 7.
+abbrev pub judgedAs : Verdict → List ℕ → ℕ
+judgedAs cut s = length s
+judgedAs (refused judged n) s = judged
+judgedAs (frame used p) s = used
+
+abbrev pub judgedAt : Format → List ℕ → ℕ
+judgedAt m s = judgedAs (judge m s) s
+
 -- Behind a frame that the checks accept an optional byte may follow, which belongs to it. Whether it may is told by the format and the last byte that was
 -- judged. Document 02, CR 2: where the footer is optional, it may follow every frame; CR 9: under any ending, one that ended with CR.
 abbrev pub mayFollow : Format → ℕ → Bool

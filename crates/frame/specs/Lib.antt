@@ -21,6 +21,7 @@ pub mod Claims
 pub mod Recovery
 pub mod RecoveryExamples
 pub mod MarkExamples
+pub mod Counts
 pub mod Driving
 pub mod Draining
 -- Third, what only functions behind the public calls cite: nobody has to believe it.

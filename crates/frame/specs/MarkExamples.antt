@@ -13,10 +13,10 @@ use Rattle.frame.specs.declared.framing.Format.the-variants.{Binary, Asc
 
 -- A reader with the footer optional that holds these bytes, with the mark and without.
 abbrev pub marked : List ℕ → State
-marked h = holding (Binary Optional) h true
+marked h = holding (Binary Optional) h true 0
 
 abbrev pub plain : List ℕ → State
-plain h = holding (Binary Optional) h false
+plain h = holding (Binary Optional) h false 0
 
 -- A frame with its 04, in one chunk or two: the call stops at the checksum, and the next one takes the 04, once.
 pub record NextCallTakesIt : Type 0 where
@@ -30,11 +30,11 @@ pub record NextCallTakesIt : Type 0 where
 -- In a format without an optional byte a frame sets no mark. One that was set by hand stays where no byte is held or offered, and is gone behind other calls;
 -- what these give besides is the same with it and without (MarkMeansNothing).
 pub record OtherFormats : Type 0 where
-  pub required : line (holding (Binary Required) [] true) (0x04 ∷ []) ≡ called 1 (output [] 1) [] false
-  pub ascii : line (holding (Ascii CrLf) [] true) (0x0A ∷ []) ≡ called 1 (output [] 1) [] false
-  pub stays : line (holding (Binary Required) [] true) [] ≡ called 0 nothing [] true
-  pub unset : line (holding (Binary Required) [] false) response ≡ called 10 (output (success ∷ []) 0) [] false
-  pub unsetAscii : line (holding (Ascii CrLf) [] false) asciiFrame ≡ called 13 (output (four ∷ []) 0) [] false
+  pub required : line (holding (Binary Required) [] true 0) (0x04 ∷ []) ≡ called 1 (output [] 1) [] false
+  pub ascii : line (holding (Ascii CrLf) [] true 0) (0x0A ∷ []) ≡ called 1 (output [] 1) [] false
+  pub stays : line (holding (Binary Required) [] true 0) [] ≡ called 0 nothing [] true
+  pub unset : line (holding (Binary Required) [] false 0) response ≡ called 10 (output (success ∷ []) 0) [] false
+  pub unsetAscii : line (holding (Ascii CrLf) [] false 0) asciiFrame ≡ called 13 (output (four ∷ []) 0) [] false
 
 -- A start that claims eight bytes of payload and fails late, and a frame inside its claim.
 abbrev pub failsLate : List ℕ
@@ -61,10 +61,10 @@ pub record QuietEndsIt : Type 0 where
 
 -- A reader under any ending that holds these bytes, with the mark and without.
 abbrev pub markedLine : List ℕ → State
-markedLine h = holding (Ascii Any) h true
+markedLine h = holding (Ascii Any) h true 0
 
 abbrev pub plainLine : List ℕ → State
-plainLine h = holding (Ascii Any) h false
+plainLine h = holding (Ascii Any) h false 0
 
 -- Under any ending, a frame in one chunk or two: the call stops at CR or LF. Behind CR the next call takes an LF, once, and drops one that is held in a state
 -- made by hand; behind LF, and behind "empty", an LF is noise.

@@ -1,13 +1,13 @@
 -- The line reader's calls. Document 01, "The leftmost rule and the line reader" and "Refusal numbers". A line call offers a chunk; a quiet call, document
 -- 01's term, says that the line was silent and the segment has ended.
-use Prim.Native.Nat.{ℕ, suc, _+_}
+use Prim.Native.Nat.{ℕ, zero, suc, _+_, _-_, min}
 use mathlib.Core.Path.{_≡_}
 use mathlib.Core.List.{List, [], _∷_, _++_}
-use mathlib.Core.Bool.{Bool, true, false, cond}
+use mathlib.Core.Bool.{Bool, true, false, cond, _&&_}
 use lib.Dec.{leb, eqb}
 use lib.ListN.{length, take, drop, replicate}
 use Rattle.frame.specs.Checks.{Verdict, cut, refused, frame}
-use Rattle.frame.specs.Framing.{judge, isOpen, absorbed, behindOptional, limit, inFront}
+use Rattle.frame.specs.Framing.{judge, judgedAt, isOpen, absorbed, behindOptional, limit, inFront}
 use Rattle.frame.specs.Refusal.{numberOf}
 use Rattle.frame.specs.Rule.{Output, nothing, noiseByte, handed, join}
 use Rattle.frame.specs.declared.framing.Format.{Format}
@@ -20,14 +20,16 @@ use Rattle.frame.specs.declared.answer.QuietAnswer.{QuietAnswer}
 use Rattle.frame.specs.declared.answer.QuietAnswer.the-variants.{Frame as QuietFrame, Empty, Refused as QuietRefused}
 
 -- What a reader's calls depend on: its format, the bytes that it holds, and the mark of document 02, CR 2 and 9: whether an optional byte may still follow the
--- last frame and belong to it. In a format without such a byte it means nothing (MarkMeansNothing, Claims.antt).
+-- last frame and belong to it. In a format without such a byte it means nothing (MarkMeansNothing, Claims.antt). CR 7: how many of the held bytes were judged
+-- at the first held place; in a sound state it changes nothing but the count of judged bytes.
 pub record State : Type 0 where
   pub format : Format
   pub held : List ℕ
   pub follows : Bool
+  pub judged : ℕ
 
-abbrev pub holding : Format → List ℕ → Bool → State
-holding m h follows = record { format = m; held = h; follows = follows }
+abbrev pub holding : Format → List ℕ → Bool → ℕ → State
+holding m h follows judged = record { format = m; held = h; follows = follows; judged = judged }
 
 -- Bytes after judging: what they gave, those that are still held, and the mark.
 pub record Settled : Type 0 where
@@ -99,7 +101,8 @@ lineBehind m follows (b ∷ h) chunk = lineOn m (behindOptional m follows (b ∷
 abbrev pub line : State → List ℕ → Called
 line s chunk = lineBehind (s .format) (s .follows) (s .held) chunk
 
--- At a quiet the held bytes end the segment: an unfinished frame fails like any other. (How many bytes were judged is of no use here.)
+-- At a quiet the held bytes end the segment: an unfinished frame fails like any other. (The 0 is of no use here: how many bytes are judged at a place is
+-- `judgedAt`.)
 abbrev pub ended : Verdict → Verdict
 ended cut = refused 0 2
 ended (refused judged n) = refused judged n
@@ -112,13 +115,49 @@ quietHeld m h = stopped (settle m (λ h. ended (judge m h)) h)
 abbrev pub quiet : State → Called
 quiet s = quietHeld (s .format) (behindOptional (s .format) (s .follows) (s .held))
 
+-- Where a place fails, what is counted behind it.
+abbrev pub ifFails : Verdict → ℕ → ℕ
+ifFails cut later = 0
+ifFails (refused judged n) later = later
+ifFails (frame used p) later = 0
+
+-- The bytes judged at the places of s in order, up to the first place that does not fail: those at which a call over s stands. Document 02, CR 7.
+unfoldable pub judgedTo : Format → (List ℕ → Verdict) → List ℕ → ℕ
+judgedTo m judgement [] = 0
+judgedTo m judgement (b ∷ s) = judgedAt m (b ∷ s) + ifFails (judgement (b ∷ s)) (judgedTo m judgement s)
+
+-- How many of the bytes judged at the first place of s are left out, since a state says that `judged` were judged at its first held place: as many as it
+-- says, and no more than are judged there. Where an optional byte was absorbed before s, the state's number belonged to its place, and none are.
+abbrev pub leftOut : Format → ℕ → ℕ → List ℕ → ℕ
+leftOut m zero judged s = min judged (judgedAt m s)
+leftOut m (suc n) judged s = 0
+
+-- What a count gives from a state on, over the held bytes and those behind them, without the bytes that are left out.
+abbrev pub countFrom : State → (List ℕ → ℕ) → List ℕ → ℕ
+countFrom s count bytes =
+    let n : ℕ = absorbed (s .format) (s .follows) bytes in
+    let rest : List ℕ = drop n bytes in count rest - leftOut (s .format) n (s .judged) rest
+
+-- The bytes that a line call judges, and a quiet call.
+abbrev pub lineJudged : State → List ℕ → ℕ
+lineJudged s chunk = countFrom s (judgedTo (s .format) (judge (s .format))) (s .held ++ chunk)
+
+abbrev pub quietJudged : State → ℕ
+quietJudged s = countFrom s (judgedTo (s .format) (λ h. ended (judge (s .format) h))) (s .held)
+
+-- How many held bytes were judged at the first held place after a call: where no frame came out, the held bytes are undecided, and all were; behind a frame
+-- none were yet.
+abbrev pub judgedHeld : List (List ℕ) → List ℕ → ℕ
+judgedHeld [] h = length h
+judgedHeld (p ∷ ps) h = 0
+
 -- The state that follows a call.
 abbrev pub after : State → Called → State
-after s c = holding (s .format) (c .held) (c .follows)
+after s c = holding (s .format) (c .held) (c .follows) (judgedHeld (c .out .frames) (c .held))
 
 -- The state of a reader: the bytes that it holds are the first `count` of its array.
 abbrev pub stateOf : Reader → State
-stateOf r = holding (r .format) (take (r .count) (r .held)) (r .follows)
+stateOf r = holding (r .format) (take (r .count) (r .held)) (r .follows) (r .judged)
 
 -- A reader with this state; the other bytes of its array may be any.
 pub record Holds (s : State) (r : Reader) : Type 0 where
@@ -127,48 +166,57 @@ pub record Holds (s : State) (r : Reader) : Type 0 where
 
 -- A new reader.
 abbrev pub newReader : Format → Reader
-newReader m = record { format = m; held = replicate 517 0; count = 0; follows = false }
+newReader m = record { format = m; held = replicate 517 0; count = 0; follows = false; judged = 0 }
 
--- An answer as document 01 has it: the refusal's number, 0 for none, bytes taken, noise, the payload's length, and whether there is one.
+-- An answer as document 01 has it: the refusal's number, 0 for none, bytes taken, noise, the payload's length, and whether there is one; and as document 02,
+-- CR 7, has it: bytes judged.
 pub record Values : Type 0 where
   pub number : ℕ
   pub taken : ℕ
   pub noise : ℕ
+  pub judged : ℕ
   pub len : ℕ
   pub isFrame : Bool
 
 abbrev pub refusalValues : ℕ → Values
-refusalValues n = record { number = n; taken = 0; noise = 0; len = 0; isFrame = false }
+refusalValues n = record { number = n; taken = 0; noise = 0; judged = 0; len = 0; isFrame = false }
 
-abbrev pub frameValues : ℕ → ℕ → ℕ → Values
-frameValues taken noise len = record { number = 0; taken = taken; noise = noise; len = len; isFrame = true }
+abbrev pub frameValues : ℕ → ℕ → ℕ → ℕ → Values
+frameValues taken noise judged len = record { number = 0; taken = taken; noise = noise; judged = judged; len = len; isFrame = true }
 
-abbrev pub noFrameValues : ℕ → ℕ → Values
-noFrameValues taken noise = record { number = 0; taken = taken; noise = noise; len = 0; isFrame = false }
+abbrev pub noFrameValues : ℕ → ℕ → ℕ → Values
+noFrameValues taken noise judged = record { number = 0; taken = taken; noise = noise; judged = judged; len = 0; isFrame = false }
 
 -- The values of each answer; everything else that is said of answers goes by them.
 abbrev pub feedValuesOf : FeedAnswer → Values
-feedValuesOf (FeedFrame taken noise len) = frameValues taken noise len
-feedValuesOf (NeedsMore taken noise) = noFrameValues taken noise
+feedValuesOf (FeedFrame taken noise judged len) = frameValues taken noise judged len
+feedValuesOf (NeedsMore taken noise judged) = noFrameValues taken noise judged
 feedValuesOf (FeedRefused r) = refusalValues (numberOf r)
 
 abbrev pub quietValuesOf : QuietAnswer → Values
-quietValuesOf (QuietFrame noise len) = frameValues 0 noise len
-quietValuesOf (Empty noise) = noFrameValues 0 noise
+quietValuesOf (QuietFrame noise judged len) = frameValues 0 noise judged len
+quietValuesOf (Empty noise judged) = noFrameValues 0 noise judged
 quietValuesOf (QuietRefused r) = refusalValues (numberOf r)
 
--- The values of a call that is not refused, by the payloads that came out.
-abbrev pub calledValues : Called → List (List ℕ) → Values
-calledValues c [] = noFrameValues (c .taken) (c .out .noise)
-calledValues c (p ∷ ps) = frameValues (c .taken) (c .out .noise) (length p)
+-- The values of a call that is not refused, by the bytes that it judged and the payloads that came out.
+abbrev pub calledValues : Called → ℕ → List (List ℕ) → Values
+calledValues c judged [] = noFrameValues (c .taken) (c .out .noise) judged
+calledValues c judged (p ∷ ps) = frameValues (c .taken) (c .out .noise) judged (length p)
 
-abbrev pub valuesAt : Called → Values
-valuesAt c = calledValues c (c .out .frames)
+abbrev pub valuesAt : Called → ℕ → Values
+valuesAt c judged = calledValues c judged (c .out .frames)
 
 -- The buffer afterwards, by the payloads that came out.
 abbrev pub bufferAt : List (List ℕ) → List ℕ → List ℕ
 bufferAt [] buf = buf
 bufferAt (p ∷ ps) buf = inFront p buf
+
+-- A state is sound where it holds no more bytes than the longest frame has, and says of no more bytes than it holds that they were judged.
+abbrev pub canHold : Format → ℕ → ℕ → Bool
+canHold m count judged = leb count (limit m) && leb judged count
+
+abbrev pub sound : Reader → Bool
+sound r = canHold (r .format) (r .count) (r .judged)
 
 -- The refusals of a quiet call, in their order: 16 where the state is not sound, 13; of a line call: 16, 13, 15. 0: none.
 abbrev pub quietRefusalNumber : Bool → ℕ → ℕ
@@ -176,10 +224,6 @@ quietRefusalNumber sound room = cond sound (cond (leb 256 room) 0 13) 16
 
 abbrev pub lineRefusalNumber : Bool → ℕ → ℕ → ℕ
 lineRefusalNumber sound room size = cond sound (cond (leb 256 room) (cond (leb size 65536) 0 15) 13) 16
-
--- A state is sound where it holds no more bytes than the longest frame has.
-abbrev pub sound : Reader → Bool
-sound r = leb (r .count) (limit (r .format))
 
 abbrev pub quietRefusal : Reader → ℕ → ℕ
 quietRefusal r room = quietRefusalNumber (sound r) room
@@ -194,24 +238,26 @@ pub record Promise {A S : Type 0} (number : ℕ) (refusal answer : A) (Next : S 
   pub refuses : (eqb number 0 ≡ false) → (values ≡ refusal) × (s′ ≡ s) × (buf′ ≡ buf)
   pub answers : (eqb number 0 ≡ true) → (values ≡ answer) × Next s′ × (buf′ ≡ filled)
 
--- The promise of a reader's call that gives c.
-abbrev pub Gives : {S : Type 0} → ℕ → Called → (S → Type 0) → S → List ℕ → Values → S → List ℕ → Type 0
-Gives number c Next s buf values s′ buf′ =
-    Promise number (refusalValues number) (valuesAt c) Next (bufferAt (c .out .frames) buf) s buf values s′ buf′
+-- The promise of a reader's call that gives c and judges so many bytes.
+abbrev pub Gives : {S : Type 0} → ℕ → Called → ℕ → (S → Type 0) → S → List ℕ → Values → S → List ℕ → Type 0
+Gives number c judged Next s buf values s′ buf′ =
+    Promise number (refusalValues number) (valuesAt c judged) Next (bufferAt (c .out .frames) buf) s buf values s′ buf′
 
 -- The promise of a line call with the reader r, a chunk and a buffer.
 abbrev pub Feeds : Reader → List ℕ → List ℕ → Fed → List ℕ → Type 0
 Feeds r chunk buf fed buf′ =
-    let c : Called = line (stateOf r) chunk in
-    Gives (feedRefusal r (length buf) (length chunk)) c (Holds (after (stateOf r) c)) r buf (feedValuesOf (fed .answer)) (fed .reader) buf′
+    let s : State = stateOf r in
+    let c : Called = line s chunk in
+    Gives (feedRefusal r (length buf) (length chunk)) c (lineJudged s chunk) (Holds (after s c)) r buf (feedValuesOf (fed .answer)) (fed .reader) buf′
 
 -- After a quiet call: a new reader where no frame came out.
 abbrev pub AfterQuiet : Format → Called → List (List ℕ) → Reader → Type 0
 AfterQuiet m c [] r = r ≡ newReader m
-AfterQuiet m c (p ∷ ps) r = Holds (holding m (c .held) (c .follows)) r
+AfterQuiet m c (p ∷ ps) r = Holds (holding m (c .held) (c .follows) 0) r
 
 -- The promise of a quiet call with the reader r and a buffer.
 abbrev pub Quiets : Reader → List ℕ → Quieted → List ℕ → Type 0
 Quiets r buf q buf′ =
-    let c : Called = quiet (stateOf r) in
-    Gives (quietRefusal r (length buf)) c (AfterQuiet (r .format) c (c .out .frames)) r buf (quietValuesOf (q .answer)) (q .reader) buf′
+    let s : State = stateOf r in
+    let c : Called = quiet s in
+    Gives (quietRefusal r (length buf)) c (quietJudged s) (AfterQuiet (r .format) c (c .out .frames)) r buf (quietValuesOf (q .answer)) (q .reader) buf′

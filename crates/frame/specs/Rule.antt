@@ -4,7 +4,8 @@
 use Prim.Native.Nat.{ℕ, zero, suc, pred, _+_}
 use mathlib.Core.List.{List, [], _∷_, _++_, map}
 use Rattle.frame.specs.Checks.{Verdict, cut, refused, frame}
-use Rattle.frame.specs.Framing.{read}
+use Rattle.frame.specs.Hex.{sumOf}
+use Rattle.frame.specs.Framing.{read, judgedAt}
 use Rattle.frame.specs.declared.framing.Format.{Format}
 
 -- What comes out of a segment or of calls: frames in their order, and the count of noise bytes.
@@ -69,6 +70,11 @@ outFrom f place (s ∷ ss) = join (outAt place (read f s)) (outFrom f (place + o
 -- The rule over a whole segment: it starts at place 0.
 unfoldable pub rule : Format → List ℕ → Output Found
 rule f s = outFrom f 0 (places f 0 s)
+
+-- The rule's own count of judged bytes: at every place at which it stands, those that are judged there. Document 02, CR 7. An optional byte behind a frame is
+-- passed over with it and is not judged.
+abbrev pub ruleJudged : Format → List ℕ → ℕ
+ruleJudged f s = sumOf (map (judgedAt f) (places f 0 s))
 
 -- The payloads of an output, with its noise.
 abbrev pub payloads : Output Found → Output (List ℕ)

@@ -4,32 +4,44 @@ use crate::framing::may_follow;
 use crate::refusal::Refusal;
 use crate::scan::ScanEnd;
 use crate::scan::ScanResult;
-ghost use Prim.Native.Nat.{_≤_};
+ghost use mathlib.Core.Path.{_≡_};
+ghost use mathlib.Core.Bool.{false};
+ghost use Prim.Native.Nat.{_-_, _≤_};
 ghost use Rattle.frame.specs.Reader.{feedValuesOf};
 ghost use Rattle.frame.specs.Scan.{scanned};
-ghost use Rattle.frame.specs.Answer.{TookFirst, Answerable, Keeps};
+ghost use Rattle.frame.specs.Answer.{HeldSo, TookFirst, keptAs, Answerable, Keeps};
 
 pub enum FeedAnswer {
     // A frame: `taken` bytes of the chunk were taken, an optional one that follows the frame before this among them, `noise` bytes were settled as noise,
-    // and the payload of `len` bytes is in the buffer's front.
+    // the leftmost rule judges `judged` bytes at the places where the call stood, without those that the state before said were judged, and the payload of
+    // `len` bytes is in the buffer's front.
     Frame {
         taken: usize,
         noise: usize,
+        judged: usize,
         len: usize,
     },
-    // The whole chunk was taken, `noise` bytes were settled as noise, and more bytes are needed.
+    // The whole chunk was taken, `noise` bytes were settled as noise, `judged` bytes were judged so, and more bytes are needed.
     NeedsMore {
         taken: usize,
         noise: usize,
+        judged: usize,
     },
     Refused(Refusal),
 }
 
 pub enum QuietAnswer {
-    // A frame among the held bytes.
-    Frame { noise: usize, len: usize },
+    // A frame among the held bytes, with the same numbers.
+    Frame {
+        noise: usize,
+        judged: usize,
+        len: usize,
+    },
     // No frame is left, and the state is a new reader's.
-    Empty { noise: usize },
+    Empty {
+        noise: usize,
+        judged: usize,
+    },
     Refused(Refusal),
 }
 
@@ -49,6 +61,17 @@ pub(crate) struct Kept {
     pub(crate) follows: bool,
 }
 
+// How many of `count` bytes that are held after an answer were judged at the first: all where more are needed; behind a frame none yet.
+pub(crate) fn judged_held(answer: FeedAnswer, count: usize) -> usize
+    ensures { λ r. ⌜ HeldSo answer count r ⌝ }
+{
+    match answer {
+        FeedAnswer::Frame { .. } => 0,
+        FeedAnswer::NeedsMore { .. } => count,
+        FeedAnswer::Refused(_) => 0,
+    }
+}
+
 // The answer of a call that took `first` bytes more, before the others.
 pub(crate) fn took_first(answer: FeedAnswer, first: usize) -> FeedAnswer
     requires { ⌜ feedValuesOf answer .taken ≤ 65536 ⌝ }
@@ -56,23 +79,56 @@ pub(crate) fn took_first(answer: FeedAnswer, first: usize) -> FeedAnswer
     ensures { λ r. ⌜ TookFirst first answer r ⌝ }
 {
     match answer {
-        FeedAnswer::Frame { taken, noise, len } => FeedAnswer::Frame {
+        FeedAnswer::Frame {
+            taken,
+            noise,
+            judged,
+            len,
+        } => FeedAnswer::Frame {
             taken: first + taken,
             noise: noise,
+            judged: judged,
             len: len,
         },
-        FeedAnswer::NeedsMore { taken, noise } => FeedAnswer::NeedsMore {
+        FeedAnswer::NeedsMore {
+            taken,
+            noise,
+            judged,
+        } => FeedAnswer::NeedsMore {
             taken: first + taken,
             noise: noise,
+            judged: judged,
         },
         FeedAnswer::Refused(refusal) => FeedAnswer::Refused(refusal),
     }
 }
 
-// The answer to a scan of w.
-pub(crate) fn answer(format: Format, w: &[u8], found: ScanResult, before: Before) -> Kept
+// The answer that more bytes are needed, where those from `from` up to `end` are held.
+fn more_needed(taken: usize, noise: usize, judged: usize, from: usize, end: usize) -> Kept
+    ensures { λ r. ⌜ r ≡ keptAs (FeedAnswer.NeedsMore taken noise judged) from end false ⌝ }
+{
+    Kept {
+        answer: FeedAnswer::NeedsMore {
+            taken,
+            noise,
+            judged,
+        },
+        from: from,
+        end: end,
+        follows: false,
+    }
+}
+
+// The answer to a scan of w, where the call judged `judged` bytes.
+pub(crate) fn answer(
+    format: Format,
+    w: &[u8],
+    found: ScanResult,
+    before: Before,
+    judged: usize,
+) -> Kept
     requires { ⌜ Answerable format (now w) (scanned format (now w) found) before ⌝ }
-    ensures { λ r. ⌜ Keeps format before (now (w .entry)) (scanned format (now (w .entry)) found) r ⌝ }
+    ensures { λ r. ⌜ Keeps format before (now (w .entry)) (scanned format (now (w .entry)) found) judged r ⌝ }
 {
     let place = found.place;
     let far = found.reach;
@@ -84,23 +140,18 @@ pub(crate) fn answer(format: Format, w: &[u8], found: ScanResult, before: Before
             let taken = far - before.base;
             let next = place + used;
             Kept {
-                answer: FeedAnswer::Frame { taken, noise, len },
+                answer: FeedAnswer::Frame {
+                    taken,
+                    noise,
+                    judged,
+                    len,
+                },
                 from: next,
                 end: far,
                 follows: may_follow(format, w, next),
             }
         }
-        ScanEnd::Undecided => Kept {
-            answer: FeedAnswer::NeedsMore { taken, noise },
-            from: place,
-            end: w.len(),
-            follows: false,
-        },
-        ScanEnd::Passed => Kept {
-            answer: FeedAnswer::NeedsMore { taken, noise },
-            from: w.len(),
-            end: w.len(),
-            follows: false,
-        },
+        ScanEnd::Undecided => more_needed(taken, noise, judged, place, w.len()),
+        ScanEnd::Passed => more_needed(taken, noise, judged, w.len(), w.len()),
     }
 }

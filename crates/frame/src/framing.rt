@@ -7,8 +7,7 @@ ghost use mathlib.Core.Path.{_≡_};
 ghost use Prim.Native.Nat.{ℕ, _≤_, _<_};
 ghost use lib.ListN.{length};
 ghost use Rattle.frame.specs.Framing.{formatOf, judge, layout, limit, inFront, mayFollow, isOpen, isOptional, absorbed};
-ghost use Rattle.frame.specs.Judged.{verdictOf, handedOut, payloadAt, HasPayload, frameLength, startOf, doubledNumber, passedBy, Ended, Completed};
-ghost use Rattle.frame.specs.Refusal.{numberOf};
+ghost use Rattle.frame.specs.Judged.{verdictOf, handedOut, payloadAt, HasPayload, frameLength, startOf, passedBy, Ended, Completed};
 ghost use Rattle.frame.specs.declared.framing.Format.the-variants.{Binary, Ascii};
 
 // How frames are laid out on the line, and so how they are written.
@@ -91,16 +90,6 @@ pub(crate) fn passed_by(format: Format, judged: usize) -> usize
     match format {
         Format::Binary(_) => 1,
         Format::Ascii(_) => judged - 1,
-    }
-}
-
-// The refusal of a start that another start follows.
-pub(crate) fn doubled_refusal(format: Format) -> Refusal
-    ensures { λ r. ⌜ numberOf r ≡ doubledNumber format ⌝ }
-{
-    match format {
-        Format::Binary(_) => Refusal::Start,
-        Format::Ascii(_) => Refusal::Character,
     }
 }
 

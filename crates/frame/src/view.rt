@@ -3,29 +3,32 @@ use crate::answer::Before;
 use crate::answer::FeedAnswer;
 use crate::answer::Kept;
 use crate::answer::answer;
+use crate::answer::judged_held;
 use crate::answer::took_first;
 use crate::framing::Format;
 use crate::framing::absorbed;
 use crate::framing::limit_of;
 use crate::reader::Reader;
 use crate::reader::hold;
+use crate::reader::judged_behind;
 use crate::refusal::Refusal;
 use crate::scan::find_first;
 use crate::scan::smaller;
 ghost use mathlib.Core.Path.{_≡_};
-ghost use Prim.Native.Nat.{_≤_};
-ghost use lib.ListN.{length, take, drop};
-ghost use Rattle.frame.specs.Framing.{limit};
+ghost use mathlib.Core.Bool.{false};
+ghost use lib.ListN.{take, drop};
 ghost use Rattle.frame.specs.Reader.{lineBehind};
 ghost use Rattle.frame.specs.View.{inside, Views, Stands};
-ghost use Rattle.frame.specs.Feeding.{lineOver, KeepsCall};
+ghost use Rattle.frame.specs.Feeding.{lineOver, judgedIn, KeepsCall, PartFed};
 
-// A reader's state, by value, whose held bytes are those of a chunk from index `from` up to `end`, which is behind them; `follows` is the reader's.
+// A reader's state, by value, whose held bytes are those of a chunk from index `from` up to `end`, which is behind them; `follows` and `judged` are the
+// reader's.
 pub struct View {
     pub format: Format,
     pub from: usize,
     pub end: usize,
     pub follows: bool,
+    pub judged: usize,
 }
 
 // The answer to a chunk, with the view that follows.
@@ -44,7 +47,7 @@ fn refused(view: View, refusal: Refusal) -> Viewed
     }
 }
 
-// Whether a view's held bytes lie in a chunk of so many bytes, and a reader can hold them.
+// Whether a view's held bytes lie in a chunk of so many bytes, and a reader can hold them with its number of judged bytes.
 fn is_inside(view: View, size: usize) -> bool
     ensures { λ r. ⌜ r ≡ inside view size ⌝ }
 {
@@ -55,38 +58,50 @@ fn is_inside(view: View, size: usize) -> bool
     if size < view.end {
         return false;
     }
-    view.end - view.from <= limit_of(format)
+    let count = view.end - view.from;
+    if limit_of(format) < count {
+        return false;
+    }
+    view.judged <= count
 }
 
-// Finds the next frame where the first `count` bytes of w are held, the others are offered, and no optional byte follows the last frame.
-fn feed_part(format: Format, w: &[u8], count: usize, buf: &mut [u8]) -> Kept
-    requires { ⌜ count ≤ length (now w) ⌝ }
-    requires { ⌜ count ≤ limit format ⌝ }
-    requires { ⌜ 256 ≤ length (now buf) ⌝ }
-    ensures { λ r. ⌜ KeepsCall (lineOver format count (now (w .entry))) count (now (w .entry)) r (now (buf .entry)) (now (buf .exit)) ⌝ }
+// Finds the next frame where the first `count` bytes of w are held, `judged` of them judged at the first, the others are offered, and no optional byte follows
+// the last frame.
+fn feed_part(format: Format, w: &[u8], count: usize, judged: usize, buf: &mut [u8]) -> Kept
+    requires { ⌜ PartFed format (now w) count (now buf) ⌝ }
+    ensures { λ r. ⌜ KeepsCall (lineOver format count (now (w .entry))) (judgedIn format false count judged (now (w .entry))) count (now (w .entry))
+        r (now (buf .entry)) (now (buf .exit)) ⌝ }
 {
-    let found = find_first(format, w, count, buf);
+    let found = find_first(format, w, count, judged, buf);
     let before = Before {
         base: count,
         noise: 0,
         size: w.len() - count,
     };
-    answer(format, w, found, before)
+    answer(format, w, found, before, found.judged)
 }
 
 // Finds the next frame where the first `count` bytes of w are held and the others are offered. An optional byte that may follow the last frame is passed
 // over at the front of w, and taken where it was not held. With no byte held or offered it may still follow.
-fn feed_view(format: Format, w: &[u8], count: usize, follows: bool, buf: &mut [u8]) -> Kept
-    requires { ⌜ count ≤ length (now w) ⌝ }
-    requires { ⌜ count ≤ limit format ⌝ }
-    requires { ⌜ length (now w) ≤ 65536 ⌝ }
-    requires { ⌜ 256 ≤ length (now buf) ⌝ }
-    ensures { λ r. ⌜ KeepsCall (lineBehind format follows (take count (now (w .entry))) (drop count (now (w .entry)))) count (now (w .entry))
-        r (now (buf .entry)) (now (buf .exit)) ⌝ }
+fn feed_view(
+    format: Format,
+    w: &[u8],
+    count: usize,
+    follows: bool,
+    judged: usize,
+    buf: &mut [u8],
+) -> Kept
+    requires { ⌜ PartFed format (now w) count (now buf) ⌝ }
+    ensures { λ r. ⌜ KeepsCall (lineBehind format follows (take count (now (w .entry))) (drop count (now (w .entry))))
+        (judgedIn format follows count judged (now (w .entry))) count (now (w .entry)) r (now (buf .entry)) (now (buf .exit)) ⌝ }
 {
     if w.len() == 0 {
         return Kept {
-            answer: FeedAnswer::NeedsMore { taken: 0, noise: 0 },
+            answer: FeedAnswer::NeedsMore {
+                taken: 0,
+                noise: 0,
+                judged: 0,
+            },
             from: 0,
             end: 0,
             follows: follows,
@@ -94,7 +109,8 @@ fn feed_view(format: Format, w: &[u8], count: usize, follows: bool, buf: &mut [u
     }
     let first = absorbed(format, follows, w);
     let held = smaller(first, count);
-    let kept = feed_part(format, &w[first..], count - held, buf);
+    let known = judged_behind(first, judged);
+    let kept = feed_part(format, &w[first..], count - held, known, buf);
     let answer = kept.answer;
     Kept {
         answer: took_first(answer, first - held),
@@ -107,8 +123,8 @@ fn feed_view(format: Format, w: &[u8], count: usize, follows: bool, buf: &mut [u
 impl View {
     // The line call of a reader that holds the view's bytes, offered what stands behind them in the chunk: an optional byte that follows the last frame is
     // dropped where it is held, and taken first where it is offered. Call it again with the view that follows and the same chunk until more bytes are
-    // needed. Refused with 16 where the view's bytes do not lie in the chunk or are more than a frame can have, 13 where buf has under 256 bytes, 15 where
-    // the chunk has over 65,536; a refusal leaves view and buffer.
+    // needed. Refused with 16 where the view's bytes do not lie in the chunk or are more than a frame can have, or more were judged than there are, 13 where
+    // buf has under 256 bytes, 15 where the chunk has over 65,536; a refusal leaves view and buffer.
     pub fn feed(self, chunk: &[u8], buf: &mut [u8]) -> Viewed
         ensures { λ r. ⌜ Views self (now (chunk .entry)) (now (buf .entry)) r (now (buf .exit)) ⌝ }
     {
@@ -125,7 +141,14 @@ impl View {
         if 65536 < chunk.len() {
             return refused(self, Refusal::Chunk);
         }
-        let kept = feed_view(format, &chunk[from..], end - from, self.follows, buf);
+        let kept = feed_view(
+            format,
+            &chunk[from..],
+            end - from,
+            self.follows,
+            self.judged,
+            buf,
+        );
         let answer = kept.answer;
         Viewed {
             view: View {
@@ -133,13 +156,14 @@ impl View {
                 from: from + kept.from,
                 end: from + kept.end,
                 follows: kept.follows,
+                judged: judged_held(answer, kept.end - kept.from),
             },
             answer: answer,
         }
     }
 
-    // The reader that holds the view's bytes, with its mark; one that holds nothing, without the mark, where they do not lie in the chunk or are more than a
-    // frame can have.
+    // The reader that holds the view's bytes, with its mark and its number of judged bytes; one that holds nothing, without the mark, where the view's call is
+    // refused with 16.
     pub fn reader(self, chunk: &[u8]) -> Reader
         ensures { λ r. ⌜ Stands self (now (chunk .entry)) r ⌝ }
     {
@@ -149,6 +173,6 @@ impl View {
         if !is_inside(self, chunk.len()) {
             return Reader::open(format);
         }
-        hold(format, &chunk[from..end], self.follows)
+        hold(format, &chunk[from..end], self.follows, self.judged)
     }
 }

@@ -16,20 +16,20 @@ use Rattle.frame.specs.Framing.{judge, limit, inFront}
 use Rattle.frame.specs.Rule.{Output, join}
 use Rattle.frame.specs.Reader.{State, holding, Settled, Called, line, after, stateOf, Holds, newReader, sound}
 use Rattle.frame.specs.Single.{Writing, writingOf}
-use Rattle.frame.specs.Drain.{drain, afterDrain, ruleAfter}
+use Rattle.frame.specs.Drain.{drain, afterDrain, ruleAfter, judgedAfter, drainJudged}
 use Rattle.frame.specs.Elements.{All}
 use Rattle.frame.specs.declared.framing.Format.{Format}
 use Rattle.frame.specs.declared.reader.Reader.{Reader}
 use Rattle.frame.specs.declared.single.WriteAnswer.the-variants.{Written}
 use Rattle.frame.proofs.Theorems.{line-drains, needs-more-is-drained, needs-more-is-true, undecided-is-short}
-use Rattle.frame.proofs.Theorems.{drain-follows-rule}
+use Rattle.frame.proofs.Theorems.{drain-follows-rule, drain-counts}
 use Rattle.listing.specs.Line.{linesOf, noiseLine, lineOf}
 use Rattle.listing.specs.Listing.{ListValues, valuesOf, Lists, ListsChunk, ListsQuiet, chunkRefusal}
 use Rattle.listing.specs.Claims.{given, NotRefused, Totals, Run, chunkListed, quietListed, HasRun, AnyCutIsListed, RunIsListing, RunExists}
-use Rattle.listing.specs.Claims.{ChunkStaysInLimit, printed}
+use Rattle.listing.specs.Claims.{judgedByRun, RunCounts, ChunkStaysSound, printed}
 use Rattle.listing.specs.declared.list.Listed.{Listed}
 use Rattle.listing.specs.declared.list.ListAnswer.the-variants.{Lines}
-use Rattle.listing.proofs.Chunks.{answered-lists, chunk-free, end-free}
+use Rattle.listing.proofs.Chunks.{answered-lists, chunk-free, end-free, is-sound}
 
 -- What the chunks and the quiet give is what the rule gives over all.
 given-is : (s : State) (chunks : List (List ℕ)) → given s chunks ≡ ruleAfter s (flatten chunks)
@@ -40,22 +40,27 @@ given-is s (chunk ∷ chunks) =
     ap (join (d .out)) (given-is (afterDrain s d) chunks) ∙ sym (drain-follows-rule s chunk (flatten chunks))
 
 pub any-cut-is-listed : AnyCutIsListed
-any-cut-is-listed m chunks = ap printed (given-is (holding m [] false) chunks)
+any-cut-is-listed m chunks = ap printed (given-is (holding m [] false 0) chunks)
 
--- A call that is not refused keeps the promise of an answer: its text, its noise, and the state that follows.
+-- What an answer says: its text, its noise, the bytes judged, and the state that follows.
+abbrev Says : Output (List ℕ) → ℕ → (Reader → Type 0) → Listed → List ℕ → Type 0
+Says o judged Next a out′ =
+    let v : ListValues = valuesOf (a .answer) in
+    (take (v .len) out′ ≡ linesOf (o .frames)) × (v .noise ≡ o .noise) × Next (a .reader) × (v .judged ≡ judged)
+
+-- A call that is not refused keeps the promise of an answer.
 kept :
-    {number : ℕ} (o : Output (List ℕ)) {Next : Reader → Type 0} {r : Reader} {out : List ℕ} (a : Listed) {out′ : List ℕ} →
-    Lists number o Next r out a out′ → NotRefused (valuesOf (a .answer)) →
-    (take (valuesOf (a .answer) .len) out′ ≡ linesOf (o .frames)) × (valuesOf (a .answer) .noise ≡ o .noise) × Next (a .reader)
-kept {number} o {Next} {r} {out} a {out′} p h = by (eqb number 0) refl
+    {number : ℕ} (o : Output (List ℕ)) {judged : ℕ} {Next : Reader → Type 0} {r : Reader} {out : List ℕ} (a : Listed) {out′ : List ℕ} →
+    Lists number o judged Next r out a out′ → NotRefused (valuesOf (a .answer)) → Says o judged Next a out′
+kept {number} o {judged} {Next} {r} {out} a {out′} p h = by (eqb number 0) refl
   where
-    by : (q : Bool) → eqb number 0 ≡ q →
-        (take (valuesOf (a .answer) .len) out′ ≡ linesOf (o .frames)) × (valuesOf (a .answer) .noise ≡ o .noise) × Next (a .reader)
+    by : (q : Bool) → eqb number 0 ≡ q → Says o judged Next a out′
     by true e =
         let v = p .answers e in (
           rw (ap (λ (x : ListValues). x .len) (v .0), v .2) (take-append-seam (linesOf (o .frames)) (drop (length (linesOf (o .frames))) out)),
           ap (λ (x : ListValues). x .noise) (v .0),
           v .1,
+          ap (λ (x : ListValues). x .judged) (v .0),
         )
     by false e =
         let v = p .refuses e in
@@ -104,10 +109,30 @@ run-is (quietListed {r} {noise} out out′ a p h t) =
 
 pub run-is-listing : RunIsListing
 run-is-listing m chunks shown run =
-    let g : Output (List ℕ) = given (holding m [] false) chunks in
+    let g : Output (List ℕ) = given (holding m [] false 0) chunks in
     run-is run
     ∙ ap (λ (n : ℕ). linesOf (g .frames) ++ noiseLine n) (zero-add (g .noise))
     ∙ any-cut-is-listed m chunks
+
+-- A state says of no more bytes than it holds that they were judged.
+abbrev Known : Reader → Type 0
+Known r = r .judged ≤ length (stateOf r .held)
+
+-- A run judges what the rule does of the bytes held and those of its chunks.
+run-judges :
+    {r : Reader} {noise : ℕ} {chunks : List (List ℕ)} {shown : List ℕ} (run : Run r noise chunks shown) → Known r →
+    judgedByRun run ≡ judgedAfter (stateOf r) (flatten chunks)
+unfolding flatten
+run-judges (chunkListed {r} {noise} {chunks} {shown} chunk out out′ a p h later) l =
+    let d : Settled = drain (stateOf r) chunk in
+    let k = kept (d .out) a p h in
+    let known : Known (a .reader) = subst (λ (s : State). s .judged ≤ length (s .held)) (sym (k .2 .state)) (le-refl (length (d .rest))) in
+    ap₂ _+_ (k .3) (run-judges later known ∙ ap (λ (s : State). judgedAfter s (flatten chunks)) (k .2 .state))
+    ∙ sym (drain-counts (stateOf r) chunk (flatten chunks) l)
+run-judges (quietListed {r} out out′ a p h t) l = kept (ruleAfter (stateOf r) []) a p h .3
+
+pub run-counts : RunCounts
+run-counts m chunks shown run = run-judges run zero-le ∙ omega arith
 
 -- What a line call leaves of its bytes is drained where no frame came out; otherwise fewer frames are left.
 abbrev Left : Format → List ℕ → Type 0
@@ -150,14 +175,16 @@ left-short s chunk =
     (λ (h : judge (s .format) (drain s chunk .rest) ≡ cut). omega (arith, undecided-is-short (s .format) (drain s chunk .rest) h))
     (left (length (drain s chunk .out .frames)) s chunk (le-refl _))
 
-pub chunk-stays-in-limit : ChunkStaysInLimit
-chunk-stays-in-limit r chunk out a out′ p l = by (eqb (chunkRefusal r (length out) (length chunk)) 0) refl
+pub chunk-stays-sound : ChunkStaysSound
+chunk-stays-sound r chunk out a out′ p l = by (eqb (chunkRefusal r (length out) (length chunk)) 0) refl
   where
-    by : (q : Bool) → eqb (chunkRefusal r (length out) (length chunk)) 0 ≡ q → (a .reader .format ≡ r .format) × (a .reader .count ≤ limit (r .format))
+    by : (q : Bool) → eqb (chunkRefusal r (length out) (length chunk)) 0 ≡ q → (a .reader .format ≡ r .format) × (sound (a .reader) ≡ true)
     by true e =
         let h = p .answers e .1 in
-        (ap (λ (s : State). s .format) (h .state), omega (arith, h .count, left-short (stateOf r) chunk))
-    by false e = let h = p .refuses e .1 in (ap (λ (x : Reader). x .format) h, rw h l)
+        let format : a .reader .format ≡ r .format = ap (λ (s : State). s .format) (h .state) in
+        let few : a .reader .count ≤ limit (r .format) = omega (arith, h .count, left-short (stateOf r) chunk) in
+        (format, is-sound (a .reader) (rw format few) (omega (arith, h .count, ap (λ (s : State). s .judged) (h .state))))
+    by false e = let h = p .refuses e .1 in (ap (λ (x : Reader). x .format) h, ap sound h ∙ l)
 
 -- A reader with this state.
 abbrev readerOf : State → Reader
@@ -167,12 +194,13 @@ readerOf s =
       held = s .held ++ replicate (517 - length (s .held)) 0;
       count = length (s .held);
       follows = s .follows;
+      judged = s .judged;
     }
 
 reader-holds : (s : State) → Holds s (readerOf s)
 reader-holds s =
     record {
-      state = ap (λ (l : List ℕ). holding (s .format) l (s .follows)) (take-append-seam (s .held) (replicate (517 - length (s .held)) 0));
+      state = ap (λ (l : List ℕ). holding (s .format) l (s .follows) (s .judged)) (take-append-seam (s .held) (replicate (517 - length (s .held)) 0));
       count = refl;
     }
 
@@ -184,34 +212,32 @@ buffer-room : (n : ℕ) → n ≤ length (buffer n)
 unfolding buffer
 buffer-room n = rw length-replicate (le-refl n)
 
--- The answer of a call that lists o.
-abbrev linesAnswer : Output (List ℕ) → Reader → Listed
-linesAnswer o r = record { reader = r; answer = Lines (length (linesOf (o .frames))) (o .noise) }
+-- The answer of a call that lists o and judges so many bytes.
+abbrev linesAnswer : Output (List ℕ) → ℕ → Reader → Listed
+linesAnswer o judged r = record { reader = r; answer = Lines (length (linesOf (o .frames))) (o .noise) judged }
 
 -- From a sound state a chunk can be listed, and a quiet: there are answers that keep the promises.
-module _ (r : Reader) (l : r .count ≤ limit (r .format)) where
-  is-sound : sound r ≡ true
-  is-sound = le-leb (r .count) (limit (r .format)) l
-
+module _ (r : Reader) (l : sound r ≡ true) where
   abbrev chunkBuffer : List ℕ
   chunkBuffer = buffer 198159
 
   abbrev afterChunk : List ℕ → Listed
-  afterChunk chunk = let d : Settled = drain (stateOf r) chunk in linesAnswer (d .out) (readerOf (afterDrain (stateOf r) d))
+  afterChunk chunk =
+      let d : Settled = drain (stateOf r) chunk in linesAnswer (d .out) (drainJudged (stateOf r) chunk) (readerOf (afterDrain (stateOf r) d))
 
   chunk-listed : (chunk : List ℕ) → length chunk ≤ 65536 →
       ListsChunk r chunk chunkBuffer (afterChunk chunk) (inFront (linesOf (drain (stateOf r) chunk .out .frames)) chunkBuffer)
   chunk-listed chunk short =
       let d : Settled = drain (stateOf r) chunk in
-      answered-lists (d .out) r chunkBuffer (afterChunk chunk) (chunk-free r (length chunkBuffer) (length chunk) is-sound (buffer-room 198159) short) refl
+      answered-lists (d .out) r chunkBuffer (afterChunk chunk) (chunk-free r (length chunkBuffer) (length chunk) l (buffer-room 198159) short) refl
       (reader-holds (afterDrain (stateOf r) d)) refl
 
-  quiet-listed :
-      ListsQuiet r (buffer 1551) (linesAnswer (ruleAfter (stateOf r) []) (newReader (r .format)))
-      (inFront (linesOf (ruleAfter (stateOf r) [] .frames)) (buffer 1551))
+  abbrev afterQuiet : Listed
+  afterQuiet = linesAnswer (ruleAfter (stateOf r) []) (judgedAfter (stateOf r) []) (newReader (r .format))
+
+  quiet-listed : ListsQuiet r (buffer 1551) afterQuiet (inFront (linesOf (ruleAfter (stateOf r) [] .frames)) (buffer 1551))
   quiet-listed =
-      answered-lists (ruleAfter (stateOf r) []) r (buffer 1551) (linesAnswer (ruleAfter (stateOf r) []) (newReader (r .format)))
-      (end-free r (length (buffer 1551)) is-sound (buffer-room 1551)) refl refl refl
+      answered-lists (ruleAfter (stateOf r) []) r (buffer 1551) afterQuiet (end-free r (length (buffer 1551)) l (buffer-room 1551)) refl refl refl
 
 -- The total can be listed.
 total-listed : (noise : ℕ) → Totals noise (noiseLine noise)
@@ -227,16 +253,16 @@ total-listed noise =
     }
 
 -- A run from any sound state on.
-has-run : (r : Reader) (noise : ℕ) (chunks : List (List ℕ)) → r .count ≤ limit (r .format) → All (λ chunk. length chunk ≤ 65536) chunks → HasRun r noise chunks
+has-run : (r : Reader) (noise : ℕ) (chunks : List (List ℕ)) → sound r ≡ true → All (λ chunk. length chunk ≤ 65536) chunks → HasRun r noise chunks
 has-run r noise [] l short =
     let o : Output (List ℕ) = ruleAfter (stateOf r) [] in
-    record { shown = _; run = quietListed (buffer 1551) _ (linesAnswer o (newReader (r .format))) (quiet-listed r l) refl (total-listed (noise + o .noise)) }
+    record { shown = _; run = quietListed (buffer 1551) _ (afterQuiet r l) (quiet-listed r l) refl (total-listed (noise + o .noise)) }
 has-run r noise (chunk ∷ chunks) l short =
     let a : Listed = afterChunk r l chunk in
     let p = chunk-listed r l chunk (short .0) in
     let later : HasRun (a .reader) (noise + valuesOf (a .answer) .noise) chunks =
-    has-run (a .reader) (noise + valuesOf (a .answer) .noise) chunks (chunk-stays-in-limit r chunk (chunkBuffer r l) a _ p l .1) (short .1) in
+    has-run (a .reader) (noise + valuesOf (a .answer) .noise) chunks (chunk-stays-sound r chunk (chunkBuffer r l) a _ p l .1) (short .1) in
     record { shown = _; run = chunkListed chunk (chunkBuffer r l) _ a p refl (later .run) }
 
 pub run-exists : RunExists
-run-exists m chunks short = has-run (newReader m) 0 chunks zero-le short
+run-exists m chunks short = has-run (newReader m) 0 chunks (is-sound (newReader m) zero-le zero-le) short

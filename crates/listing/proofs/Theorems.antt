@@ -25,7 +25,7 @@ use Rattle.message.specs.FromModule.{senderMeaning, receptionMeaning, statusMea
 use Rattle.listing.specs.Line.{linesOf, noiseLine, decimal, lineOf, simpleLine, responseLine}
 use Rattle.listing.specs.Line.{receptionLine, standardLine, remoteLine, settingsLine, refusalLine}
 use Rattle.listing.specs.Listing.{ListValues, valuesOf, Lists, chunkRefusal, endRefusal}
-use Rattle.listing.specs.Claims.{RunIsListing, RunExists, ChunkStaysInLimit, ChunkIsSmall, QuietIsSmall, TotalIsSmall, AnyCutIsListed}
+use Rattle.listing.specs.Claims.{RunIsListing, RunExists, RunCounts, ChunkStaysSound, ChunkIsSmall, QuietIsSmall, TotalIsSmall, AnyCutIsListed}
 use Rattle.listing.specs.Claims.{ExampleIsListed, FooterlessIsListed, KindsAreListed}
 use Rattle.listing.specs.declared.list.Listed.{Listed}
 use Rattle.listing.proofs.Lines.{noise-room}
@@ -41,11 +41,14 @@ run-is-listing = runs.run-is-listing
 pub run-exists : RunExists
 run-exists = runs.run-exists
 
-pub chunk-stays-in-limit : ChunkStaysInLimit
-chunk-stays-in-limit = runs.chunk-stays-in-limit
+pub run-counts : RunCounts
+run-counts = runs.run-counts
 
-module _ {number : ℕ} (o : Output (List ℕ)) {Next : Reader → Type 0} {r : Reader} (out : List ℕ) (a : Listed) {out′ : List ℕ}
-    (p : Lists number o Next r out a out′) where
+pub chunk-stays-sound : ChunkStaysSound
+chunk-stays-sound = runs.chunk-stays-sound
+
+module _ {number : ℕ} (o : Output (List ℕ)) {judged : ℕ} {Next : Reader → Type 0} {r : Reader} (out : List ℕ) (a : Listed) {out′ : List ℕ}
+    (p : Lists number o judged Next r out a out′) where
   -- What is listed has room, and little noise.
   abbrev Small : ℕ → Type 0
   Small most = (length (linesOf (o .frames)) ≤ length out) × (o .noise ≤ most)

@@ -1,5 +1,6 @@
 -- What follows from the promises: the calls over a segment print its listing, however it is cut into chunks. Document 01, end of "Frames to check
--- against", with its example; document 02, CR 1, for the lines of settings, and CR 2, for a frame without its footer.
+-- against", with its example; document 02, CR 1, for the lines of settings, CR 2, for a frame without its footer, and CR 7, for
+-- the bytes judged.
 use Prim.Native.Nat.{ℕ, _+_, _≤_}
 use mathlib.Core.Path.{_≡_}
 use mathlib.Core.List.{List, [], _∷_, _++_, flatten}
@@ -7,9 +8,8 @@ use mathlib.Core.Bool.{true, false}
 use lib.Dec.{eqb}
 use lib.ListN.{length, take}
 use Rattle.frame.specs.Ascii.{carriageReturn, lineFeed}
-use Rattle.frame.specs.Framing.{limit}
-use Rattle.frame.specs.Rule.{Output, join, rule, payloads}
-use Rattle.frame.specs.Reader.{State, holding, Settled, newReader}
+use Rattle.frame.specs.Rule.{Output, join, rule, ruleJudged, payloads}
+use Rattle.frame.specs.Reader.{State, holding, Settled, newReader, sound}
 use Rattle.frame.specs.Single.{writingOf}
 use Rattle.frame.specs.Drain.{drain, afterDrain, ruleAfter}
 use Rattle.frame.specs.Elements.{All}
@@ -55,7 +55,7 @@ listing m segment = printed (payloads (rule m segment))
 
 -- However a segment is cut into chunks, the lines of all of them and of the quiet, and then the total of their noise, are the segment's listing.
 abbrev pub AnyCutIsListed : Type 0
-AnyCutIsListed = (m : Format) (chunks : List (List ℕ)) → printed (given (holding m [] false) chunks) ≡ listing m (flatten chunks)
+AnyCutIsListed = (m : Format) (chunks : List (List ℕ)) → printed (given (holding m [] false 0) chunks) ≡ listing m (flatten chunks)
 
 -- A call was not refused.
 abbrev pub NotRefused : ListValues → Type 0
@@ -94,11 +94,20 @@ pub record HasRun (r : Reader) (noise : ℕ) (chunks : List (List ℕ)) : Type 0
 abbrev pub RunExists : Type 0
 RunExists = (m : Format) (chunks : List (List ℕ)) → All (λ chunk. length chunk ≤ 65536) chunks → HasRun (newReader m) 0 chunks
 
--- Whatever state a chunk is listed with, held bytes within the limit stay within it, and the format stays: no later call refuses the state.
-abbrev pub ChunkStaysInLimit : Type 0
-ChunkStaysInLimit =
-    (r : Reader) (chunk out : List ℕ) (a : Listed) (out′ : List ℕ) → ListsChunk r chunk out a out′ → r .count ≤ limit (r .format) →
-    (a .reader .format ≡ r .format) × (a .reader .count ≤ limit (r .format))
+-- The bytes that the answers of a run report as judged, together.
+abbrev pub judgedByRun : {r : Reader} {noise : ℕ} {chunks : List (List ℕ)} {shown : List ℕ} → Run r noise chunks shown → ℕ
+judgedByRun (chunkListed chunk out out′ a p n later) = valuesOf (a .answer) .judged + judgedByRun later
+judgedByRun (quietListed out out′ a p n totals) = valuesOf (a .answer) .judged
+
+-- Whatever its chunks, they are the rule's own count over the segment. Document 02, CR 7.
+abbrev pub RunCounts : Type 0
+RunCounts = (m : Format) (chunks : List (List ℕ)) (shown : List ℕ) (run : Run (newReader m) 0 chunks shown) → judgedByRun run ≡ ruleJudged m (flatten chunks)
+
+-- Whatever sound state a chunk is listed with, the state that follows is sound, with the same format: no later call refuses it.
+abbrev pub ChunkStaysSound : Type 0
+ChunkStaysSound =
+    (r : Reader) (chunk out : List ℕ) (a : Listed) (out′ : List ℕ) → ListsChunk r chunk out a out′ → sound r ≡ true →
+    (a .reader .format ≡ r .format) × (sound (a .reader) ≡ true)
 
 -- Document 01's example, byte for byte.
 abbrev pub ExampleIsListed : Type 0

@@ -8,9 +8,9 @@ use lib.ListN.{length}
 use Rattle.frame.specs.Framing.{inFront}
 use Rattle.frame.specs.Refusal.{numberOf}
 use Rattle.frame.specs.Rule.{Output}
-use Rattle.frame.specs.Reader.{Settled, stateOf, newReader, Holds, sound, Promise}
+use Rattle.frame.specs.Reader.{State, Settled, stateOf, newReader, Holds, sound, Promise}
 use Rattle.frame.specs.Single.{lengthWriting, noWriting, writingOf}
-use Rattle.frame.specs.Drain.{drain, afterDrain, ruleAfter}
+use Rattle.frame.specs.Drain.{drain, afterDrain, ruleAfter, judgedAfter, drainJudged}
 use Rattle.frame.specs.declared.reader.Reader.{Reader}
 use Rattle.frame.specs.declared.single.WriteAnswer.{WriteAnswer}
 use Rattle.listing.specs.Line.{linesOf, noiseLine}
@@ -18,26 +18,27 @@ use Rattle.listing.specs.declared.list.Listed.{Listed}
 use Rattle.listing.specs.declared.list.ListAnswer.{ListAnswer}
 use Rattle.listing.specs.declared.list.ListAnswer.the-variants.{Lines, Refused}
 
--- An answer in numbers: the refusal's, 0 for none, the length of the text, and the bytes settled as noise.
+-- An answer in numbers: the refusal's, 0 for none, the length of the text, the bytes settled as noise, and the bytes judged.
 pub record ListValues : Type 0 where
   pub number : ℕ
   pub len : ℕ
   pub noise : ℕ
+  pub judged : ℕ
 
-abbrev pub textValues : ℕ → ℕ → ListValues
-textValues len noise = record { number = 0; len = len; noise = noise }
+abbrev pub textValues : ℕ → ℕ → ℕ → ListValues
+textValues len noise judged = record { number = 0; len = len; noise = noise; judged = judged }
 
 abbrev pub noTextValues : ℕ → ListValues
-noTextValues n = record { number = n; len = 0; noise = 0 }
+noTextValues n = record { number = n; len = 0; noise = 0; judged = 0 }
 
 abbrev pub valuesOf : ListAnswer → ListValues
-valuesOf (Lines len noise) = textValues len noise
+valuesOf (Lines len noise judged) = textValues len noise judged
 valuesOf (Refused r) = noTextValues (numberOf r)
 
--- The promise of a call that lists o, where its refusal is `number`, 0 for none, and the reader that follows has the property Next.
-abbrev pub Lists : ℕ → Output (List ℕ) → (Reader → Type 0) → Reader → List ℕ → Listed → List ℕ → Type 0
-Lists number o Next r out a out′ =
-    Promise number (noTextValues number) (textValues (length (linesOf (o .frames))) (o .noise)) Next (inFront (linesOf (o .frames)) out)
+-- The promise of a call that lists o and judges so many bytes, where its refusal is `number`, 0 for none, and the reader that follows has the property Next.
+abbrev pub Lists : ℕ → Output (List ℕ) → ℕ → (Reader → Type 0) → Reader → List ℕ → Listed → List ℕ → Type 0
+Lists number o judged Next r out a out′ =
+    Promise number (noTextValues number) (textValues (length (linesOf (o .frames))) (o .noise) judged) Next (inFront (linesOf (o .frames)) out)
     r out (valuesOf (a .answer)) (a .reader) out′
 
 -- The room of a text is three bytes for each byte that is held or offered: in every format a frame has at least 5 bytes besides its payload, and its line
@@ -50,8 +51,9 @@ chunkRefusal r room size = cond (sound r) (cond (leb 198159 room) (cond (leb siz
 -- What a chunk settles of the bytes held and its own is listed; what is undecided stays held.
 abbrev pub ListsChunk : Reader → List ℕ → List ℕ → Listed → List ℕ → Type 0
 ListsChunk r chunk out a out′ =
-    let d : Settled = drain (stateOf r) chunk in
-    Lists (chunkRefusal r (length out) (length chunk)) (d .out) (Holds (afterDrain (stateOf r) d)) r out a out′
+    let s : State = stateOf r in
+    let d : Settled = drain s chunk in
+    Lists (chunkRefusal r (length out) (length chunk)) (d .out) (drainJudged s chunk) (Holds (afterDrain s d)) r out a out′
 
 -- The refusals of a quiet: 16; 13 for a buffer under 1,551 bytes, three times 517.
 abbrev pub endRefusal : Reader → ℕ → ℕ
@@ -59,7 +61,8 @@ endRefusal r room = cond (sound r) (cond (leb 1551 room) 0 13) 16
 
 -- At a quiet what the rule gives over the bytes held is listed, and the reader is a new one.
 abbrev pub ListsQuiet : Reader → List ℕ → Listed → List ℕ → Type 0
-ListsQuiet r out a out′ = Lists (endRefusal r (length out)) (ruleAfter (stateOf r) []) (λ r′. r′ ≡ newReader (r .format)) r out a out′
+ListsQuiet r out a out′ =
+    let s : State = stateOf r in Lists (endRefusal r (length out)) (ruleAfter s []) (judgedAfter s []) (λ r′. r′ ≡ newReader (r .format)) r out a out′
 
 -- The total of noise: 13 for a buffer under 27 bytes, which any 64-bit number's line fits in.
 pub record ListsTotal (noise : ℕ) (out : List ℕ) (a : WriteAnswer) (out′ : List ℕ) : Type 0 where

@@ -6,11 +6,10 @@ use mathlib.Core.Bool.{Bool, true, false, cond}
 use lib.Dec.{eqb}
 use lib.ListN.{length, drop}
 use Rattle.frame.specs.Hex.{hex}
-use Rattle.frame.specs.Framing.{limit}
-use Rattle.frame.specs.Reader.{State, Settled, stateOf, Holds}
+use Rattle.frame.specs.Reader.{State, Settled, stateOf, Holds, sound}
 use Rattle.frame.specs.Rule.{Output}
 use Rattle.frame.specs.View.{inside, viewed}
-use Rattle.frame.specs.Drain.{drain, afterDrain}
+use Rattle.frame.specs.Drain.{drain, afterDrain, judgedAfter, drainJudged}
 use Rattle.frame.specs.declared.reader.Reader.{Reader}
 use Rattle.frame.specs.declared.view.View.{View}
 use Rattle.message.specs.Number.{bytes2, bytes4}
@@ -47,41 +46,52 @@ pub record Progress (whole left : Output (List ℕ)) (out₀ : List ℕ) (at bas
   pub text : PartlyPut out₀ at (linesOf (whole .frames)) (linesOf (left .frames)) end out
   pub noises : noise + left .noise ≡ base + whole .noise
 
--- Some of the calls over a chunk are made: from the state s on, `rest` is still to be offered, and what the other calls give is what is left of `whole`.
-pub record PartlyDrained (whole : Settled) (s : State) (rest out₀ : List ℕ) (at base end noise : ℕ) (out : List ℕ) : Type 0 where
+-- Some of the calls over a chunk are made: from the state s on, `rest` is still to be offered, and what the other calls give is what is left of `whole`; the
+-- bytes judged so far and those that are still judged, as if the segment ended with the chunk, are `total`.
+pub record PartlyDrained (whole : Settled) (total : ℕ) (s : State) (rest out₀ : List ℕ) (at base end noise judged : ℕ) (out : List ℕ) : Type 0 where
   pub same : drain s rest .rest ≡ whole .rest
   pub mark : drain s rest .follows ≡ whole .follows
   pub progress : Progress (whole .out) (drain s rest .out) out₀ at base end noise out
+  pub counts : judged + judgedAfter s rest ≡ total
+  pub known : s .judged ≤ length (s .held)
 
 -- All of `whole` can be listed: there is room for its lines, and its noise is small.
 pub record Room (whole : Settled) (at base : ℕ) (out : List ℕ) : Type 0 where
   pub room : at + length (linesOf (whole .out .frames)) ≤ length out
   pub few : base + whole .out .noise ≤ 66053
 
--- It is listed: the lines are put from `at` on, the noise is added to `base`, and the reader has the state that follows s.
-pub record ListsRest (s : State) (whole : Settled) (out : List ℕ) (at base : ℕ) (a : Listed) (out′ : List ℕ) : Type 0 where
-  pub values : valuesOf (a .answer) ≡ textValues (at + length (linesOf (whole .out .frames))) (base + whole .out .noise)
+-- It is listed: the lines are put from `at` on, the noise is added to `base`, `judged` bytes were judged, and the reader has the state that follows s.
+pub record ListsRest (s : State) (whole : Settled) (judged : ℕ) (out : List ℕ) (at base : ℕ) (a : Listed) (out′ : List ℕ) : Type 0 where
+  pub values : valuesOf (a .answer) ≡ textValues (at + length (linesOf (whole .out .frames))) (base + whole .out .noise) judged
   pub state : Holds (afterDrain s whole) (a .reader)
   pub puts : Puts out at (linesOf (whole .out .frames)) (at + length (linesOf (whole .out .frames))) out′
 
--- What `list_view` is called with, and what it lists: the calls of a view over the rest of its chunk.
+-- What `list_view` is called with, and what it lists: the calls of a view over the rest of its chunk, where `before` bytes were judged before.
 abbrev pub viewDrain : View → List ℕ → Settled
 viewDrain v chunk = drain (viewed v chunk) (drop (v .end) chunk)
 
-abbrev pub ListsView : View → List ℕ → List ℕ → ℕ → ℕ → Listed → List ℕ → Type 0
-ListsView v chunk out at base a out′ = ListsRest (viewed v chunk) (viewDrain v chunk) out at base a out′
+abbrev pub ListsView : View → List ℕ → List ℕ → ℕ → ℕ → ℕ → Listed → List ℕ → Type 0
+ListsView v chunk out at base before a out′ =
+    let s : State = viewed v chunk in
+    ListsRest s (viewDrain v chunk) (before + drainJudged s (drop (v .end) chunk)) out at base a out′
 
-pub record CanView (v : View) (chunk : List ℕ) (at base : ℕ) (out : List ℕ) : Type 0 where
+-- No more bytes are judged over a chunk: 262 for each of the 66,053 that are held or offered at most.
+abbrev pub judgedMost : ℕ
+judgedMost = 17305886
+
+pub record CanView (v : View) (chunk : List ℕ) (at base before : ℕ) (out : List ℕ) : Type 0 where
   pub within : inside v (length chunk) ≡ true
   pub small : length chunk ≤ 65536
   pub fits : Room (viewDrain v chunk) at base out
+  pub count : before + judgedAfter (viewed v chunk) (drop (v .end) chunk) ≤ judgedMost
 
-abbrev pub partOf : Reader → ℕ → ℕ → ℕ → Bool → Part
-partOf reader done end noise over = record { reader = reader; done = done; end = end; noise = noise; over = over }
+abbrev pub partOf : Reader → ℕ → ℕ → ℕ → ℕ → Bool → Part
+partOf reader done end noise judged over = record { reader = reader; done = done; end = end; noise = noise; judged = judged; over = over }
 
 -- What `list_held` is called with.
 pub record CanFeed (r : Reader) (chunk out : List ℕ) : Type 0 where
-  pub within : r .count ≤ limit (r .format)
+  pub within : sound r ≡ true
+  pub known : r .judged ≤ length (stateOf r .held)
   pub small : length chunk ≤ 65536
   pub fits : Room (drain (stateOf r) chunk) 0 0 out
 
@@ -91,7 +101,10 @@ pub record HeldListed (r : Reader) (chunk out : List ℕ) (p : Part) (out′ : L
   pub format : p .reader .format ≡ r .format
   pub all :
       (p .over ≡ true) →
-      ListsRest (stateOf r) (drain (stateOf r) chunk) out 0 0 (record { reader = p .reader; answer = Lines (p .end) (p .noise) }) out′
+      ListsRest (stateOf r) (drain (stateOf r) chunk) (drainJudged (stateOf r) chunk) out 0 0
+      (record { reader = p .reader; answer = Lines (p .end) (p .noise) (p .judged) }) out′
   pub some :
       (p .over ≡ false) →
-      (p .reader .count ≡ 0) × PartlyDrained (drain (stateOf r) chunk) (stateOf (p .reader)) (drop (p .done) chunk) out 0 0 (p .end) (p .noise) out′
+      (p .reader .count ≡ 0)
+      × PartlyDrained (drain (stateOf r) chunk) (judgedAfter (stateOf r) chunk) (stateOf (p .reader)) (drop (p .done) chunk) out 0 0 (p .end) (p .noise)
+      (p .judged) out′

@@ -22,8 +22,12 @@ pub const QUIET_ROOM: usize = 1551;
 pub const TOTAL_ROOM: usize = 27;
 
 pub enum ListAnswer {
-    // The lines of the frames are the first `len` bytes of the buffer, and `noise` bytes were settled as noise.
-    Lines { len: usize, noise: usize },
+    // The lines of the frames are the first `len` bytes of the buffer, `noise` bytes were settled as noise, and the reader's calls judged `judged` bytes.
+    Lines {
+        len: usize,
+        noise: usize,
+        judged: usize,
+    },
     Refused(Refusal),
 }
 
@@ -33,22 +37,24 @@ pub struct Listed {
     pub answer: ListAnswer,
 }
 
-// A chunk that is listed in part: the reader, the bytes of the chunk that are taken, the end of the text, the bytes of noise, and whether all is listed.
+// A chunk that is listed in part: the reader, the bytes of the chunk that are taken, the end of the text, the bytes of noise, the bytes judged, and whether all
+// is listed.
 struct Part {
     reader: Reader,
     done: usize,
     end: usize,
     noise: usize,
+    judged: usize,
     over: bool,
 }
 
-fn lines(reader: Reader, len: usize, noise: usize) -> Listed
+fn lines(reader: Reader, len: usize, noise: usize, judged: usize) -> Listed
     ensures { λ r. ⌜ r .reader ≡ reader ⌝ }
-    ensures { λ r. ⌜ r .answer ≡ ListAnswer.Lines len noise ⌝ }
+    ensures { λ r. ⌜ r .answer ≡ ListAnswer.Lines len noise judged ⌝ }
 {
     Listed {
         reader: reader,
-        answer: ListAnswer::Lines { len, noise },
+        answer: ListAnswer::Lines { len, noise, judged },
     }
 }
 
@@ -62,54 +68,64 @@ fn refused(reader: Reader, refusal: Refusal) -> Listed
     }
 }
 
-fn part_at(reader: Reader, done: usize, end: usize, noise: usize, over: bool) -> Part
-    ensures { λ r. ⌜ r ≡ partOf reader done end noise over ⌝ }
+fn part_at(reader: Reader, done: usize, end: usize, noise: usize, judged: usize, over: bool) -> Part
+    ensures { λ r. ⌜ r ≡ partOf reader done end noise judged over ⌝ }
 {
     Part {
         reader,
         done,
         end,
         noise,
+        judged,
         over,
     }
 }
 
-// Whether a reader can hold as many bytes as this one does.
+// Whether a reader's state is sound: one that `feed` and `quiet` do not refuse.
 fn is_sound(reader: Reader) -> bool
     ensures { λ r. ⌜ r ≡ sound reader ⌝ }
 {
     let format = reader.format;
-    match format {
-        Format::Binary(_) => reader.count <= Reader::MAX_BINARY,
-        Format::Ascii(_) => reader.count <= Reader::MAX_ASCII,
+    let most = match format {
+        Format::Binary(_) => Reader::MAX_BINARY,
+        Format::Ascii(_) => Reader::MAX_ASCII,
+    };
+    if most < reader.count {
+        return false;
     }
+    reader.judged <= reader.count
 }
 
-// Lists the frames of a chunk from the view on, where the text ends at `start` and `before` bytes of noise were settled. No state is copied between frames.
-fn list_view(first: View, chunk: &[u8], start: usize, before: usize, out: &mut [u8]) -> Listed
-    requires { ⌜ CanView first (now chunk) start before (now out) ⌝ }
-    ensures { λ r. ⌜ ListsView first (now (chunk .entry)) (now (out .entry)) start before r (now (out .exit)) ⌝ }
+// Lists the frames of a chunk from the view on, behind the part that is listed already: the text goes on at its end, and the answer's numbers include its
+// bytes of noise and bytes judged. No state is copied between frames.
+fn list_view(first: View, chunk: &[u8], part: Part, out: &mut [u8]) -> Listed
+    requires { ⌜ CanView first (now chunk) (part .end) (part .noise) (part .judged) (now out) ⌝ }
+    ensures { λ r. ⌜ ListsView first (now (chunk .entry)) (now (out .entry)) (part .end) (part .noise) (part .judged) r (now (out .exit)) ⌝ }
 {
     let mut buf = [0u8; 256];
     let mut view = first;
-    let mut end = start;
-    let mut total = before;
+    let mut end = part.end;
+    let mut noise_total = part.noise;
+    let mut judged_total = part.judged;
     loop {
         let fed = view.feed(chunk, &mut buf);
         let answer = fed.answer;
         view = fed.view;
         match answer {
             FeedAnswer::Frame {
-                taken: _,
                 noise,
+                judged,
                 len,
+                ..
             } => {
                 let whole = &buf[..];
                 end = put_line(&whole[..len], out, end);
-                total += noise;
+                noise_total += noise;
+                judged_total += judged;
             }
-            FeedAnswer::NeedsMore { taken: _, noise } => {
-                return lines(view.reader(chunk), end, total + noise);
+            FeedAnswer::NeedsMore { noise, judged, .. } => {
+                let state = view.reader(chunk);
+                return lines(state, end, noise_total + noise, judged_total + judged);
             }
             FeedAnswer::Refused(refusal) => {
                 return refused(view.reader(chunk), refusal);
@@ -127,27 +143,36 @@ fn list_held(reader: Reader, chunk: &[u8], out: &mut [u8]) -> Part
     let mut state = reader;
     let mut done: usize = 0;
     let mut end: usize = 0;
-    let mut total: usize = 0;
+    let mut noise_total: usize = 0;
+    let mut judged_total: usize = 0;
     while 0 < state.count {
         let fed = state.feed(&chunk[done..], &mut buf);
         let answer = fed.answer;
         state = fed.reader;
         match answer {
-            FeedAnswer::Frame { taken, noise, len } => {
+            FeedAnswer::Frame {
+                taken,
+                noise,
+                judged,
+                len,
+            } => {
                 let whole = &buf[..];
                 end = put_line(&whole[..len], out, end);
                 done += taken;
-                total += noise;
+                noise_total += noise;
+                judged_total += judged;
             }
-            FeedAnswer::NeedsMore { taken: _, noise } => {
-                return part_at(state, done, end, total + noise, true);
+            FeedAnswer::NeedsMore { noise, judged, .. } => {
+                noise_total += noise;
+                judged_total += judged;
+                return part_at(state, done, end, noise_total, judged_total, true);
             }
             FeedAnswer::Refused(_) => {
-                return part_at(state, done, end, total, true);
+                return part_at(state, done, end, noise_total, judged_total, true);
             }
         }
     }
-    part_at(state, done, end, total, false)
+    part_at(state, done, end, noise_total, judged_total, false)
 }
 
 // Feeds a chunk to the reader to its end, and puts a line for each frame into the front of out, whose other bytes stay. Refused with 16 as `feed` is, 13
@@ -167,7 +192,7 @@ pub fn list_chunk(reader: Reader, chunk: &[u8], out: &mut [u8]) -> Listed
     let part = list_held(reader, chunk, out);
     let state = part.reader;
     if part.over {
-        return lines(state, part.end, part.noise);
+        return lines(state, part.end, part.noise, part.judged);
     }
     let format = state.format;
     let done = part.done;
@@ -176,8 +201,9 @@ pub fn list_chunk(reader: Reader, chunk: &[u8], out: &mut [u8]) -> Listed
         from: done,
         end: done,
         follows: state.follows,
+        judged: state.judged,
     };
-    list_view(view, chunk, part.end, part.noise, out)
+    list_view(view, chunk, part, out)
 }
 
 // The line was quiet: puts a line for each frame that the reader still holds into the front of out, whose other bytes stay. Refused with 16 as `quiet` is,
@@ -194,19 +220,21 @@ pub fn list_quiet(reader: Reader, out: &mut [u8]) -> Listed
     let mut buf = [0u8; 256];
     let mut state = reader;
     let mut end: usize = 0;
-    let mut total: usize = 0;
+    let mut noise_total: usize = 0;
+    let mut judged_total: usize = 0;
     loop {
         let quieted = state.quiet(&mut buf);
         let answer = quieted.answer;
         state = quieted.reader;
         match answer {
-            QuietAnswer::Frame { noise, len } => {
+            QuietAnswer::Frame { noise, judged, len } => {
                 let whole = &buf[..];
                 end = put_line(&whole[..len], out, end);
-                total += noise;
+                noise_total += noise;
+                judged_total += judged;
             }
-            QuietAnswer::Empty { noise } => {
-                return lines(state, end, total + noise);
+            QuietAnswer::Empty { noise, judged } => {
+                return lines(state, end, noise_total + noise, judged_total + judged);
             }
             QuietAnswer::Refused(refusal) => {
                 return refused(state, refusal);

@@ -23,7 +23,7 @@ struct Run {
 // Adds the text of an answer, which is in the front of out. None of the calls here is refused; one that is adds no text, which shows in the output.
 fn add_answer(run: Run, reader: Reader, answer: ListAnswer, out: &[u8], text: &mut [u8]) -> Run {
     match answer {
-        ListAnswer::Lines { len, noise } => {
+        ListAnswer::Lines { len, noise, .. } => {
             let end = append(text, run.end, front(out, len));
             let noise = std::num::wrapping_add_u64(run.noise, noise as u64);
             Run { reader, noise, end }

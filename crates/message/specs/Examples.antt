@@ -69,12 +69,13 @@ singleRead v =
 
 -- A reader with this state.
 abbrev having : State → Reader
-having s = record { format = s .format; held = s .held; count = length (s .held); follows = s .follows }
+having s = record { format = s .format; held = s .held; count = length (s .held); follows = s .follows; judged = s .judged }
 
--- A line or a quiet call with this refusal number, by the definitions that their contracts cite.
+-- A line or a quiet call with this refusal number, by the definitions that their contracts cite. The rows don't show the bytes that it judges, for which 0
+-- stands here; examples of them are in the crate frame.
 abbrev pub readerCall : ℕ → Called → Answer
 readerCall number c =
-    let v : Values = valuesAt c in
+    let v : Values = valuesAt c 0 in
     call number (v .taken) (v .noise) (handedOut (v .isFrame) (v .len) (bufferAt (c .out .frames) room))
 
 -- The data of a message in the payload p.

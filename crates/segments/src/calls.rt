@@ -1,5 +1,6 @@
 // The calls of a row and their answers, a line for each.
-use crate::show::print_field;
+use crate::show::print_counts;
+use crate::show::print_fed;
 use crate::show::print_line;
 use crate::show::show_end;
 use crate::show::show_frame;
@@ -14,14 +15,16 @@ use frame::FeedAnswer;
 use frame::QuietAnswer;
 use frame::Reader;
 use libc::STDOUT_FILENO;
+ghost use mathlib.Core.Path.{_≡_};
 ghost use Prim.Native.Nat.{_≤_, _<_};
 ghost use lib.ListN.{length};
 
-// A row being run: the reader's state, and the frames and the bytes of noise so far.
+// A row being run: the reader's state, and the frames, the bytes of noise and the bytes judged so far.
 struct Run {
     reader: Reader,
     frames: u64,
     noise: u64,
+    judged: u64,
 }
 
 // What follows a call: the run, the bytes that were taken, and whether the call is to be made again.
@@ -37,10 +40,12 @@ fn new_run(reader: Reader) -> Run {
         reader: reader,
         frames: 0,
         noise: 0,
+        judged: 0,
     }
 }
 
-// Makes calls that are refused: by 16 where the state holds too much, else by 13 for a buffer of 255 bytes and 15 for a chunk of 65,537.
+// Makes calls that are refused: by 16 where the state holds too much, or says that more bytes were judged than it holds, else by 13 for a buffer of 255 bytes
+// and 15 for a chunk of 65,537.
 pub fn refused_calls(reader: Reader) {
     let run = new_run(reader);
     let long = [0u8; 65537];
@@ -80,6 +85,8 @@ fn finish(run: Run) -> Reader {
     io::print_decimal(STDOUT_FILENO, last.frames);
     io::write_all(STDOUT_FILENO, b" ");
     io::print_decimal(STDOUT_FILENO, last.noise);
+    io::write_all(STDOUT_FILENO, b" ");
+    io::print_decimal(STDOUT_FILENO, last.judged);
     print_line(b"");
     last.reader
 }
@@ -161,28 +168,32 @@ fn feed_call(run: Run, chunk: &[u8], buf: &mut [u8]) -> Step
     let answer = fed.answer;
     io::write_all(STDOUT_FILENO, b"feed");
     match answer {
-        FeedAnswer::Frame { taken, noise, len } => {
-            print_field(taken);
-            print_field(noise);
+        FeedAnswer::Frame {
+            taken,
+            noise,
+            judged,
+            len,
+        } => {
+            print_fed(taken, noise, judged);
             show_frame(buf, len);
-            let run = with_answer(run, reader, 1, noise);
+            let run = with_answer(run, reader, 1, noise, judged);
             let again = true;
             Step { run, taken, again }
         }
-        FeedAnswer::NeedsMore { taken, noise } => {
-            print_field(taken);
-            print_field(noise);
+        FeedAnswer::NeedsMore {
+            taken,
+            noise,
+            judged,
+        } => {
+            print_fed(taken, noise, judged);
             show_end(b" more", true, is_untouched(front(buf, 16)));
-            let run = with_answer(run, reader, 0, noise);
+            let run = with_answer(run, reader, 0, noise, judged);
             let again = false;
             Step { run, taken, again }
         }
         FeedAnswer::Refused(refusal) => {
             show_refusal(refusal, same_state(before, reader), is_untouched(buf));
-            let run = with_answer(run, reader, 0, 0);
-            let taken: usize = 0;
-            let again = false;
-            Step { run, taken, again }
+            refused_step(run, reader)
         }
     }
 }
@@ -196,34 +207,43 @@ fn quiet_call(run: Run, buf: &mut [u8]) -> Step {
     let taken: usize = 0;
     io::write_all(STDOUT_FILENO, b"quiet");
     match answer {
-        QuietAnswer::Frame { noise, len } => {
-            print_field(noise);
+        QuietAnswer::Frame { noise, judged, len } => {
+            print_counts(noise, judged);
             show_frame(buf, len);
-            let run = with_answer(run, reader, 1, noise);
+            let run = with_answer(run, reader, 1, noise, judged);
             let again = true;
             Step { run, taken, again }
         }
-        QuietAnswer::Empty { noise } => {
-            print_field(noise);
+        QuietAnswer::Empty { noise, judged } => {
+            print_counts(noise, judged);
             show_end(b" empty", is_new(reader, before), is_untouched(buf));
-            let run = with_answer(run, reader, 0, noise);
+            let run = with_answer(run, reader, 0, noise, judged);
             let again = false;
             Step { run, taken, again }
         }
         QuietAnswer::Refused(refusal) => {
             show_refusal(refusal, same_state(before, reader), is_untouched(buf));
-            let run = with_answer(run, reader, 0, 0);
-            let again = false;
-            Step { run, taken, again }
+            refused_step(run, reader)
         }
     }
 }
 
-// The run after a call that gave this state, `frames` frames and `noise` bytes of noise. No row comes near to sums that wrap.
-fn with_answer(run: Run, reader: Reader, frames: u64, noise: usize) -> Run {
+// What follows a call that was refused and gave this state: no byte was taken.
+fn refused_step(run: Run, reader: Reader) -> Step
+    ensures { λ r. ⌜ r .taken ≡ 0 ⌝ }
+{
+    let run = with_answer(run, reader, 0, 0, 0);
+    let taken: usize = 0;
+    let again = false;
+    Step { run, taken, again }
+}
+
+// The run after a call that gave this state, `frames` frames and `noise` bytes of noise, and judged `judged` bytes. No row comes near to sums that wrap.
+fn with_answer(run: Run, reader: Reader, frames: u64, noise: usize, judged: usize) -> Run {
     Run {
         reader: reader,
         frames: std::num::wrapping_add_u64(run.frames, frames),
         noise: std::num::wrapping_add_u64(run.noise, noise as u64),
+        judged: std::num::wrapping_add_u64(run.judged, judged as u64),
     }
 }

@@ -6,19 +6,22 @@
 //   ending is CR LF, `any`, ASCII with any ending, `binary`, in which the footer is optional, or `required`, binary with the footer required. BYTES are up to
 //   1,024 hex pairs with a space between.
 // - `then SIZE BYTES`: a further segment for the reader as the row before left it.
-// - `held FORMAT COUNT MARK SIZE BYTES`: a state made by hand. The first 517 bytes are its array and COUNT is its count; MARK is 1 where an optional byte may
-//   follow the last frame, else 0. The bytes behind the first COUNT are offered. Before that come calls that are refused for their buffer or chunk.
-// - `quiet FORMAT COUNT MARK BYTES`: such a state, and the quiet at once; where bytes stand behind the first COUNT, behind one line call with all of them.
+// - `held FORMAT COUNT MARK JUDGED SIZE BYTES`: a state made by hand. The first 517 bytes are its array, in which bytes that the row lacks are 0, and COUNT is
+//   its count; MARK is 1 where an optional byte may follow the last frame, else 0; JUDGED is how many of the held bytes it says were judged at the first. The
+//   bytes behind the first COUNT are offered. Before that come calls that are refused for their buffer or chunk, or for the state.
+// - `quiet FORMAT COUNT MARK JUDGED BYTES`: such a state, and the quiet at once; where bytes stand behind the first COUNT, behind one line call with all of
+//   them.
 //
-// A row is printed with the count of its bytes in their place. Each call then prints a line:
-// - `feed TAKEN NOISE frame PAYLOAD`, `feed TAKEN NOISE more`;
-// - `quiet NOISE frame PAYLOAD`, `quiet NOISE empty`;
+// A row is printed with the count of its bytes in their place. Each call then prints a line, in which JUDGED is how many bytes it judged, each counted once at
+// every place where it was judged:
+// - `feed TAKEN NOISE JUDGED frame PAYLOAD`, `feed TAKEN NOISE JUDGED more`;
+// - `quiet NOISE JUDGED frame PAYLOAD`, `quiet NOISE JUDGED empty`;
 // - `feed refused NUMBER state kept buffer kept` and the same of `quiet`, behind `short` for a buffer of 255 bytes and `long` for a chunk of
 //   65,537;
-// - `state MARK HELD` behind the line call of a row `quiet`: the mark and the bytes held, or `-`.
+// - `state MARK JUDGED HELD` behind the line call of a row `quiet`: the mark, how many of the held bytes were judged at the first, and the bytes held, or `-`.
 //
 // `changed` stands for `kept` where that is not so. The other lines end in `buffer wrong` where more of the buffer was written than the
-// payload, and in `state wrong` where the state after `empty` is not a new reader's, in every byte. A row ends with `total FRAMES NOISE`.
+// payload, and in `state wrong` where the state after `empty` is not a new reader's, in every byte. A row ends with `total FRAMES NOISE JUDGED`.
 mod calls;
 mod show;
 mod state;
@@ -105,7 +108,7 @@ fn run_then(line: &[u8], reader: Reader) -> Reader {
 // Runs a row with a state made by hand.
 fn run_held(line: &[u8]) -> Reader {
     let words = next_word(line);
-    let size_text = next_word(next_word(next_word(words)));
+    let size_text = behind_state(words);
     let size = number(size_text);
     let mut bytes = [0u8; 1024];
     let n = hex_bytes(next_word(size_text), &mut bytes);
@@ -118,20 +121,26 @@ fn run_held(line: &[u8]) -> Reader {
 // Runs a row with a state made by hand and the quiet at once.
 fn run_once(line: &[u8]) -> Reader {
     let words = next_word(line);
-    let bytes_text = next_word(next_word(next_word(words)));
     let mut bytes = [0u8; 1024];
-    let n = hex_bytes(bytes_text, &mut bytes);
+    let n = hex_bytes(behind_state(words), &mut bytes);
     let reader = state_of(words, &bytes);
     show_once(reader, n);
     once_calls(reader, rest(front(&bytes, n), reader.count))
 }
 
-// The state whose format, count and mark stand at the front of these words, and whose array is the first of these bytes.
+// What stands behind the four words of a state: its format, count, mark and number of judged bytes.
+fn behind_state(words: &[u8]) -> &[u8] {
+    next_word(next_word(next_word(next_word(words))))
+}
+
+// The state whose four words stand at the front of these, and whose array is the first of these bytes.
 fn state_of(words: &[u8], bytes: &[u8]) -> Reader {
     let count_text = next_word(words);
+    let mark_text = next_word(count_text);
     let format = format_named(words);
     let count = number(count_text);
-    let follows = number(next_word(count_text)) == 1;
+    let follows = number(mark_text) == 1;
+    let judged = number(next_word(mark_text));
     let mut held = [0u8; 517];
     append(&mut held, 0, bytes);
     Reader {
@@ -139,6 +148,7 @@ fn state_of(words: &[u8], bytes: &[u8]) -> Reader {
         held,
         count,
         follows,
+        judged,
     }
 }
 

@@ -23,6 +23,18 @@ pub fn print_field(n: usize) {
     io::print_decimal(STDOUT_FILENO, n as u64);
 }
 
+// Prints an answer's bytes of noise and bytes judged.
+pub fn print_counts(noise: usize, judged: usize) {
+    print_field(noise);
+    print_field(judged);
+}
+
+// The same behind its bytes taken.
+pub fn print_fed(taken: usize, noise: usize, judged: usize) {
+    print_field(taken);
+    print_counts(noise, judged);
+}
+
 // Prints a row with a new reader, which has n bytes.
 pub fn show_segment(format: Format, size: usize, n: usize) {
     show_format(format);
@@ -56,12 +68,13 @@ pub fn show_once(reader: Reader, n: usize) {
     print_line(b"");
 }
 
-// Prints the format, the count and the mark of a state.
+// Prints the format, the count, the mark and the number of judged bytes of a state.
 fn show_made(reader: Reader) {
     let format = reader.format;
     show_format(format);
     print_field(reader.count);
     print_field(mark_number(reader.follows));
+    print_field(reader.judged);
 }
 
 // Prints the word of a format.
@@ -86,10 +99,11 @@ fn show_format(format: Format) {
     }
 }
 
-// Prints the mark and the held bytes of a state.
+// Prints the mark, the number of judged bytes and the held bytes of a state.
 pub fn show_state(reader: Reader) {
     io::write_all(STDOUT_FILENO, b"state");
     print_field(mark_number(reader.follows));
+    print_field(reader.judged);
     io::write_all(STDOUT_FILENO, b" ");
     if reader.count == 0 {
         print_line(b"-");

@@ -26,6 +26,9 @@ pub fn same_state(a: Reader, b: Reader) -> bool {
     if mark_number(a.follows) != mark_number(b.follows) {
         return false;
     }
+    if a.judged != b.judged {
+        return false;
+    }
     let held = a.held;
     let other = b.held;
     check::same(&held, &other)

@@ -58,8 +58,14 @@ may-follow-requires c κs =
 enum-told : tie.Need-enum-told
 enum-told c = search needs
 
+more-needed-requires : tie.Need-more-needed-requires
+more-needed-requires c κs = search needs
+
 enum-told-2 : tie.Need-enum-told-2
 enum-told-2 c = search needs
+
+more-needed-requires-2 : tie.Need-more-needed-requires-2
+more-needed-requires-2 c κs = search needs
 
 returns : tie.Need-returns
 returns c =
@@ -70,26 +76,28 @@ returns c =
     let used = end .given .0 .0 in
     let len = end .given .0 .1 .0 in
     let f = at-frame (c .before .before) in
-    kept-frame (a .format) (a .w .now) (a .before) (r .place) (r .reach) (r .end) used len (c .may-follow .result)
+    kept-frame (a .format) (a .w .now) (a .before) (r .place) (r .reach) (r .end) (a .judged) used len (c .may-follow .result)
     (c .may-follow .ensures ∙ open-at (a .format) used (some (c .before)) (r .place) (a .w .now)) (end .given .1)
     (payload-there (a .format) (drop (r .place) (a .w .now)) used len (f .0) .1) (f .1) (d .pre .there) (f .2)
 
 returns-2 : tie.Need-returns-2
 returns-2 c =
-    let d = c .before .before .before .before in
+    let d = c .before .before .before .before .before in
     let a = d .args in
     let r = a .found in
     let at = drop (r .place) (a .w .now) in
+    let is = c .before .enum-told .given .1 in
     let e : judge (a .format) at ≡ cut =
-    subst (λ (e : ScanEnd). Usable (stopOf (a .format) at e) (a .format) (a .w .now) (r .place) (r .reach)) (c .enum-told .given .1) (d .pre .usable)
+    subst (λ (e : ScanEnd). Usable (stopOf (a .format) at e) (a .format) (a .w .now) (r .place) (r .reach)) is (d .pre .usable)
     in
-    kept-undecided (a .format) (a .w .now) (a .before) (r .place) (r .reach) (r .end) (c .enum-told .given .1) (d .pre .inside)
-    (omega (arith, undecided-short (a .format) at e, limit-most (a .format), length-drop (r .place) (a .w .now)))
+    kept-undecided (a .format) (a .w .now) (a .before) (r .place) (r .reach) (r .end) (a .judged) (c .more-needed .result) is (c .more-needed .ensures)
+    (d .pre .inside) (omega (arith, undecided-short (a .format) at e, limit-most (a .format), length-drop (r .place) (a .w .now)))
 
 returns-3 : tie.Need-returns-3
 returns-3 c =
-    let a = c .before .before .before .before .args in
-    kept-passed (a .format) (a .w .now) (a .before) (a .found .place) (a .found .reach) (a .found .end) (c .enum-told2 .given .1)
+    let a = c .before .before .before .before .before .args in
+    kept-passed (a .format) (a .w .now) (a .before) (a .found .place) (a .found .reach) (a .found .end) (a .judged) (c .more-needed2 .result)
+    (c .before .enum-told2 .given .1) (c .more-needed2 .ensures)
 
 pub answer-spec : {M : Type 1} → statement M
 answer-spec =
@@ -101,7 +109,9 @@ answer-spec =
     add-next
     may-follow-requires
     enum-told
+    more-needed-requires
     enum-told-2
+    more-needed-requires-2
     returns
     returns-2
     returns-3)

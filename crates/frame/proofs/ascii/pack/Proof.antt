@@ -33,7 +33,8 @@ front p d end e h =
 
 -- All stores in a row.
 stores : (p d : List ℕ) (end : ℕ) → 1 + 2 * length p ≡ end → end + 3 < length d
-    → set (set (set (set (paste (set d 0 colon) 1 (hex p) (2 * length p)) end (digitOf (checksumOf p / 16))) (end + 1) (digitOf (checksumOf p % 16))) (end + 2) carriageReturn) (end + 3) lineFeed
+    → set (set (set (set (paste (set d 0 colon) 1 (hex p) (2 * length p)) end (digitOf (checksumOf p / 16)))
+    (end + 1) (digitOf (checksumOf p % 16))) (end + 2) carriageReturn) (end + 3) lineFeed
     ≡ inFront (layout Ascii p) d
 stores p d end e h =
     let w : List ℕ = colon ∷ hex p in

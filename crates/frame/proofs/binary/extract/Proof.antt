@@ -51,7 +51,8 @@ returns-2 : tie.Need-returns-2
 returns-2 c =
     let a = c .before .before .before .before .args in (
       c .before .judge .ensures,
-      sym (ap (λ (v : Verdict). handedOut v (a .buf .now)) (c .before .judge .ensures) ∙ stays (Binary (a .footer)) (a .s .now) (a .buf .now) (c .before .judge .result)
+      sym (ap (λ (v : Verdict). handedOut v (a .buf .now)) (c .before .judge .ensures)
+          ∙ stays (Binary (a .footer)) (a .s .now) (a .buf .now) (c .before .judge .result)
           (λ used len e. ⊎-elim (λ (q : _). let z : _≡_ {A = ℕ} 2 0 = cc in omega arith) (λ q. let z : _≡_ {A = ℕ} 2 1 = cc in omega arith) (c .match .keys2))),
     )
 

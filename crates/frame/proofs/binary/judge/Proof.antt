@@ -38,7 +38,8 @@ shared-slice-read-if2 c = search needs
 
 returns-2 : tie.Need-returns-2
 returns-2 c =
-    judge-first (behindChecksum (c .before .before .before .before .args .footer)) (c .before .before .before .before .args .s .now) (omega arith) (c .if2 .taken)
+    judge-first (behindChecksum (c .before .before .before .before .args .footer)) (c .before .before .before .before .args .s .now)
+    (omega arith) (c .if2 .taken)
 
 returns-3 : tie.Need-returns-3
 returns-3 c =
@@ -49,7 +50,8 @@ shared-slice-read-if4 c = search needs
 
 returns-4 : tie.Need-returns-4
 returns-4 c =
-    judge-second (behindChecksum (start (c .before .before .before) .args .footer)) (start (c .before .before .before) .args .s .now) (c .before .before .before .if2 .left) (omega arith) (c .if4 .taken)
+    judge-second (behindChecksum (start (c .before .before .before) .args .footer)) (start (c .before .before .before) .args .s .now)
+    (c .before .before .before .if2 .left) (omega arith) (c .if4 .taken)
 
 returns-5 : tie.Need-returns-5
 returns-5 c =
@@ -104,7 +106,8 @@ returns-8 c =
     let b = both-right w in
     let d = first-right b in
     judge-rest (behindChecksum (start d .args .footer)) (start d .args .s .now) (d .if2 .left) (b .if4 .left)
-    (w .before .before .wide .result * 256 + w .wide2 .result) (word-is w) (w .before .before .before .before .if5 .left) (c .before .before .if6 .left) (c .before .if7 .left)
+    (w .before .before .wide .result * 256 + w .wide2 .result) (word-is w) (w .before .before .before .before .if5 .left)
+    (c .before .before .if6 .left) (c .before .if7 .left)
     ∙ c .judge-body .ensures
 
 pub judge-spec : {M : Type 1} → statement M

@@ -1,12 +1,14 @@
 -- `frame::reader::feed_next` meets its contract: the optional byte is taken first, and the chunk's rest is fed.
 -- Assumes nothing.
-use Prim.Native.Nat.{_-_, _≤_}
+use Prim.Native.Nat.{_-_, _≤_, zero-le}
 use native.Mathlib.Omega.{arith}
 use mathlib.Core.List.{[]}
 use mathlib.Core.Path.{ap}
 use lib.ListN.{length, take, drop, length-drop}
 use Rattle.frame.proofs.Lists.{take-rest}
 use Rattle.frame.proofs.Optional.{absorbed-one, absorbed-there}
+use Rattle.frame.proofs.JudgedCalls.{next-behind}
+use Rattle.frame.proofs.Readers.{leaves-total}
 use Rattle.frame.proofs.Following.{few-taken, next-empty, next-values, next-leaves}
 use borrow.Author.Needs.{needs}
 use Rattle.frame.proofs.reader.feed_next.Statement.{statement}
@@ -44,7 +46,20 @@ part-feed-chunk-end : tie.Need-part-feed-chunk-end
 part-feed-chunk-end c = search needs
 
 feed-chunk-requires : tie.Need-feed-chunk-requires
-feed-chunk-requires c κs = search needs
+feed-chunk-requires c κs =
+    let x = c .before .before .before in
+    let s = start x in
+    let n = x .absorbed .result in
+    let chunk = s .args .chunk .now in
+    record {
+      long = s .pre .long;
+      short = omega (arith, ap length (take-rest chunk n), length-drop n chunk, s .pre .short);
+      reached = zero-le;
+      near = zero-le;
+      small = zero-le;
+      few = omega (arith, x .absorbed .ensures, absorbed-one (s .args .format) (s .args .follows) chunk);
+      room = s .pre .room;
+    }
 
 took-first-requires : tie.Need-took-first-requires
 took-first-requires c κs =
@@ -53,8 +68,9 @@ took-first-requires c κs =
     let fed = c .before .before .before .before .feed-chunk in
     let s = a .chunk .now in
     let n = x .absorbed .result in
-    let h = next-values (a .format) _ (a .buf .now) (fed .result) _ _ (fed .ensures) in (
-      few-taken (a .format) [] (take (length s - n) (drop n s)) (fed .result .answer) (h .values) (omega (arith, ap length (take-rest s n), length-drop n s, start x .pre .1)),
+    let h = next-values (a .format) _ _ (a .buf .now) (fed .result) _ _ (fed .ensures) in (
+      few-taken (a .format) [] (take (length s - n) (drop n s)) _ (fed .result .answer) (h .values)
+          (omega (arith, ap length (take-rest s n), length-drop n s, start x .pre .short)),
       omega (arith, x .absorbed .ensures, absorbed-one (a .format) (a .follows) s),
     )
 
@@ -69,8 +85,11 @@ returns-2 c =
     let x = counted (c .before) in
     let a = start x .args in
     let fed = c .before .before .before .before .before .feed-chunk in
-    next-leaves (a .format) (a .follows) (a .chunk .now) _ (a .buf .now) (x .absorbed .result) (fed .result) (c .took-first .result) _ _ (omega (arith, x .before .if1 .left))
-    (x .absorbed .ensures) (take-rest (a .chunk .now) (x .absorbed .result)) (fed .ensures) (c .took-first .ensures)
+    let n = x .absorbed .result in
+    let rest = take-rest (a .chunk .now) n in
+    leaves-total _ _ _ (a .buf .now) _ _ _ (next-behind (a .format) (a .follows) (a .chunk .now) _ n (x .absorbed .ensures) rest)
+    (next-leaves (a .format) (a .follows) (a .chunk .now) _ (a .buf .now) n _ (fed .result) (c .took-first .result) _ _
+    (omega (arith, x .before .if1 .left)) (x .absorbed .ensures) rest (fed .ensures) (c .took-first .ensures))
 
 pub feed-next-spec : {M : Type 1} → statement M
 feed-next-spec =

@@ -1,17 +1,21 @@
 -- `frame::reader::feed_short` meets its contract: the chunk was put behind the held bytes, all of which are scanned, and the kept part was moved to the front.
 -- Assumes nothing.
 use Prim.Native.Nat.{ℕ, _+_, _-_, _≤_, zero-le}
-use native.Mathlib.Nat.{le-refl}
+use native.Mathlib.Nat.{le-refl, sub-zero}
 use native.Mathlib.Omega.{arith}
 use mathlib.Core.Bool.{false}
 use mathlib.Core.List.{List, _++_}
-use mathlib.Core.Path.{_≡_, refl, sym, ap, _∙_}
+use mathlib.Core.Path.{_≡_, refl, sym, ap, ap₂, _∙_}
 use lib.ListN.{length, take, length-append}
 use lib.Seq.{length-take-le}
-use Rattle.frame.specs.Scan.{judging, scanFrom, scanned}
+use Rattle.frame.specs.Framing.{judge}
+use Rattle.frame.specs.Reader.{holding, lineJudged}
+use Rattle.frame.specs.Scan.{judging, scanFrom, scanJudged, scanned}
 use Rattle.frame.proofs.Copying.{copied-at}
 use Rattle.frame.proofs.Framings.{limit-most}
-use Rattle.frame.proofs.Readers.{answerable, from-first, appended, short-leaves}
+use Rattle.frame.proofs.Counting.{count-whole}
+use Rattle.frame.proofs.JudgedCalls.{first-counted, short-judged}
+use Rattle.frame.proofs.Readers.{answerable, appended, from-first, short-leaves, leaves-total}
 use borrow.Author.Needs.{needs}
 use borrow.Rule.Slice.PartMut.{putMid, same-len-mid}
 use Rattle.frame.proofs.reader.feed_short.Statement.{statement}
@@ -25,9 +29,13 @@ start c = c .before .before .before .before .before
 abbrev copy-at : tie.After-find → tie.After-copy
 copy-at c = c .before .before .before .before .before
 
--- Where they were scanned, from where the rest was moved.
-abbrev scan-at : tie.After-slice-known5 → tie.After-find
-scan-at c = c .before .before .before .before .before .before .before
+-- Where they were scanned, from where the bytes that are left out were counted.
+abbrev scan-at : tie.After-left-out → tie.After-find
+scan-at c = c .before .before .before .before
+
+-- Where those were, from where the answer is made.
+abbrev out-at : tie.After-struct-known → tie.After-left-out
+out-at c = c .before .before .before
 
 -- The held bytes are there.
 count-there : (c : tie.Start) → c .args .count ≤ length (c .args .held .now)
@@ -54,7 +62,8 @@ array-room : (p : tie.After-copy) → let a = start p .args in a .count + length
 array-room p =
     let s = start p in
     let a = s .args in
-    omega (arith, same-len-mid (a .count) (length (a .held .now) - a .count) (a .held .now) (p .copy .last .1 .0) (p .copy .kept .1 .0), s .pre .0 .long, s .pre .1, limit-most (a .format))
+    let same = same-len-mid (a .count) (length (a .held .now) - a .count) (a .held .now) (p .copy .last .1 .0) (p .copy .kept .1 .0) in
+    omega (arith, same, s .pre .0 .long, s .pre .1, limit-most (a .format))
 
 -- All of its places were scanned.
 is : (x : tie.After-find) →
@@ -63,6 +72,30 @@ is : (x : tie.After-find) →
     let w = take size (array (copy-at x)) in
     scanned (a .format) w (x .find .result) ≡ scanFrom (judging false (a .format)) size 0 (a .count) w
 is x = let a = start (copy-at x) .args in from-first false (a .format) (a .count + length (a .chunk .now)) (a .count) _ _ (x .find .ensures .0)
+
+-- So many bytes were judged at them.
+counted : (x : tie.After-find) →
+    let a = start (copy-at x) .args in
+    let size = a .count + length (a .chunk .now) in
+    x .find .result .judged ≡ scanJudged (a .format) (judge (a .format)) size (take size (array (copy-at x)))
+counted x =
+    let a = start (copy-at x) .args in
+    let size = a .count + length (a .chunk .now) in
+    x .find .ensures .1 .0 ∙ ap (λ (n : ℕ). scanJudged (a .format) (judge (a .format)) n (take size (array (copy-at x)))) (sub-zero size)
+
+-- The call judged the others.
+total-is : (y : tie.After-left-out) →
+    let x = scan-at y in
+    let a = start (copy-at x) .args in
+    x .find .result .judged - y .left-out .result ≡ lineJudged (holding (a .format) (take (a .count) (a .held .now)) false (a .judged)) (a .chunk .now)
+total-is y =
+    let x = scan-at y in
+    let p = copy-at x in
+    let a = start p .args in
+    let w = take (a .count + length (a .chunk .now)) (array p) in
+    let whole = ap (λ (n : ℕ). scanJudged (a .format) (judge (a .format)) n w) (sym (whole-size p)) ∙ sym (count-whole (a .format) (judge (a .format)) w) in
+    ap₂ _-_ (counted x ∙ whole) (y .left-out .ensures .0)
+    ∙ short-judged (a .format) (take (a .count) (a .held .now)) (a .chunk .now) w (a .judged) (whole-is p)
 
 add-size : tie.Need-add-size
 add-size c =
@@ -91,24 +124,57 @@ slice-aggregate-w c = sym (whole-size (c .before .before .before))
 find-requires : tie.Need-find-requires
 find-requires c κs =
     let p = c .before .before .before .before in
-    let long = whole-size p in
-    (zero-le, (omega (arith, long), (omega (arith, long), start p .pre .0 .room)))
+    let long = whole-size p in (
+      record {
+        onward = zero-le;
+        inside = omega (arith, long);
+        reached = omega (arith, long);
+        short = omega (arith, long, start p .pre .1, limit-most (start p .args .format));
+      },
+      start p .pre .0 .room,
+    )
+
+left-out-requires : tie.Need-left-out-requires
+left-out-requires c κs =
+    let x = c .before .before .before in
+    let s = start (copy-at x) in
+    let long = whole-size (copy-at x) in
+    record {
+      places = s .args .count + length (s .args .chunk .now);
+      reached = s .args .count;
+      few = omega (arith, s .pre .0 .known);
+      inside = omega (arith, long);
+      short = omega (arith, long, s .pre .1, limit-most (s .args .format));
+      room = omega (arith, s .pre .0 .room, x .find .kept .1 .1 .1 .1 .1 .1 .0);
+      scans = is x;
+      counts = counted x;
+    }
+
+sub-total : tie.Need-sub-total
+sub-total c =
+    let x = scan-at (out-at c) in
+    let s = start (copy-at x) in
+    let a = s .args in
+    let size = a .count + length (a .chunk .now) in
+    let w = take size (array (copy-at x)) in
+    let few : a .judged ≤ size = omega (arith, s .pre .0 .known) in
+    omega (arith, counted x, out-at c .left-out .ensures .0, first-counted (a .format) (judge (a .format)) size (a .judged) w few)
 
 answer-requires : tie.Need-answer-requires
 answer-requires c κs =
-    let x = c .before .before in
+    let x = scan-at (out-at c) in
     let p = copy-at x in
     let a = start p .args in
     let size = a .count + length (a .chunk .now) in
     let w = take size (array p) in
     let long = whole-size p in
-    answerable (a .format) w size (a .count) (scanned (a .format) w (x .find .result)) _ (omega (arith, long)) (omega (arith, long)) (start p .pre .0 .fits)
-    (is x) (le-refl (a .count)) zero-le
+    answerable (a .format) w size (a .count) (scanned (a .format) w (x .find .result)) _ (omega (arith, long)) (omega (arith, long))
+    (start p .pre .0 .fits) (is x) (le-refl (a .count)) zero-le
 
 shift-requires : tie.Need-shift-requires
 shift-requires c κs =
     let k = c .before .answer .ensures in
-    let p = copy-at (c .before .before .before .before) in
+    let p = copy-at (scan-at (out-at (c .before .before))) in
     (k .inside, omega (arith, k .there, whole-size p, array-room p))
 
 same-length : tie.Need-same-length
@@ -119,14 +185,17 @@ same-length-2 c = search needs
 
 returns : tie.Need-returns
 returns c =
-    let x = scan-at c in
+    let y = out-at (c .before .before .before .before .before) in
+    let x = scan-at y in
     let p = copy-at x in
     let a = start p .args in
     let h = take (a .count) (a .held .now) in
     let w = take (a .count + length (a .chunk .now)) (array p) in
     let answered = c .before .before .before .before .answer in
-    short-leaves (a .format) h (a .chunk .now) (array p) (a .count) (scanned (a .format) w (x .find .result)) (answered .result) (a .buf .now) _ _ _
-    (length-take-le (a .count) (a .held .now) (count-there (start p))) (whole-is p) (is x) (answered .ensures) (x .find .ensures .1) (c .before .before .shift .ensures)
+    leaves-total _ _ _ (a .buf .now) _ _ _ (total-is y)
+    (short-leaves (a .format) h (a .chunk .now) (array p) (a .count) (scanned (a .format) w (x .find .result)) _ (answered .result) (a .buf .now) _ _ _
+    (length-take-le (a .count) (a .held .now) (count-there (start p))) (whole-is p) (is x) (answered .ensures)
+    (y .left-out .ensures .1 ∙ x .find .ensures .1 .1) (c .before .before .shift .ensures))
 
 pub feed-short-spec : {M : Type 1} → statement M
 feed-short-spec =
@@ -140,6 +209,8 @@ feed-short-spec =
     slice-reshare-prefix-w
     slice-aggregate-w
     find-requires
+    left-out-requires
+    sub-total
     answer-requires
     shift-requires
     same-length

@@ -22,7 +22,8 @@ returns c =
     let a = c .before .before .before .before .args in
     let s = a .s .now in
     record {
-      state = ap (λ (h : List ℕ). holding (a .format) h (a .follows)) (ap (take (length s)) (copied (replicate 517 0) s _ (c .before .copy .ensures .1)) ∙ front-of-paste (replicate 517 0) s);
+      state = ap (λ (h : List ℕ). holding (a .format) h (a .follows) (a .judged))
+          (ap (take (length s)) (copied (replicate 517 0) s _ (c .before .copy .ensures .1)) ∙ front-of-paste (replicate 517 0) s);
       count = refl;
     }
 

@@ -58,7 +58,8 @@ copy-requires c κs =
     omega (arith, limit-most (start (c .before) .args .format), length-replicate {A = ℕ} 1034 0)
 
 slice-aggregate-copy-2 : tie.Need-slice-aggregate-copy-2
-slice-aggregate-copy-2 c = sym (length-take-le _ (start (sized (c .before .before)) .args .chunk .now) (omega (arith, sized (c .before .before) .smaller .ensures)))
+slice-aggregate-copy-2 c =
+    sym (length-take-le _ (start (sized (c .before .before)) .args .chunk .now) (omega (arith, sized (c .before .before) .smaller .ensures)))
 
 sub-copy : tie.Need-sub-copy
 sub-copy c = omega (arith, limit-most (start (sized (c .before .before)) .args .format))
@@ -95,7 +96,8 @@ returns c =
     in
     record {
       size = omega (arith, long, length-append h front, ap length same);
-      bytes = ap (take (length h + more)) (copied-at (p .copy .last .1 .0) front _ (length h) (1034 - length h) (omega (arith, zeros p)) (c .before .copy2 .ensures .1)
+      bytes = ap (take (length h + more)) (copied-at (p .copy .last .1 .0) front _ (length h) (1034 - length h) (omega (arith, zeros p))
+          (c .before .copy2 .ensures .1)
           ∙ ap (λ (d : List ℕ). paste d (length h) front (length front)) (copied _ h _ (p .copy .ensures .1)))
           ∙ copies (replicate 1034 0) h front (length h) more refl long (omega (arith, limit-most f, length-replicate {A = ℕ} 1034 0)) ∙ same;
     }

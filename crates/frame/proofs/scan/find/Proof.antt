@@ -36,9 +36,10 @@ at-frame : (k : tie.After-known-told) →
 at-frame k =
     let a = start k .args in
     let r = k .before .before .before .scan .result in
-    let pre = start k .pre in
-    scan-found-from (a .ended) (a .format) (a .s .now) (a .stop) (a .from) (a .reach) (pre .1 .0) (pre .1 .1 .0) (pre .0) (scanned (a .format) (a .s .now) r)
-    (k .before .before .before .scan .ensures) _ _ (ap (stopOf (a .format) (drop (r .place) (a .s .now))) (k .before .end .given .1))
+    let pre = start k .pre .0 in
+    scan-found-from (a .ended) (a .format) (a .s .now) (a .stop) (a .from) (a .reach) (pre .inside) (pre .reached) (pre .onward)
+    (scanned (a .format) (a .s .now) r)
+    (k .before .before .before .scan .ensures .0) _ _ (ap (stopOf (a .format) (drop (r .place) (a .s .now))) (k .before .end .given .1))
 
 -- Where it stopped at no frame, the buffer is as it came.
 no-frame : (f : Format) (s buf : List ℕ) (e : ScanEnd) → ((used len : ℕ) → e ≡ Frame used len → ⊥) → stopBuffer (stopOf f s e) buf ≡ buf
@@ -85,19 +86,26 @@ returns c =
     let r = found .result in
     let at = drop (r .place) (a .s .now) in
     let len = k .before .end .given .0 .1 .0 in (
-      found .ensures,
-      c .before .before .unpack .ensures
-          ∙ ap (λ (l : List ℕ). inFront (payloadAt (a .format) l len) (a .buf .now)) (take-rest (a .s .now) (r .place))
-          ∙ sym (ap (λ (e : ScanEnd). stopBuffer (stopOf (a .format) at e) (a .buf .now)) (k .before .end .given .1)),
+      found .ensures .0,
+      (
+        found .ensures .1,
+        c .before .before .unpack .ensures
+            ∙ ap (λ (l : List ℕ). inFront (payloadAt (a .format) l len) (a .buf .now)) (take-rest (a .s .now) (r .place))
+            ∙ sym (ap (λ (e : ScanEnd). stopBuffer (stopOf (a .format) at e) (a .buf .now)) (k .before .end .given .1)),
+      ),
     )
 
 returns-2 : tie.Need-returns-2
 returns-2 c =
     let a = c .before .before .before .before .args in
     let r = c .before .scan .result in (
-      c .before .scan .ensures,
-      sym (no-frame (a .format) (drop (r .place) (a .s .now)) (a .buf .now) (r .end)
-          (λ used len e. ⊎-elim (λ (q : _). let z : _≡_ {A = ℕ} 1 0 = cc in omega arith) (λ q. let z : _≡_ {A = ℕ} 2 0 = cc in omega arith) (c .match .keys2))),
+      c .before .scan .ensures .0,
+      (
+        c .before .scan .ensures .1,
+        sym (no-frame (a .format) (drop (r .place) (a .s .now)) (a .buf .now) (r .end)
+            (λ used len e.
+            ⊎-elim (λ (q : _). let z : _≡_ {A = ℕ} 1 0 = cc in omega arith) (λ q. let z : _≡_ {A = ℕ} 2 0 = cc in omega arith) (c .match .keys2))),
+      ),
     )
 
 pub find-spec : {M : Type 1} → statement M

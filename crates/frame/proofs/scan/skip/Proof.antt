@@ -3,13 +3,14 @@
 use Prim.Native.Nat.{_-_}
 use borrow.Author.Needs.{needs}
 use native.Mathlib.Omega.{arith}
-use Rattle.frame.specs.Scan.{Skips}
-use Rattle.frame.proofs.Skipping.{skips-one}
+use lib.ListN.{getD}
+use Rattle.frame.specs.Scan.{other, Skips}
+use Rattle.frame.proofs.Skipping.{other-byte, skips-one}
 use Rattle.frame.proofs.scan.skip.Statement.{statement}
 use Rattle.frame.proofs.scan.skip.Tie as tie
 
 abbrev Inv-loop : tie.InvT-loop
-Inv-loop s b from stop at₀ at = Skips b s from stop at
+Inv-loop s b from stop at₀ at = Skips (other b) s from stop at
 
 abbrev μ-loop : tie.MeasureT-loop
 μ-loop s b from stop at₀ at = stop - at
@@ -40,7 +41,8 @@ loop-again : tie.Need-loop-again Inv-loop μ-loop
 loop-again c =
     let a = start c .args in
     let l = c .before .before .before .loop in
-    skips-one (a .b) (a .s .now) (a .from) (a .stop) (l .at) (l .inv) (c .before .before .loop-test .taken) (omega arith) (c .if1 .left)
+    skips-one (other (a .b)) (a .s .now) (a .from) (a .stop) (l .at) (l .inv) (c .before .before .loop-test .taken) (omega arith)
+    (other-byte (a .b) (getD (a .s .now) (l .at) 0) (c .if1 .left))
 
 returns-2 : tie.Need-returns-2 Inv-loop μ-loop
 returns-2 c = c .before .loop .inv

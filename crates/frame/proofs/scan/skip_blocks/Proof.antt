@@ -5,13 +5,13 @@ use mathlib.Core.Path.{sym, _∙_}
 use borrow.Author.Tests.{not-false}
 use borrow.Author.Needs.{needs}
 use native.Mathlib.Omega.{arith}
-use Rattle.frame.specs.Scan.{Skips}
+use Rattle.frame.specs.Scan.{other, Skips}
 use Rattle.frame.proofs.Skipping.{skips-none, skips-more}
 use Rattle.frame.proofs.scan.skip_blocks.Statement.{statement}
 use Rattle.frame.proofs.scan.skip_blocks.Tie as tie
 
 abbrev Inv-loop : tie.InvT-loop
-Inv-loop s b from stop at₀ at = Skips b s from stop at
+Inv-loop s b from stop at₀ at = Skips (other b) s from stop at
 
 abbrev μ-loop : tie.MeasureT-loop
 μ-loop s b from stop at₀ at = stop - at
@@ -21,7 +21,7 @@ abbrev start : tie.After-block-lacks Inv-loop μ-loop → tie.Start Inv-loop μ-
 start c = c .before .before .before .before .before
 
 loop-holds : tie.Need-loop-holds Inv-loop μ-loop
-loop-holds c = let a = c .before .args in skips-none (a .b) (a .s .now) (a .from) (a .stop) (omega arith)
+loop-holds c = let a = c .before .args in skips-none (other (a .b)) (a .s .now) (a .from) (a .stop) (omega arith)
 
 sub-if1 : tie.Need-sub-if1 Inv-loop μ-loop
 sub-if1 c = search needs
@@ -45,7 +45,7 @@ loop-again : tie.Need-loop-again Inv-loop μ-loop
 loop-again c =
     let a = start (c .before) .args in
     let l = c .before .before .before .before .loop in
-    skips-more (a .b) (a .s .now) (a .from) (a .stop) (l .at) 16 (l .inv) (omega arith)
+    skips-more (other (a .b)) (a .s .now) (a .from) (a .stop) (l .at) 16 (l .inv) (omega arith)
     (sym (c .before .block-lacks .ensures) ∙ not-false _ (c .if2 .left))
 
 returns-3 : tie.Need-returns-3 Inv-loop μ-loop

@@ -106,8 +106,12 @@ add-used : tie.Need-add-used
 add-used c =
     let k = frame-at (c .before .before) in
     let a = start (k .before .before .before) .args in
-    omega
-    (arith, follows c, there (c .before .before), absorbed-one (a .format) (isOpen (a .format) (k .before .used .given .0 .0) (a .s .now)) (drop (k .before .used .given .0 .0) (a .s .now)))
+    omega (
+      arith,
+      follows c,
+      there (c .before .before),
+      absorbed-one (a .format) (isOpen (a .format) (k .before .used .given .0 .0) (a .s .now)) (drop (k .before .used .given .0 .0) (a .s .now)),
+    )
 
 returns-2 : tie.Need-returns-2
 returns-2 c =

@@ -1,11 +1,15 @@
 -- `frame::view::feed_view` meets its contract: an optional byte in front is passed over, and the rest is a call without one.
 -- Assumes nothing.
-use Prim.Native.Nat.{_-_, _≤_}
+use Prim.Native.Nat.{ℕ, _-_, _≤_}
 use native.Mathlib.Omega.{arith}
+use mathlib.Core.Bool.{false}
 use mathlib.Core.Path.{ap, _∙_}
 use lib.ListN.{length, take, drop, length-drop}
+use Rattle.frame.specs.Feeding.{judgedIn}
 use Rattle.frame.proofs.Lists.{take-rest}
 use Rattle.frame.proofs.Optional.{absorbed-one, absorbed-there}
+use Rattle.frame.proofs.JudgedCalls.{view-behind}
+use Rattle.frame.proofs.Readers.{keeps-total}
 use Rattle.frame.proofs.Following.{few-taken, view-empty, view-follows}
 use borrow.Author.Needs.{needs}
 use Rattle.frame.proofs.view.feed_view.Statement.{statement}
@@ -17,7 +21,7 @@ start c = c .before .before .before .before
 
 -- Where it was counted, from where the rest was fed.
 abbrev counted : tie.After-slice-known2 → tie.After-absorbed
-counted c = c .before .before .before .before .before .before
+counted c = c .before .before .before .before .before .before .before
 
 -- That byte is there.
 inside : (c : tie.After-absorbed) → c .absorbed .result ≤ length (start c .args .w .now)
@@ -29,7 +33,7 @@ returns : tie.Need-returns
 returns c =
     let s = c .before .before .before in
     let a = s .args in
-    view-empty (a .format) (a .follows) (a .w .now) (a .buf .now) (a .count) (c .if1 .taken) (s .pre .0)
+    view-empty (a .format) (a .follows) (a .w .now) (a .buf .now) (a .count) (a .judged) (c .if1 .taken) (s .pre .inside)
 
 absorbed-requires : tie.Need-absorbed-requires
 absorbed-requires c κs = search needs
@@ -37,11 +41,14 @@ absorbed-requires c κs = search needs
 smaller-requires : tie.Need-smaller-requires
 smaller-requires c κs = search needs
 
+judged-behind-requires : tie.Need-judged-behind-requires
+judged-behind-requires c κs = search needs
+
 sub-feed-part : tie.Need-sub-feed-part
-sub-feed-part c = inside (c .before)
+sub-feed-part c = inside (c .before .before)
 
 part-feed-part-start : tie.Need-part-feed-part-start
-part-feed-part-start c = inside (c .before)
+part-feed-part-start c = inside (c .before .before)
 
 part-feed-part-end : tie.Need-part-feed-part-end
 part-feed-part-end c = search needs
@@ -51,12 +58,17 @@ sub-feed-part-2 c = search needs
 
 feed-part-requires : tie.Need-feed-part-requires
 feed-part-requires c κs =
-    let x = c .before .before .before in
+    let x = c .before .before .before .before in
     let s = start x in
     let w = s .args .w .now in
     let size = ap length (take-rest w (x .absorbed .result)) ∙ length-drop (x .absorbed .result) w in
-    let h = c .before .before .smaller .ensures in
-    (omega (arith, size, h, s .pre .0), (omega (arith, s .pre .1 .0), s .pre .1 .1 .1))
+    let h = c .before .before .before .smaller .ensures in
+    record {
+      inside = omega (arith, size, h, s .pre .inside);
+      fits = omega (arith, s .pre .fits);
+      short = omega (arith, size, s .pre .short);
+      room = s .pre .room;
+    }
 
 sub-took-first : tie.Need-sub-took-first
 sub-took-first c = search needs
@@ -67,10 +79,10 @@ took-first-requires c κs =
     let a = start x .args in
     let n = x .absorbed .result in
     let s = take (length (a .w .now) - n) (drop n (a .w .now)) in
-    let k = a .count - c .before .before .before .before .before .smaller .result in
+    let k = a .count - c .before .before .before .before .before .before .smaller .result in
     let part = c .before .before .feed-part in (
-      few-taken (a .format) (take k s) (drop k s) (part .result .answer) (part .ensures .values)
-          (omega (arith, length-drop k s, ap length (take-rest (a .w .now) n), length-drop n (a .w .now), start x .pre .1 .1 .0)),
+      few-taken (a .format) (take k s) (drop k s) _ (part .result .answer) (part .ensures .values)
+          (omega (arith, length-drop k s, ap length (take-rest (a .w .now) n), length-drop n (a .w .now), start x .pre .short)),
       omega (arith, x .absorbed .ensures, absorbed-one (a .format) (a .follows) (a .w .now)),
     )
 
@@ -83,19 +95,19 @@ rest-size c =
     let x = counted c in
     let w = start x .args .w .now in
     let n = x .absorbed .result in
-    omega (arith, ap length (take-rest w n) ∙ length-drop n w, start x .pre .1 .1 .0)
+    omega (arith, ap length (take-rest w n) ∙ length-drop n w, start x .pre .short)
 
-add-t16 : tie.Need-add-t16
-add-t16 c =
+add-t18 : tie.Need-add-t18
+add-t18 c =
     let y = c .before .before in
     let h = y .before .before .feed-part .ensures in
-    omega (arith, h .inside, h .there, rest-size y, inside (counted y), start (counted y) .pre .1 .1 .0)
+    omega (arith, h .inside, h .there, rest-size y, inside (counted y), start (counted y) .pre .short)
 
-add-t20 : tie.Need-add-t20
-add-t20 c =
+add-t22 : tie.Need-add-t22
+add-t22 c =
     let y = c .before .before .before in
     let h = y .before .before .feed-part .ensures in
-    omega (arith, h .there, rest-size y, inside (counted y), start (counted y) .pre .1 .1 .0)
+    omega (arith, h .there, rest-size y, inside (counted y), start (counted y) .pre .short)
 
 same-length : tie.Need-same-length
 same-length c = search needs
@@ -106,9 +118,16 @@ returns-2 c =
     let x = counted y in
     let a = start x .args in
     let part = y .before .before .feed-part in
-    view-follows (a .format) (a .follows) (a .w .now) _ (a .buf .now) (a .count) (x .absorbed .result) (y .before .before .before .before .before .smaller .result) (part .result)
-    (c .before .before .took-first .result) _ (omega (arith, x .before .if1 .left)) (x .absorbed .ensures) (inside x)
-    (y .before .before .before .before .before .smaller .ensures) (take-rest (a .w .now) (x .absorbed .result)) (part .ensures) (c .before .before .took-first .ensures)
+    let known = y .before .before .before .before .before .judged-behind in
+    let less = y .before .before .before .before .before .before .smaller in
+    let n = x .absorbed .result in
+    let s = take (length (a .w .now) - n) (drop n (a .w .now)) in
+    let rest = take-rest (a .w .now) n in
+    keeps-total _ _ _ (a .count) (a .w .now) _ (a .buf .now) _
+    (ap (λ (j : ℕ). judgedIn (a .format) false (a .count - less .result) j s) (known .ensures)
+    ∙ view-behind (a .format) (a .follows) (a .w .now) s (a .count) (less .result) (a .judged) n (x .absorbed .ensures) rest)
+    (view-follows (a .format) (a .follows) (a .w .now) s (a .buf .now) _ (a .count) n (less .result) (part .result) (c .before .before .took-first .result) _
+    (omega (arith, x .before .if1 .left)) (x .absorbed .ensures) (inside x) (less .ensures) rest (part .ensures) (c .before .before .took-first .ensures))
 
 pub feed-view-spec : {M : Type 1} → statement M
 feed-view-spec =
@@ -117,6 +136,7 @@ feed-view-spec =
     returns
     absorbed-requires
     smaller-requires
+    judged-behind-requires
     sub-feed-part
     part-feed-part-start
     part-feed-part-end
@@ -124,7 +144,7 @@ feed-view-spec =
     feed-part-requires
     sub-took-first
     took-first-requires
-    add-t16
-    add-t20
+    add-t18
+    add-t22
     same-length
     returns-2)

@@ -1,33 +1,35 @@
 -- `listing::list::list_held` meets its contract: what is put so far, and what the calls from the present state on give, is all.
 -- Assumes nothing.
 use Prim.Native.Nat.{ℕ, _+_, _≤_, zero-le}
+use native.Mathlib.Nat.{zero-add}
 use native.Mathlib.Omega.{arith}
-use mathlib.Core.Bool.{true≢false}
+use mathlib.Core.Bool.{true, true≢false}
 use mathlib.Core.List.{List}
 use mathlib.Core.Path.{_≡_, refl, sym, ap, _∙_, subst}
 use borrow.Author.Needs.{needs}
 use lib.ListN.{length, drop, length-drop}
 use Rattle.io.proofs.Counting.{front}
 use Rattle.frame.specs.Draining.{Reports}
-use Rattle.frame.specs.Framing.{limit}
-use Rattle.frame.specs.Reader.{Settled, stateOf, line, after, Holds, frameValues, feedValuesOf, feedRefusal, Feeds}
-use Rattle.frame.specs.Drain.{drain}
-use Rattle.frame.proofs.Theorems.{feed-reports, feed-stays-in-limit, taken-is-inside}
-use Rattle.listing.specs.Parts.{PartlyDrained, Room, HeldListed}
+use Rattle.frame.specs.Reader.{Settled, stateOf, line, lineJudged, after, Holds, Values, frameValues, feedValuesOf, feedRefusal, sound, Feeds}
+use Rattle.frame.specs.Drain.{drain, judgedAfter}
+use Rattle.frame.proofs.Theorems.{feed-reports, feed-stays-sound, taken-is-inside}
+use Rattle.listing.specs.Parts.{PartlyDrained, Room, HeldListed, judgedMost}
 use Rattle.listing.specs.declared.list.Part.{Part}
 use Rattle.listing.proofs.Fits.{rest-is}
-use Rattle.listing.proofs.Chunks.{partly-drained, frame-room, frame-noise, frame-step, frame-less, none-noise, none-lists}
-use Rattle.listing.proofs.Chunks.{reports-frame, reports-none, reports-inside, reports-taken, reports-next, reports-refused, feed-free, feed-next, feed-left}
+use Rattle.listing.proofs.Chunks.{sound-count, chunk-judged, partly-drained, all-judged, call-judged, frame-room, frame-noise, frame-step}
+use Rattle.listing.proofs.Chunks.{frame-less, none-noise, none-lists, reports-frame, reports-none, reports-inside, reports-taken, reports-judged}
+use Rattle.listing.proofs.Chunks.{reports-next, reports-refused, feed-free, feed-next, feed-left}
 use Rattle.listing.proofs.list.list_held.Statement.{statement}
 use Rattle.listing.proofs.list.list_held.Tie as tie
 
 abbrev Inv-loop : tie.InvT-loop
-Inv-loop chunk out₀ buf₀ state₀ done₀ end₀ total₀ out buf state done end total =
-    (length buf ≡ 256) × (done ≤ length chunk) × (state .count ≤ limit (state .format)) × (state .format ≡ state₀ .format)
-    × PartlyDrained (drain (stateOf state₀) chunk) (stateOf state) (drop done chunk) out₀ 0 0 end total out
+Inv-loop chunk out₀ buf₀ state₀ done₀ end₀ noise₀ judged₀ out buf state done end noise judged =
+    (length buf ≡ 256) × (done ≤ length chunk) × (sound state ≡ true) × (state .format ≡ state₀ .format)
+    × PartlyDrained (drain (stateOf state₀) chunk) (judgedAfter (stateOf state₀) chunk) (stateOf state) (drop done chunk) out₀ 0 0 end noise judged out
 
 abbrev μ-loop : tie.MeasureT-loop
-μ-loop chunk out₀ buf₀ state₀ done₀ end₀ total₀ out buf state done end total = length (drain (stateOf state) (drop done chunk) .out .frames)
+μ-loop chunk out₀ buf₀ state₀ done₀ end₀ noise₀ judged₀ out buf state done end noise judged =
+    length (drain (stateOf state) (drop done chunk) .out .frames)
 
 -- Earlier places of the code, seen from later ones.
 abbrev loop-at-feed : tie.After-feed Inv-loop μ-loop → tie.At-loop Inv-loop μ-loop
@@ -85,8 +87,9 @@ feeds f =
 reports : (f : tie.After-feed Inv-loop μ-loop) →
     let r = loop-at-feed f .loop .state in
     let rest = drop (loop-at-feed f .loop .done) (entry-at-feed f .args .chunk .now) in
-    Reports (feedRefusal r (length (loop-at-feed f .loop .buf)) (length rest)) (line (stateOf r) rest) (Holds (after (stateOf r) (line (stateOf r) rest))) r
-    (loop-at-feed f .loop .buf) (feedValuesOf (f .feed .result .answer)) (f .feed .result .reader) (f .feed .last .1 .1 .0)
+    Reports (feedRefusal r (length (loop-at-feed f .loop .buf)) (length rest)) (line (stateOf r) rest) (lineJudged (stateOf r) rest)
+    (Holds (after (stateOf r) (line (stateOf r) rest))) r (loop-at-feed f .loop .buf) (feedValuesOf (f .feed .result .answer)) (f .feed .result .reader)
+    (f .feed .last .1 .1 .0)
 reports f = feed-reports (loop-at-feed f .loop .state) _ (loop-at-feed f .loop .buf) (f .feed .result) _ (feeds f)
 
 free : (f : tie.After-feed Inv-loop μ-loop) →
@@ -101,13 +104,26 @@ still f = f .feed .kept .1 .1 .0 ∙ loop-at-feed f .loop .inv .0
 fits : (f : tie.After-feed Inv-loop μ-loop) → Room (drain (stateOf (entry-at-feed f .args .reader)) (entry-at-feed f .args .chunk .now)) 0 0 (entry-at-feed f .args .out .now)
 fits f = entry-at-feed f .pre .fits
 
--- The format stays, and the bytes held are within its limit.
+-- What it says of the bytes judged, and that these are few.
+judges : (f : tie.After-feed Inv-loop μ-loop) {v : Values} → feedValuesOf (f .feed .result .answer) ≡ v →
+    v .judged ≡ lineJudged (stateOf (loop-at-feed f .loop .state)) (drop (loop-at-feed f .loop .done) (entry-at-feed f .args .chunk .now))
+judges f e = sym (ap (λ (x : Values). x .judged) e) ∙ reports-judged _ (reports f) (free f)
+
+few : (f : tie.After-feed Inv-loop μ-loop) {v : Values} → feedValuesOf (f .feed .result .answer) ≡ v →
+    loop-at-feed f .loop .judged-total + v .judged ≤ judgedMost
+few f e =
+    let p = entry-at-feed f .pre in
+    let r = entry-at-feed f .args .reader in
+    let most = chunk-judged r (entry-at-feed f .args .chunk .now) (sound-count r (p .within)) (p .small) in
+    omega (arith, call-judged (loop-at-feed f .loop .inv .4) (fits f) (judges f e), most)
+
+-- The format stays, and the state stays sound.
 limits : (f : tie.After-feed Inv-loop μ-loop) →
-    (f .feed .result .reader .format ≡ loop-at-feed f .loop .state .format) × (f .feed .result .reader .count ≤ limit (loop-at-feed f .loop .state .format))
-limits f = feed-stays-in-limit (loop-at-feed f .loop .state) _ (loop-at-feed f .loop .buf) (f .feed .result) _ (feeds f) (loop-at-feed f .loop .inv .2)
+    (f .feed .result .reader .format ≡ loop-at-feed f .loop .state .format) × (sound (f .feed .result .reader) ≡ true)
+limits f = feed-stays-sound (loop-at-feed f .loop .state) _ (loop-at-feed f .loop .buf) (f .feed .result) _ (feeds f) (loop-at-feed f .loop .inv .2)
 
 -- The bytes taken are within the chunk.
-taken-inside : (f : tie.After-feed Inv-loop μ-loop) {taken more len : ℕ} → feedValuesOf (f .feed .result .answer) ≡ frameValues taken more len →
+taken-inside : (f : tie.After-feed Inv-loop μ-loop) {taken more n len : ℕ} → feedValuesOf (f .feed .result .answer) ≡ frameValues taken more n len →
     loop-at-feed f .loop .done + taken ≤ length (entry-at-feed f .args .chunk .now)
 taken-inside f e =
     let chunk = entry-at-feed f .args .chunk .now in
@@ -116,7 +132,8 @@ taken-inside f e =
 
 loop-holds : tie.Need-loop-holds Inv-loop μ-loop
 loop-holds c =
-    (refl, zero-le, c .before .before .pre .within, refl, partly-drained (stateOf (c .before .before .args .reader)) _ _ _ _)
+    let p = c .before .before .pre in
+    (refl, zero-le, p .within, refl, partly-drained (stateOf (c .before .before .args .reader)) _ _ _ _ 0 (zero-add _) (p .known))
 
 sub-feed : tie.Need-sub-feed Inv-loop μ-loop
 sub-feed c = c .before .before .loop .inv .1
@@ -151,9 +168,12 @@ add-done : tie.Need-add-done Inv-loop μ-loop
 add-done c =
     omega (arith, taken-inside (feed-at-slice-known2 c) (ap feedValuesOf (answer-at-slice-known2 c .answer .given .1)))
 
-add-total : tie.Need-add-total Inv-loop μ-loop
-add-total c =
+add-noise-total : tie.Need-add-noise-total Inv-loop μ-loop
+add-noise-total c =
     omega (arith, frame-noise (loop-at-feed (feed-at-slice-known2 c) .loop .inv .4) (fits (feed-at-slice-known2 c)) _ _ (reports-frame _ (reports (feed-at-slice-known2 c)) (free (feed-at-slice-known2 c)) (ap feedValuesOf (answer-at-slice-known2 c .answer .given .1))))
+
+add-judged-total : tie.Need-add-judged-total Inv-loop μ-loop
+add-judged-total c = omega (arith, few (feed-at-slice-known2 c) (ap feedValuesOf (answer-at-slice-known2 c .answer .given .1)))
 
 loop-less : tie.Need-loop-less Inv-loop μ-loop
 loop-less c =
@@ -172,18 +192,21 @@ loop-again c =
     let kept = limits f in (
       still f,
       taken-inside f e,
-      rw (kept .0) (kept .1),
+      kept .1,
       kept .0 ∙ l .inv .3,
       feed-next (l .state) (entry-at-feed (feed-at-slice-known2 c) .args .chunk .now) (l .done) _ (f .feed .result .reader) (reports-next _ (reports f) (free f)) (reports-taken _ (reports f) (free f) e)
-          (frame-step (l .inv .4) (fits f) _ _ (reports-frame _ (reports f) (free f) e) (c .before .before .put-line .ensures)),
+          (frame-step (l .inv .4) (fits f) _ _ (reports-frame _ (reports f) (free f) e) (c .before .before .put-line .ensures) (judges f e)),
     )
 
 enum-known-answer-2 : tie.Need-enum-known-answer-2 Inv-loop μ-loop
 enum-known-answer-2 c = search needs
 
-add-part-at : tie.Need-add-part-at Inv-loop μ-loop
-add-part-at c =
+add-noise-total-2 : tie.Need-add-noise-total-2 Inv-loop μ-loop
+add-noise-total-2 c =
     omega (arith, none-noise (loop-at-feed (feed-at-known-told2 c) .loop .inv .4) (fits (c .before .before .before .before .before)) _ (reports-none _ (reports (c .before .before .before .before .before)) (free (c .before .before .before .before .before)) (ap feedValuesOf (c .before .answer2 .given .1))))
+
+add-judged-total-2 : tie.Need-add-judged-total-2 Inv-loop μ-loop
+add-judged-total-2 c = omega (arith, few (feed-at-known-told2 c) (ap feedValuesOf (c .before .answer2 .given .1)))
 
 part-at-requires : tie.Need-part-at-requires Inv-loop μ-loop
 part-at-requires c κs = search needs
@@ -197,12 +220,14 @@ returns c =
     let f = feed-at-part-at c in
     let l = loop-at-feed (feed-at-part-at c) .loop in
     let a = entry-at-feed (feed-at-part-at c) .args in
+    let s = stateOf (a .reader) in
+    let e = ap feedValuesOf (c .before .before .answer2 .given .1) in
     subst (λ (p : Part). HeldListed (a .reader) (a .chunk .now) (a .out .now) p (l .out)) (sym (c .part-at .ensures))
     (record {
       inside = l .inv .1;
       format = limits f .0 ∙ l .inv .3;
-      all = λ _. none-lists (l .inv .4) (fits f) _ (reports-none _ (reports f) (free f) (ap feedValuesOf (c .before .before .answer2 .given .1))) (stateOf (a .reader))
-          (f .feed .result .reader) _ (l .inv .3) (reports-next _ (reports f) (free f)) refl refl;
+      all = λ _. none-lists (l .inv .4) (fits f) _ (reports-none _ (reports f) (free f) e) s (f .feed .result .reader) _ (l .inv .3)
+          (reports-next _ (reports f) (free f)) (judges f e) (all-judged s (a .chunk .now) 0 (entry-at-feed f .pre .known) (zero-add _) (zero-add _)) refl refl;
       some = λ z. absurd (true≢false z);
     })
 
@@ -255,11 +280,13 @@ list-held-spec =
     slice-aggregate-put-line
     put-line-requires
     add-done
-    add-total
+    add-noise-total
+    add-judged-total
     loop-less
     loop-again
     enum-known-answer-2
-    add-part-at
+    add-noise-total-2
+    add-judged-total-2
     part-at-requires
     same-length
     returns

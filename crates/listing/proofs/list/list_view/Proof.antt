@@ -1,5 +1,6 @@
 -- `listing::list::list_view` meets its contract: what is put so far, and what the calls from the present view on give, is all.
 -- Assumes nothing.
+use Prim.Native.Nat.{_+_, _≤_}
 use native.Mathlib.Omega.{arith}
 use mathlib.Core.Bool.{true}
 use mathlib.Core.Path.{_≡_, refl, sym, ap, _∙_}
@@ -7,23 +8,25 @@ use borrow.Author.Needs.{needs}
 use lib.ListN.{length, drop}
 use Rattle.io.proofs.Counting.{front}
 use Rattle.frame.specs.Draining.{Reports}
-use Rattle.frame.specs.Reader.{State, Settled, feedValuesOf}
-use Rattle.frame.specs.View.{inside, viewed, viewCall, Follows, viewRefusal}
-use Rattle.frame.specs.Drain.{drain}
+use Rattle.frame.specs.Reader.{State, Settled, Values, feedValuesOf}
+use Rattle.frame.specs.View.{inside, viewed, viewCall, viewJudged, Follows, viewRefusal}
+use Rattle.frame.specs.Drain.{drain, judgedAfter}
 use Rattle.frame.proofs.Theorems.{view-reports, view-stays-inside}
-use Rattle.listing.specs.Parts.{PartlyDrained, Room, viewDrain}
-use Rattle.listing.proofs.Chunks.{partly-drained, frame-room, frame-noise, frame-step, frame-less, none-noise, none-lists}
-use Rattle.listing.proofs.Chunks.{reports-frame, reports-none, reports-inside, reports-next, reports-refused, view-free, view-next, view-left, view-holds}
+use Rattle.listing.specs.Parts.{PartlyDrained, Room, viewDrain, judgedMost}
+use Rattle.listing.proofs.Chunks.{partly-drained, all-judged, call-judged, frame-room, frame-noise, frame-step, frame-less, none-noise}
+use Rattle.listing.proofs.Chunks.{none-lists, reports-frame, reports-none, reports-inside, reports-judged, reports-next, reports-refused, inside-known}
+use Rattle.listing.proofs.Chunks.{view-free, view-next, view-left, view-holds}
 use Rattle.listing.proofs.list.list_view.Statement.{statement}
 use Rattle.listing.proofs.list.list_view.Tie as tie
 
 abbrev Inv-loop : tie.InvT-loop
-Inv-loop chunk start before out₀ buf₀ view₀ end₀ total₀ out buf view end total =
+Inv-loop chunk out₀ buf₀ view₀ end₀ noise₀ judged₀ out buf view end noise judged =
     (length buf ≡ 256) × (inside view (length chunk) ≡ true) × (view .format ≡ view₀ .format)
-    × PartlyDrained (viewDrain view₀ chunk) (viewed view chunk) (drop (view .end) chunk) out₀ start before end total out
+    × PartlyDrained (viewDrain view₀ chunk) (judged₀ + judgedAfter (viewed view₀ chunk) (drop (view₀ .end) chunk)) (viewed view chunk)
+    (drop (view .end) chunk) out₀ end₀ noise₀ end noise judged out
 
 abbrev μ-loop : tie.MeasureT-loop
-μ-loop chunk start before out₀ buf₀ view₀ end₀ total₀ out buf view end total = length (drain (viewed view chunk) (drop (view .end) chunk) .out .frames)
+μ-loop chunk out₀ buf₀ view₀ end₀ noise₀ judged₀ out buf view end noise judged = length (drain (viewed view chunk) (drop (view .end) chunk) .out .frames)
 
 -- Earlier places of the code, seen from later ones.
 abbrev loop-at-feed : tie.After-feed Inv-loop μ-loop → tie.At-loop Inv-loop μ-loop
@@ -54,22 +57,35 @@ feed-at-refused c = c .before .before .before .before .before .before .before
 reports : (f : tie.After-feed Inv-loop μ-loop) →
     let v = loop-at-feed f .loop .view in
     let chunk = entry-at-feed f .args .chunk .now in
-    Reports (viewRefusal v (length (loop-at-feed f .loop .buf)) (length chunk)) (viewCall v chunk) (Follows v chunk (viewCall v chunk)) v (loop-at-feed f .loop .buf)
-    (feedValuesOf (f .feed .result .answer)) (f .feed .result .view) (f .feed .last .1 .1 .0)
+    Reports (viewRefusal v (length (loop-at-feed f .loop .buf)) (length chunk)) (viewCall v chunk) (viewJudged v chunk) (Follows v chunk (viewCall v chunk)) v
+    (loop-at-feed f .loop .buf) (feedValuesOf (f .feed .result .answer)) (f .feed .result .view) (f .feed .last .1 .1 .0)
 reports f = view-reports (loop-at-feed f .loop .view) (entry-at-feed f .args .chunk .now) (loop-at-feed f .loop .buf) (f .feed .result) _ (f .feed .ensures)
 
 free : (f : tie.After-feed Inv-loop μ-loop) → viewRefusal (loop-at-feed f .loop .view) (length (loop-at-feed f .loop .buf)) (length (entry-at-feed f .args .chunk .now)) ≡ 0
 free f = view-free (loop-at-feed f .loop .view) (entry-at-feed f .args .chunk .now) (loop-at-feed f .loop .buf) (loop-at-feed f .loop .inv .1) (loop-at-feed f .loop .inv .0) (entry-at-feed f .pre .small)
 
+-- What it says of the bytes judged.
+judges : (f : tie.After-feed Inv-loop μ-loop) {v : Values} → feedValuesOf (f .feed .result .answer) ≡ v →
+    v .judged ≡ viewJudged (loop-at-feed f .loop .view) (entry-at-feed f .args .chunk .now)
+judges f e = sym (ap (λ (x : Values). x .judged) e) ∙ reports-judged _ (reports f) (free f)
+
 still : (f : tie.After-feed Inv-loop μ-loop) → length (f .feed .last .1 .1 .0) ≡ 256
 still f = f .feed .kept .1 .1 .0 ∙ loop-at-feed f .loop .inv .0
 
-fits : (f : tie.After-feed Inv-loop μ-loop) → Room (viewDrain (entry-at-feed f .args .first) (entry-at-feed f .args .chunk .now)) (entry-at-feed f .args .start) (entry-at-feed f .args .before) (entry-at-feed f .args .out .now)
+fits : (f : tie.After-feed Inv-loop μ-loop) →
+    let a = entry-at-feed f .args in Room (viewDrain (a .first) (a .chunk .now)) (a .part .end) (a .part .noise) (a .out .now)
 fits f = entry-at-feed f .pre .fits
+
+-- The bytes judged so far are few.
+few : (f : tie.After-feed Inv-loop μ-loop) {v : Values} → feedValuesOf (f .feed .result .answer) ≡ v →
+    loop-at-feed f .loop .judged-total + v .judged ≤ judgedMost
+few f e = omega (arith, call-judged (loop-at-feed f .loop .inv .3) (fits f) (judges f e), entry-at-feed f .pre .count)
 
 loop-holds : tie.Need-loop-holds Inv-loop μ-loop
 loop-holds c =
-    (refl, c .before .before .pre .within, refl, partly-drained (viewed (c .before .before .args .first) (c .before .before .args .chunk .now)) _ _ _ _)
+    let a = c .before .before .args in
+    let h = c .before .before .pre .within in
+    (refl, h, refl, partly-drained (viewed (a .first) (a .chunk .now)) _ _ _ _ _ refl (inside-known (a .first) (a .chunk .now) h))
 
 slice-aggregate-feed : tie.Need-slice-aggregate-feed Inv-loop μ-loop
 slice-aggregate-feed c = sym (c .before .loop .inv .0)
@@ -93,10 +109,13 @@ put-line-requires c κs =
     let f = feed-at-buf3 (c .before .before) in
     frame-room (loop-at-feed f .loop .inv .3) (fits f) _ _ (reports-frame _ (reports f) (free f) (ap feedValuesOf (c .before .before .before .before .answer .given .1)))
 
-add-total : tie.Need-add-total Inv-loop μ-loop
-add-total c =
+add-noise-total : tie.Need-add-noise-total Inv-loop μ-loop
+add-noise-total c =
     let f = feed-at-slice-known2 c in
     omega (arith, frame-noise (loop-at-feed f .loop .inv .3) (fits f) _ _ (reports-frame _ (reports f) (free f) (ap feedValuesOf (answer-at-slice-known2 c .answer .given .1))))
+
+add-judged-total : tie.Need-add-judged-total Inv-loop μ-loop
+add-judged-total c = omega (arith, few (feed-at-slice-known2 c) (ap feedValuesOf (answer-at-slice-known2 c .answer .given .1)))
 
 loop-less : tie.Need-loop-less Inv-loop μ-loop
 loop-less c =
@@ -111,12 +130,13 @@ loop-again c =
     let f = feed-at-slice-known2 c in
     let l = loop-at-feed (feed-at-slice-known2 c) .loop in
     let a = entry-at-feed (feed-at-slice-known2 c) .args in
+    let e = ap feedValuesOf (answer-at-slice-known2 c .answer .given .1) in
     let next = reports-next _ (reports f) (free f) in (
       still f,
       view-stays-inside (l .view) (a .chunk .now) (l .buf) (f .feed .result) _ (f .feed .ensures) (l .inv .1),
       ap (λ (s : State). s .format) (next .state) ∙ l .inv .2,
       view-next (l .view) (a .chunk .now) (f .feed .result .view) next
-          (frame-step (l .inv .3) (fits f) _ _ (reports-frame _ (reports f) (free f) (ap feedValuesOf (answer-at-slice-known2 c .answer .given .1))) (c .before .before .put-line .ensures)),
+          (frame-step (l .inv .3) (fits f) _ _ (reports-frame _ (reports f) (free f) e) (c .before .before .put-line .ensures) (judges f e)),
     )
 
 enum-known-answer-2 : tie.Need-enum-known-answer-2 Inv-loop μ-loop
@@ -128,6 +148,9 @@ reader-requires c κs = search needs
 add-lines : tie.Need-add-lines Inv-loop μ-loop
 add-lines c =
     omega (arith, none-noise (loop-at-feed (feed-at-reader c) .loop .inv .3) (fits (feed-at-reader c)) _ (reports-none _ (reports (feed-at-reader c)) (free (feed-at-reader c)) (ap feedValuesOf (c .before .before .answer2 .given .1))))
+
+add-lines-2 : tie.Need-add-lines-2 Inv-loop μ-loop
+add-lines-2 c = omega (arith, few (feed-at-reader c) (ap feedValuesOf (c .before .before .answer2 .given .1)))
 
 lines-requires : tie.Need-lines-requires Inv-loop μ-loop
 lines-requires c κs = search needs
@@ -141,10 +164,14 @@ returns c =
     let f = feed-at-lines c in
     let l = loop-at-feed (feed-at-lines c) .loop in
     let a = entry-at-feed (feed-at-lines c) .args in
-    none-lists (l .inv .3) (fits f) _ (reports-none _ (reports f) (free f) (ap feedValuesOf (c .before .before .before .answer2 .given .1))) (viewed (a .first) (a .chunk .now))
+    let s = viewed (a .first) (a .chunk .now) in
+    let e = ap feedValuesOf (c .before .before .before .answer2 .given .1) in
+    none-lists (l .inv .3) (fits f) _ (reports-none _ (reports f) (free f) e) s
     (c .before .reader .result) (c .lines .result) (l .inv .2)
     (view-holds (l .view) (a .chunk .now) (f .feed .result .view) (c .before .reader .result) (reports-next _ (reports f) (free f))
     (view-stays-inside (l .view) (a .chunk .now) (l .buf) (f .feed .result) _ (f .feed .ensures) (l .inv .1)) (c .before .reader .ensures))
+    (judges f e)
+    (all-judged s (drop (a .first .end) (a .chunk .now)) (a .part .judged) (inside-known (a .first) (a .chunk .now) (entry-at-feed f .pre .within)) refl refl)
     (c .lines .ensures .0) (c .lines .ensures .1)
 
 enum-known-answer-3 : tie.Need-enum-known-answer-3 Inv-loop μ-loop
@@ -177,12 +204,14 @@ list-view-spec =
     slice-aggregate-whole
     slice-aggregate-put-line
     put-line-requires
-    add-total
+    add-noise-total
+    add-judged-total
     loop-less
     loop-again
     enum-known-answer-2
     reader-requires
     add-lines
+    add-lines-2
     lines-requires
     same-length
     returns

@@ -17,11 +17,11 @@ call w = w .before .before .before .before .before
 
 -- Where the answer is known to be a frame, from the end of its arm.
 abbrev frame-arm : tie.After-with-answer → tie.After-answer
-frame-arm c = c .before .before .before .before .before .before
+frame-arm c = c .before .before .before .before .before
 
 -- Where it is known that more is needed, from the end of that arm.
 abbrev more-arm : tie.After-with-answer2 → tie.After-answer2
-more-arm c = c .before .before .before .before .before .before .before .before .before
+more-arm c = c .before .before .before .before .before .before .before .before
 
 -- The bytes that an answer says are taken.
 abbrev taken-of : FeedAnswer → ℕ
@@ -48,11 +48,8 @@ write-all-requires c κs = search needs
 enum-known-answer : tie.Need-enum-known-answer
 enum-known-answer c = search needs
 
-print-field-requires : tie.Need-print-field-requires
-print-field-requires c κs = search needs
-
-print-field-requires-2 : tie.Need-print-field-requires-2
-print-field-requires-2 c κs = search needs
+print-fed-requires : tie.Need-print-fed-requires
+print-fed-requires c κs = search needs
 
 show-frame-requires : tie.Need-show-frame-requires
 show-frame-requires c κs = search needs
@@ -63,11 +60,8 @@ with-answer-requires c κs = search needs
 enum-known-answer-2 : tie.Need-enum-known-answer-2
 enum-known-answer-2 c = search needs
 
-print-field-requires-3 : tie.Need-print-field-requires-3
-print-field-requires-3 c κs = search needs
-
-print-field-requires-4 : tie.Need-print-field-requires-4
-print-field-requires-4 c κs = search needs
+print-fed-requires-2 : tie.Need-print-fed-requires-2
+print-fed-requires-2 c κs = search needs
 
 slice-aggregate-show-end : tie.Need-slice-aggregate-show-end
 slice-aggregate-show-end c = search needs
@@ -96,8 +90,8 @@ is-untouched-requires-2 c κs = search needs
 show-refusal-requires : tie.Need-show-refusal-requires
 show-refusal-requires c κs = search needs
 
-with-answer-requires-3 : tie.Need-with-answer-requires-3
-with-answer-requires-3 c κs = search needs
+refused-step-requires : tie.Need-refused-step-requires
+refused-step-requires c κs = search needs
 
 same-length : tie.Need-same-length
 same-length c = search needs
@@ -115,7 +109,7 @@ same-length-3 : tie.Need-same-length-3
 same-length-3 c = search needs
 
 returns-3 : tie.Need-returns-3
-returns-3 c = search needs
+returns-3 c = omega (arith, c .refused-step .ensures)
 
 pub feed-call-spec : {M : Type 1} → statement M
 feed-call-spec =
@@ -125,13 +119,11 @@ feed-call-spec =
     slice-aggregate-write-all
     write-all-requires
     enum-known-answer
-    print-field-requires
-    print-field-requires-2
+    print-fed-requires
     show-frame-requires
     with-answer-requires
     enum-known-answer-2
-    print-field-requires-3
-    print-field-requires-4
+    print-fed-requires-2
     slice-aggregate-show-end
     front-requires
     is-untouched-requires
@@ -141,7 +133,7 @@ feed-call-spec =
     same-state-requires
     is-untouched-requires-2
     show-refusal-requires
-    with-answer-requires-3
+    refused-step-requires
     same-length
     returns
     same-length-2

@@ -31,7 +31,7 @@ returns : tie.Need-returns
 returns c =
     let a = c .before .before .before .before .args in
     let no : inside (a .self) (length (a .chunk .now)) ≡ false = sym (c .before .before .is-inside .ensures) ∙ not-true _ (c .before .if1 .taken) in
-    subst (λ (q : Bool). Holds (cond q (viewed (a .self) (a .chunk .now)) (holding (a .self .format) [] false)) (c .«open» .result)) (sym no)
+    subst (λ (q : Bool). Holds (cond q (viewed (a .self) (a .chunk .now)) (holding (a .self .format) [] false 0)) (c .«open» .result)) (sym no)
     (rw (c .«open» .ensures) (record { state = refl; count = refl }))
 
 sub-hold : tie.Need-sub-hold
@@ -51,8 +51,8 @@ hold-requires c κs =
 returns-2 : tie.Need-returns-2
 returns-2 c =
     let a = c .before .before .before .before .before .args in
-    subst (λ (q : Bool). Holds (cond q (viewed (a .self) (a .chunk .now)) (holding (a .self .format) [] false)) (c .hold .result)) (sym (yes (c .before .before)))
-    (c .hold .ensures)
+    subst (λ (q : Bool). Holds (cond q (viewed (a .self) (a .chunk .now)) (holding (a .self .format) [] false 0)) (c .hold .result))
+    (sym (yes (c .before .before))) (c .hold .ensures)
 
 pub reader-spec : {M : Type 1} → statement M
 reader-spec =
