@@ -3,7 +3,7 @@
 use Prim.Native.Nat.{ℕ, zero, suc, _+_, _-_, _≤_, min, zero-le}
 use native.Mathlib.Nat.{zero-add, add-assoc, sub-self, le-refl}
 use native.Mathlib.Omega.{arith}
-use mathlib.Core.Bool.{Bool, false}
+use mathlib.Core.Bool.{Bool, true, false, cond}
 use mathlib.Core.List.{List, [], _∷_, _++_, append-assoc, append-nil}
 use mathlib.Core.Path.{_≡_, refl, sym, ap, ap₂, _∙_, subst}
 use lib.ListN.{length, drop, length-append}
@@ -19,7 +19,7 @@ use Rattle.frame.specs.Reader.{Feeds, refusalValues}
 use Rattle.frame.specs.Drain.{before, drain, afterDrain, judgedAfter, drainJudged}
 use Rattle.frame.specs.Calls.{Answered, Phase, offering, ending, over}
 use Rattle.frame.specs.Calls.{Calls, fed, taken, quieted, emptied, feedRefused, quietRefused, done}
-use Rattle.frame.specs.Counts.{LineCounts, QuietCounts, DrainCounts, DrainSums, judgedBy, CallsCount, CallsCountFrom}
+use Rattle.frame.specs.Counts.{LineCounts, QuietCounts, DrainCounts, DrainSums, AbsorbedNotJudged, judgedBy, CallsCount, CallsCountFrom}
 use Rattle.frame.specs.declared.framing.Format.{Format}
 use Rattle.frame.specs.declared.framing.Format.the-variants.{Binary, Ascii}
 use Rattle.frame.specs.declared.reader.Reader.{Reader}
@@ -335,6 +335,13 @@ calls-report (quietRefused {phase} {r} {todo} buf buf′ a p n later) l =
     ∙ calls-report later (subst Known (sym (h .1)) l)
     ∙ ap (λ (x : Reader). left phase x todo) (h .1)
 calls-report done l = refl
+
+-- An optional byte that a line call takes is not judged.
+pub absorbed-not-judged : (m : Format) → AbsorbedNotJudged m
+absorbed-not-judged m b chunk e =
+    none-left m true [] (b ∷ chunk) (judgedTo m (judge m))
+    ∙ ap (λ (q : Bool). judgedTo m (judge m) (drop (cond q 1 0) (b ∷ chunk))) e
+    ∙ sym (none-left m false [] chunk (judgedTo m (judge m)))
 
 -- From any reader, what the rule judges from its state on.
 pub calls-count-from : CallsCountFrom

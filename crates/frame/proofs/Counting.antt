@@ -4,7 +4,7 @@ use Prim.Native.Nat.{ℕ, zero, suc, _+_, _-_, _*_, _≤_, _<_, max, min, zero-l
 use native.Mathlib.Nat.{add-zero, zero-add, le-refl}
 use native.Mathlib.Numerals.{add-one}
 use native.Mathlib.Omega.{arith}
-use mathlib.Core.Path.{_≡_, refl, sym, ap, _∙_, subst}
+use mathlib.Core.Path.{_≡_, refl, sym, ap, _∙_}
 use mathlib.Core.List.{List, [], _∷_}
 use mathlib.Core.Bool.{Bool, true, false}
 use mathlib.Core.Logic.{⊎-elim}
@@ -14,7 +14,7 @@ use lib.ListN.{length, getD, take, drop, length-drop, take-append-drop}
 use lib.Seq.{drop-drop, length-take-le}
 use Rattle.frame.specs.Checks.{Verdict, cut, refused, frame}
 use Rattle.frame.specs.Framing.{checks, judge, judgedAs, judgedAt, limit}
-use Rattle.frame.specs.Reader.{ended, ifFails, judgedTo}
+use Rattle.frame.specs.Reader.{ifFails, judgedTo}
 use Rattle.frame.specs.Claims.{Decided}
 use Rattle.frame.specs.DigitRuns.{allPass}
 use Rattle.frame.specs.Judged.{startOf, passedBy}
@@ -265,12 +265,6 @@ known-front f k s l = by-verdict (judge f s) refl
         (λ (h : k < used). all-front (too-few (checks f) s k (rw e h)) (rw e (omega arith)))
         (le-or-lt used k)
 
--- What is no frame is none where the segment has ended.
-ended-no-frame : (v : Verdict) → NoFrame v → NoFrame (ended v)
-ended-no-frame cut h = tt
-ended-no-frame (refused judged n) h = tt
-ended-no-frame (frame used p) h = h
-
 -- Where a scan did not stop at the first place, one of that place alone, over the first bytes of s, finds no frame.
 module _ (e : Bool) (f : Format) (k : ℕ) (s buf : List ℕ) where
   not-first : (n reach used : ℕ) (p : List ℕ) → judge f s ≡ frame used p → scanFrom (judging e f) n 0 reach s .place ≡ 0
@@ -280,22 +274,18 @@ module _ (e : Bool) (f : Format) (k : ℕ) (s buf : List ℕ) where
       let far : ℕ = max reach (0 + judgedBytes (judging e f s)) in
       ap (λ (v : Verdict). scanAs v 0 reach (scanFrom (judging e f) n 1 far (drop 1 s)) .place) (judging-frame e f s p used q)
 
-  ended-none : (b : Bool) (t : List ℕ) → NoFrame (judge f t) → NoFrame (judging b f t)
-  ended-none true t h = ended-no-frame (judge f t) h
-  ended-none false t h = h
-
   front-at : (v : Verdict) (x : Scanned) → x .stop ≡ passed → NoFrame v → stopBuffer (scanAs v 0 0 x .stop) buf ≡ buf
   front-at cut x h n = refl
   front-at (refused judged m) x h n = ap (λ (t : Stop). stopBuffer t buf) h
   front-at (frame used p) x h n = absurd n
 
   pub front-stops :
-      (n reach : ℕ) → (scanFrom (judging e f) n 0 reach s .place ≡ 0 → ⊥) → stopBuffer (scanFrom (judging e f) 1 0 0 (take k s) .stop) buf ≡ buf
+      (n reach : ℕ) → (scanFrom (judging e f) n 0 reach s .place ≡ 0 → ⊥) → stopBuffer (scanFrom (judge f) 1 0 0 (take k s) .stop) buf ≡ buf
   unfolding scanFrom
-  front-stops n reach h = front-at (judging e f (take k s)) _ refl (no-frame (judge f (take k s)) refl)
+  front-stops n reach h = front-at (judge f (take k s)) _ refl (no-frame (judge f (take k s)) refl)
     where
-      no-frame : (v : Verdict) → judge f (take k s) ≡ v → NoFrame (judging e f (take k s))
-      no-frame cut q = ended-none e (take k s) (subst NoFrame (sym q) tt)
-      no-frame (refused judged m) q = ended-none e (take k s) (subst NoFrame (sym q) tt)
+      no-frame : (v : Verdict) → judge f (take k s) ≡ v → NoFrame v
+      no-frame cut q = tt
+      no-frame (refused judged m) q = tt
       no-frame (frame used p) q =
           absurd (h (not-first n reach used p (ap (judge f) (sym (take-append-drop k s)) ∙ judge-stands f (take k s) (drop k s) (frame used p) tt q)))

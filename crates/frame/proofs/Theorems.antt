@@ -11,7 +11,7 @@ use Rattle.frame.specs.Draining.{LineDrains, NeedsMoreIsDrained, DrainFo
 use Rattle.frame.specs.Draining.{FeedReports, QuietReports, ViewReports, DrainIsSized, RuleIsSized}
 use Rattle.frame.specs.Driving.{CanDrive, DrivesAreShort, StateNeverRefused, FeedStaysSound, QuietStaysSound, EndsFresh}
 use Rattle.frame.specs.Counts.{CallsCount, CallsCountFrom, RuleBound, CallsBound, StateBound, ColonsCount, NestedStartsCount, LineCounts, QuietCounts}
-use Rattle.frame.specs.Counts.{DrainCounts, DrainSums, Unfinished, OptionalNotJudged, HandMadeCounts}
+use Rattle.frame.specs.Counts.{DrainCounts, DrainSums, FrameCounts, AbsorbedNotJudged, Unfinished, OptionalNotJudged, HandMadeCounts}
 use Rattle.frame.specs.MarkExamples.{NextCallTakesIt, OtherFormats, HeldBehindTheFrame, QuietEndsIt, AnyEnding}
 use Rattle.frame.specs.RecoveryExamples.{LostAndBack, ProvisoNeeded, MixedFooters, FooterRequired, AsciiBack, MixedLines, StrictLines, LfJudges}
 use Rattle.frame.specs.declared.framing.Footer.{Footer}
@@ -34,6 +34,7 @@ use Rattle.frame.proofs.Refusals as refusals
 use Rattle.frame.proofs.Taking as taking
 use Rattle.frame.proofs.RecoveryExamples as recovery-examples
 use Rattle.frame.proofs.MarkExamples as mark-examples
+use Rattle.frame.proofs.RuleCounts as rule-counts
 use Rattle.frame.proofs.CallCounts as call-counts
 use Rattle.frame.proofs.Bounds as bounds
 use Rattle.frame.proofs.CountExamples as count-examples
@@ -229,6 +230,12 @@ drain-counts = call-counts.drain-counts
 
 pub drain-sums : DrainSums
 drain-sums = call-counts.drain-sums
+
+pub frame-counts : (m : Format) → FrameCounts m
+frame-counts m s p used e = rule-counts.counted-frame m used p s e
+
+pub absorbed-not-judged : (m : Format) → AbsorbedNotJudged m
+absorbed-not-judged = call-counts.absorbed-not-judged
 
 pub unfinished : Unfinished
 unfinished = count-examples.unfinished

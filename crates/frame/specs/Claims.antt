@@ -122,8 +122,8 @@ NeedsMoreIsTrue =
 abbrev pub remaining : Called → List ℕ → List ℕ
 remaining c chunk = c .held ++ drop (c .taken) chunk
 
--- A line call's answer is that of the held bytes followed by the chunk: it hands out, noise too, and leaves, the mark too, what a call does that has the
--- same mark, holds nothing and is offered both.
+-- A line call's answer, but for the count of judged bytes, is that of the held bytes followed by the chunk: it hands out, noise too, and leaves, the mark too,
+-- what a call does that has the same mark, holds nothing and is offered both.
 abbrev pub HeldThenChunk : Type 0
 HeldThenChunk =
     (s : State) (chunk : List ℕ) →

@@ -5,7 +5,9 @@ use mathlib.Core.Path.{_≡_}
 use mathlib.Core.List.{List, [], _∷_, _++_}
 use mathlib.Core.Bool.{true, false}
 use lib.ListN.{length, drop, replicate}
+use Rattle.frame.specs.Checks.{frame}
 use Rattle.frame.specs.Ascii.{colon}
+use Rattle.frame.specs.Framing.{judge, isOpen, isOptional, behindOptional}
 use Rattle.frame.specs.Rule.{Output, ruleJudged}
 use Rattle.frame.specs.Reader.{State, holding, Called, line, quiet, lineJudged, quietJudged, after, stateOf, newReader, feedValuesOf, quietValuesOf}
 use Rattle.frame.specs.Drain.{drain, afterDrain, judgedAfter, drainJudged}
@@ -69,7 +71,7 @@ abbrev pub NestedStartsCount : Footer → Type 0
 NestedStartsCount footer = (n : ℕ) → ruleJudged (Binary footer) (nestedStarts (n + 65)) ≡ 264 * n + 8775
 
 -- Call by call. In any state that says of no more bytes than it holds that they were judged, a line call counts the first part of what the rule judges from
--- that state on, and later calls the rest, whatever bytes follow: so no byte is counted twice at one place.
+-- that state on, and later calls the rest, whatever bytes follow. As each call counts by places, no byte is counted twice at one.
 abbrev pub LineCounts : Type 0
 LineCounts =
     (s : State) (chunk more : List ℕ) → s .judged ≤ length (s .held) →
@@ -94,6 +96,16 @@ pub record DrainIsSum (s : State) (chunk : List ℕ) : Type 0 where
 abbrev pub DrainSums : Type 0
 DrainSums = (s : State) (chunk : List ℕ) → s .judged ≤ length (s .held) → DrainIsSum s chunk
 
+-- At a frame the rule judges its bytes, and goes on behind it and its optional byte, which is not judged; nor is it by the line call that takes it.
+abbrev pub FrameCounts : Format → Type 0
+FrameCounts m =
+    (s p : List ℕ) (used : ℕ) → judge m s ≡ frame used p →
+    ruleJudged m s ≡ used + ruleJudged m (behindOptional m (isOpen m used s) (drop used s))
+
+abbrev pub AbsorbedNotJudged : Format → Type 0
+AbsorbedNotJudged m =
+    (b : ℕ) (chunk : List ℕ) → isOptional m b ≡ true → lineJudged (holding m [] true 0) (b ∷ chunk) ≡ lineJudged (holding m [] false 0) chunk
+
 -- Examples. An unfinished start is judged to its end, and then each byte behind its first at its own place; the quiet call counts what the line call did not.
 pub record Unfinished : Type 0 where
   pub all : ruleJudged (Binary Optional) (0xA5 ∷ 0x5A ∷ 0x80 ∷ []) ≡ 5
@@ -104,7 +116,7 @@ pub record Unfinished : Type 0 where
       let s : State = holding (Binary Optional) [] false 0 in
       after s (line s (0xA5 ∷ 0x5A ∷ 0x80 ∷ [])) ≡ holding (Binary Optional) (0xA5 ∷ 0x5A ∷ 0x80 ∷ []) false 3
 
--- A frame's bytes are judged once; an optional byte that follows it is not.
+-- At a frame's own place its bytes are judged; an optional byte that follows it is not, and is no place.
 pub record OptionalNotJudged : Type 0 where
   pub footer : ruleJudged (Binary Optional) response ≡ 9
   pub required : ruleJudged (Binary Required) response ≡ 10

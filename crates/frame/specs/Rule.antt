@@ -71,8 +71,8 @@ outFrom f place (s ∷ ss) = join (outAt place (read f s)) (outFrom f (place + o
 unfoldable pub rule : Format → List ℕ → Output Found
 rule f s = outFrom f 0 (places f 0 s)
 
--- The rule's own count of judged bytes: at every place at which it stands, those that are judged there. Document 02, CR 7. An optional byte behind a frame is
--- passed over with it and is not judged.
+-- The rule's own count of judged bytes: at every place at which it stands, those that are judged there. Document 02, CR 7. An optional byte that
+-- belongs to a frame of the rule is passed over with it: it is no place, and is not judged at the frame's.
 abbrev pub ruleJudged : Format → List ℕ → ℕ
 ruleJudged f s = sumOf (map (judgedAt f) (places f 0 s))
 

@@ -120,12 +120,13 @@ pub record PassesOver (f : Format) (s : List ℕ) (from stop : ℕ) (step : Step
       ≡ step .judged + scanJudged f (judging ended f) (stop - step .place) (drop (step .place) s)
 
 -- What `left_out` is called with: `found` is what a scan of the first places of s has found, and no more bytes were judged before than there are places.
-pub record LeavesOut (f : Format) (s : List ℕ) (found : ScanResult) (ended : Bool) (known : ℕ) (buf : List ℕ) : Type 0 where
+pub record LeavesOut (f : Format) (s : List ℕ) (found : ScanResult) (known : ℕ) (buf : List ℕ) : Type 0 where
+  pub ends : Bool
   pub places : ℕ
   pub reached : ℕ
   pub few : known ≤ places
   pub inside : places ≤ length s
   pub short : length s ≤ 65536
   pub room : 256 ≤ length buf
-  pub scans : scanned f s found ≡ scanFrom (judging ended f) places 0 reached s
-  pub counts : found .judged ≡ scanJudged f (judging ended f) places s
+  pub scans : scanned f s found ≡ scanFrom (judging ends f) places 0 reached s
+  pub counts : found .judged ≡ scanJudged f (judging ends f) places s

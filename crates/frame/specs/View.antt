@@ -10,7 +10,7 @@ use Rattle.frame.specs.declared.reader.Reader.{Reader}
 use Rattle.frame.specs.declared.view.View.{View}
 use Rattle.frame.specs.declared.view.Viewed.{Viewed}
 
--- The view's bytes lie in a chunk of this size, and a reader can hold them with its number of judged bytes.
+-- The view's bytes lie in a chunk of this size, and a reader can hold them with the view's number of judged bytes.
 abbrev pub inside : View → ℕ → Bool
 inside v size = leb (v .from) (v .end) && (leb (v .end) size && canHold (v .format) (v .end - v .from) (v .judged))
 

@@ -145,8 +145,8 @@ fn move_down(s: &mut [u8], from: usize, count: usize)
     }
 }
 
-// Finds the next frame in a chunk, where none is held, `noise` bytes before the chunk were settled, at whose places `judged` bytes were judged, the chunk's
-// first `reach` among them. Held is what held has in its front afterwards.
+// Finds the next frame in a chunk, where none is held, `noise` bytes before the chunk were settled, for whose places the call counts `judged` bytes, and the
+// chunk's first `reach` bytes were taken. Held is what held has in its front afterwards.
 fn feed_chunk(
     format: Format,
     held: &mut [u8],
@@ -189,7 +189,7 @@ fn feed_long(
     let whole = &bytes[..];
     let w = &whole[..size];
     let found = find(format, w, 0, count, count, false, buf);
-    let total = found.judged - left_out(format, w, found, false, judged, buf);
+    let total = found.judged - left_out(format, w, found, judged, buf);
     let far = found.reach;
     let end = found.end;
     if let ScanEnd::Passed = end {
@@ -220,7 +220,7 @@ fn feed_short(
     bytes::copy(chunk, &mut held[count..]);
     let w = &held[..size];
     let found = find(format, w, 0, size, count, false, buf);
-    let total = found.judged - left_out(format, w, found, false, judged, buf);
+    let total = found.judged - left_out(format, w, found, judged, buf);
     let before = Before {
         base: count,
         noise: 0,
@@ -356,7 +356,7 @@ fn quiet_held(format: Format, s: &[u8], known: usize, buf: &mut [u8]) -> Quieted
         (now (buf .entry)) r (now (buf .exit)) ⌝ }
 {
     let found = find(format, s, 0, s.len(), 0, true, buf);
-    let judged = found.judged - left_out(format, s, found, true, known, buf);
+    let judged = found.judged - left_out(format, s, found, known, buf);
     let place = found.place;
     let end = found.end;
     match end {

@@ -21,7 +21,8 @@ pub enum Refusal {
     Payload,
     // 15: the chunk is longer than 65,536 bytes.
     Chunk,
-    // 16: the reader's state holds more bytes than a frame can have, or says that more were judged than it holds.
+    // 16: the reader's state holds more bytes than a frame can have, or says that more were judged than it holds, or a view does not
+    // lie in the chunk.
     State,
 }
 

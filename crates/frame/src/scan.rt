@@ -27,8 +27,8 @@ pub(crate) enum ScanEnd {
     Passed,
 }
 
-// A scan's result: the place at which it stopped, how far bytes were judged, from the slice's first byte, and how many were, each counted once at every place
-// where it was.
+// A scan's result: the place at which it stopped, how far bytes are taken, from the slice's first byte, by the places that failed and the frame, and how many
+// were judged, each counted once at every place where it was.
 pub(crate) struct ScanResult {
     pub(crate) place: usize,
     pub(crate) reach: usize,
@@ -186,7 +186,7 @@ fn stopped(place: usize, reach: usize, judged: usize, end: ScanEnd) -> ScanResul
     }
 }
 
-// A scan's result at a frame of `used` bytes, where bytes up to `reach` and `judged` bytes in all were judged before it.
+// A scan's result at a frame of `used` bytes, where bytes up to `reach` were taken and `judged` bytes were judged before it.
 fn at_frame(place: usize, reach: usize, judged: usize, used: usize, len: usize) -> ScanResult
     requires { ⌜ place + used ≤ 65536 ⌝ }
     requires { ⌜ judged + used ≤ 4294967296 ⌝ }
@@ -198,7 +198,7 @@ fn at_frame(place: usize, reach: usize, judged: usize, used: usize, len: usize) 
 
 // The bytes judged at a place that is undecided: all from there on.
 fn undecided_bytes(s: &[u8], place: usize) -> usize
-    requires { ⌜ place ≤ length (now s) ⌝ }
+    requires { ⌜ place < length (now s) ⌝ }
     ensures { λ r. ⌜ r ≡ length (now (s .entry)) - place ⌝ }
 {
     s.len() - place
@@ -230,7 +230,7 @@ fn counted(found: ScanResult, more: usize, known: usize) -> ScanResult
 }
 
 // Judges the places of s from `from` to `stop` in order, up to the first that does not fail; bytes that start no frame are passed at once. Bytes up to
-// `reach` were judged before. Where `ended`, the bytes end the segment, and an undecided place fails too.
+// `reach` were taken before. Where `ended`, the bytes end the segment, and an undecided place fails too.
 fn scan(format: Format, s: &[u8], from: usize, stop: usize, reach: usize, ended: bool) -> ScanResult
     requires { ⌜ Scannable from stop reach (now s) ⌝ }
     ensures { λ r. ⌜ scanned format (now (s .entry)) r ≡ scanFrom (judging ended format) (stop - from) from reach (drop from (now (s .entry))) ⌝ }
@@ -295,16 +295,16 @@ pub(crate) fn find(
 }
 
 // How many bytes a call leaves out of its count, where `known` bytes were judged at the first place of s before: no more than are judged there. A scan of s has
-// found `found`; where that place failed, those bytes are judged once more.
+// found `found`; where that place failed, those bytes are judged once more, by `find`, so that the scan itself keeps one caller and is inlined there. No frame
+// is found in them, and buf stays.
 pub(crate) fn left_out(
     format: Format,
     s: &[u8],
     found: ScanResult,
-    ended: bool,
     known: usize,
     buf: &mut [u8],
 ) -> usize
-    requires { ⌜ LeavesOut format (now s) found ended known (now buf) ⌝ }
+    requires { ⌜ LeavesOut format (now s) found known (now buf) ⌝ }
     ensures { λ r. ⌜ r ≡ min known (judgedAt format (now (s .entry))) ⌝ }
     ensures { λ _. ⌜ now (buf .exit) ≡ now (buf .entry) ⌝ }
 {
@@ -314,10 +314,10 @@ pub(crate) fn left_out(
     if known <= 1 {
         return known;
     }
-    find(format, &s[..known], 0, 1, 0, ended, buf).judged
+    find(format, &s[..known], 0, 1, 0, false, buf).judged
 }
 
-// The same over all places of a segment that goes on, where `known` bytes were judged at the first before, and are not counted again. On a clean line each
+// As `find`, over all places of a segment that goes on, where `known` bytes were judged at the first before, and are not counted again. On a clean line each
 // frame stands at the front, so that place is judged before the loop, whose set-up then costs nothing, and judged and handed out at once.
 pub(crate) fn find_first(
     format: Format,

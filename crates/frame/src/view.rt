@@ -47,7 +47,7 @@ fn refused(view: View, refusal: Refusal) -> Viewed
     }
 }
 
-// Whether a view's held bytes lie in a chunk of so many bytes, and a reader can hold them with its number of judged bytes.
+// Whether a view's held bytes lie in a chunk of so many bytes, and a reader can hold them with the view's number of judged bytes.
 fn is_inside(view: View, size: usize) -> bool
     ensures { λ r. ⌜ r ≡ inside view size ⌝ }
 {

@@ -81,7 +81,7 @@ fn part_at(reader: Reader, done: usize, end: usize, noise: usize, judged: usize,
     }
 }
 
-// Whether a reader's state is sound: one that `feed` and `quiet` do not refuse.
+// Whether a reader's state is sound: one that `feed` and `quiet` do not refuse with 16.
 fn is_sound(reader: Reader) -> bool
     ensures { λ r. ⌜ r ≡ sound reader ⌝ }
 {

@@ -13,7 +13,7 @@
 //   them.
 //
 // A row is printed with the count of its bytes in their place. Each call then prints a line, in which JUDGED is how many bytes it judged, each counted once at
-// every place where it was judged:
+// every place where it was, without those that the state said were judged:
 // - `feed TAKEN NOISE JUDGED frame PAYLOAD`, `feed TAKEN NOISE JUDGED more`;
 // - `quiet NOISE JUDGED frame PAYLOAD`, `quiet NOISE JUDGED empty`;
 // - `feed refused NUMBER state kept buffer kept` and the same of `quiet`, behind `short` for a buffer of 255 bytes and `long` for a chunk of

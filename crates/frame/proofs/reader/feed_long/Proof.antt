@@ -139,6 +139,7 @@ left-out-requires c κs =
     let s = start (joined-at x) in
     let long = joined-size (joined-at x) in
     record {
+      ends = false;
       places = s .args .count;
       reached = s .args .count;
       few = s .pre .known;
@@ -181,7 +182,7 @@ feed-chunk-requires c κs =
       near = omega (arith, h .there, long);
       small = omega (arith, p .fits, limit-most (s .args .format));
       few = omega (arith, counted x, count-most (s .args .format) (judge (s .args .format)) (s .args .count) w, p .fits, limit-most (s .args .format));
-      room = omega (arith, p .room, x .find .kept .1 .1 .1 .1 .1 .1 .0, y .left-out .kept .1 .1 .1 .1 .1 .0);
+      room = omega (arith, p .room, x .find .kept .1 .1 .1 .1 .1 .1 .0, y .left-out .kept .1 .1 .1 .1 .0);
     }
 
 same-length : tie.Need-same-length

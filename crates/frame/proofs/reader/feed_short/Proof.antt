@@ -140,6 +140,7 @@ left-out-requires c κs =
     let s = start (copy-at x) in
     let long = whole-size (copy-at x) in
     record {
+      ends = false;
       places = s .args .count + length (s .args .chunk .now);
       reached = s .args .count;
       few = omega (arith, s .pre .0 .known);

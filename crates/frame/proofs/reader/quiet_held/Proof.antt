@@ -104,6 +104,7 @@ left-out-requires c κs =
     let x = c .before .before .before in
     let s = start x in
     record {
+      ends = true;
       places = length (s .args .s .now);
       reached = 0;
       few = s .pre .1 .0;

@@ -7,7 +7,7 @@ use mathlib.Core.Path.{_≡_, refl, sym, ap, _∙_}
 use borrow.Author.Needs.{needs}
 use lib.ListN.{length, take}
 use lib.Seq.{length-take-le}
-use Rattle.frame.specs.Framing.{judgedAt}
+use Rattle.frame.specs.Framing.{judge, judgedAt}
 use Rattle.frame.specs.Scan.{judging, Scanned, scanFrom, scanJudged, stopBuffer}
 use Rattle.frame.proofs.Numbers.{le-or-lt}
 use Rattle.frame.proofs.Counting.{judged-at-some, count-one, count-stays, known-front, front-stops}
@@ -25,7 +25,7 @@ returns : tie.Need-returns
 returns c =
     let a = c .before .before .before .before .before .args in
     let pre = c .before .before .before .before .before .pre in
-    let judgement = judging (a .ended) (a .format) in
+    let judgement = judging (pre .ends) (a .format) in
     let first : scanFrom judgement (pre .places) 0 (pre .reached) (a .s .now) .place ≡ 0 =
     sym (ap (λ (x : Scanned). x .place) (pre .scans)) ∙ c .before .if1 .taken
     in
@@ -73,16 +73,16 @@ returns-3 c =
     let x = c .before .before in
     let a = start x .args in
     let pre = start x .pre in
-    let judgement = judging (a .ended) (a .format) in
+    let judgement = judging (pre .ends) (a .format) in
     let front = take (a .known) (a .s .now) in
     let h = x .find .ensures in
     let later : scanFrom judgement (pre .places) 0 (pre .reached) (a .s .now) .place ≡ 0 → ⊥ =
     λ e. x .before .before .before .before .if1 .left (ap (λ (y : Scanned). y .place) (pre .scans) ∙ e)
     in (
-      h .1 .0 ∙ count-one (a .format) judgement front ∙ known-front (a .format) (a .known) (a .s .now) (known-there (start x)),
+      h .1 .0 ∙ count-one (a .format) (judge (a .format)) front ∙ known-front (a .format) (a .known) (a .s .now) (known-there (start x)),
       h .1 .1
           ∙ ap (λ (y : Scanned). stopBuffer (y .stop) (a .buf .now)) (h .0)
-          ∙ front-stops (a .ended) (a .format) (a .known) (a .s .now) (a .buf .now) (pre .places) (pre .reached) later,
+          ∙ front-stops (pre .ends) (a .format) (a .known) (a .s .now) (a .buf .now) (pre .places) (pre .reached) later,
     )
 
 pub left-out-spec : {M : Type 1} → statement M
