@@ -35,6 +35,7 @@ pub struct Answer {
     pub noise: usize,
     pub judged: usize,
     pub len: usize,
+    pub began: usize,
 }
 
 #[repr(C)]

@@ -1,6 +1,6 @@
 //! The cases: each runs the library and the model on the same input and compares every number, every byte of a buffer and the state.
 use crate::boundary::{self as library, Answer, Fed, FromModule, Reader, Reading, ToModule, Writing};
-use crate::frames::{self, Call, Format, Framing, State};
+use crate::frames::{self, Call, Format, Framing, Output, State};
 use crate::messages;
 use crate::random::{self, Random};
 use crate::Tally;
@@ -244,14 +244,14 @@ pub fn walk(r: &mut Random, tally: &mut Tally) -> Outcome {
     same("setting", &|| format!("setting_at index {far} list {}", hex(&list)), library::setting_at(&list, far), messages::setting_at(&list, far))
 }
 
-/// A reader of the library beside the model's state.
+/// A reader of the library beside the model's state, how many bytes of the segment were taken, held ones of a state made by hand among them, and what the
+/// library's answers make up together.
 struct Pair {
     format: Format,
     reader: Reader,
     state: State,
-    frames: Vec<Vec<u8>>,
-    noise: usize,
-    judged: usize,
+    taken: usize,
+    given: Output,
 }
 
 /// What a call was given, for a report.
@@ -263,7 +263,7 @@ fn told(name: &str, r: &Reader, chunk: &[u8], room: usize) -> String {
 impl Pair {
     fn new(format: Format) -> Pair {
         let reader = library::new_reader(format_number(format));
-        Pair { format, reader, state: State::default(), frames: Vec::new(), noise: 0, judged: 0 }
+        Pair { format, reader, state: State::default(), taken: 0, given: Output::default() }
     }
 
     fn over_limit(&self) -> bool {
@@ -294,7 +294,7 @@ impl Pair {
         };
         let is_frame = call.payload.is_some() as u8;
         let held = &call.state.held;
-        let answer = Answer { refusal: 0, is_frame, taken: call.taken, noise: call.noise, judged: call.judged, len };
+        let answer = Answer { refusal: 0, is_frame, taken: call.taken, noise: call.noise, judged: call.judged, len, began: call.began };
         same("answer", input, got.answer, answer)?;
         same("buffer", input, buf, &after[..])?;
         same("format", input, got.reader.format, self.reader.format)?;
@@ -307,9 +307,14 @@ impl Pair {
         }
         self.reader = got.reader;
         self.state = call.state;
-        self.noise += call.noise;
-        self.judged += got.answer.judged;
-        self.frames.extend(call.payload);
+        self.taken += got.answer.taken;
+        self.given.noise += got.answer.noise;
+        self.given.judged += got.answer.judged;
+        if let Some(p) = call.payload {
+            self.given.frames.push(p);
+            self.given.places.push(self.taken - got.answer.began);
+            self.given.began.push(got.answer.began);
+        }
         Ok(())
     }
 
@@ -336,6 +341,7 @@ impl Pair {
         let call = frames::feed(self.format, &self.state, chunk);
         let (taken, is_frame) = (call.taken, call.payload.is_some());
         tally.add("line calls that give a frame", is_frame);
+        tally.add("line calls that give a frame with taken bytes behind it", is_frame && !call.state.held.is_empty());
         tally.add("line calls that give a frame that ends with an LF alone", self.format == Format::AnyEnding && is_frame && !call.state.follows);
         tally.optional_in_line(self.format, &self.state, chunk);
         self.answered(call, false, &input, got, &buf, &before)?;
@@ -364,6 +370,7 @@ impl Pair {
         let call = frames::quiet(self.format, &self.state);
         let is_frame = call.payload.is_some();
         tally.add("quiet calls that give a frame", is_frame);
+        tally.add("quiet calls that give a frame with taken bytes behind it", is_frame && !call.state.held.is_empty());
         tally.optional_in_quiet(self.format, &self.state, &call);
         self.answered(call, !is_frame, &input, got, &buf, &before)?;
         Ok(is_frame)
@@ -392,7 +399,7 @@ impl Pair {
         Ok(())
     }
 
-    /// A whole chunk: its rest again until more bytes are needed.
+    /// A whole chunk: its rest again until more bytes are needed, or now and then only until all of it is taken.
     fn chunk(&mut self, r: &mut Random, tally: &mut Tally, mut rest: &[u8]) -> Outcome {
         let is_split = self.state.held.is_empty() && self.state.meets_optional(self.format, rest);
         tally.optional_apart(self.format, is_split);
@@ -401,7 +408,7 @@ impl Pair {
             let room = 256 + r.below(8);
             let (taken, is_frame) = self.feed(r, tally, rest, room)?;
             rest = &rest[taken..];
-            if !is_frame {
+            if !is_frame || (rest.is_empty() && r.once_in(4)) {
                 return Ok(());
             }
         }
@@ -419,18 +426,23 @@ impl Pair {
     }
 
     /// Frames and noise since `start` are those of the leftmost rule over the whole segment, whose bytes that were not held then are `rest`. The numbers of
-    /// judged bytes that the calls gave, quiet ones too, make up the rule's own count, which is bounded by the segment's length.
+    /// judged bytes that the calls gave, quiet ones too, make up the rule's own count, which is bounded by the segment's length. How far back each frame
+    /// began does not depend on the cuts: from behind the furthest byte that the rule has judged to the frame's place. Counted back from behind the bytes
+    /// taken, which at a quiet call are all of the segment, it leads to that place.
     fn by_rule(&self, start: &State, rest: &[u8], tally: &mut Tally) -> Outcome {
         let output = start.rule(self.format, rest);
         tally.frames += output.frames.len();
         tally.noise += output.noise;
         tally.judged += output.judged;
         let input = || format!("segment {:?} from {start:?} {}", self.format, hex(rest));
-        same("payloads of the segment", &input, &self.frames, &output.frames)?;
-        same("noise of the segment", &input, self.noise, output.noise)?;
-        same("judged bytes of the segment", &input, self.judged, output.judged)?;
-        let most = self.format.most_judged() * (start.held.len() + rest.len());
-        same("judged bytes within their bound", &input, self.judged <= most, true)
+        let size = start.held.len() + rest.len();
+        same("payloads of the segment", &input, &self.given.frames, &output.frames)?;
+        same("how far back the frames of the segment began", &input, &self.given.began, &output.began)?;
+        same("places of the frames of the segment", &input, &self.given.places, &output.places)?;
+        same("bytes taken of the segment", &input, self.taken, size)?;
+        same("noise of the segment", &input, self.given.noise, output.noise)?;
+        same("judged bytes of the segment", &input, self.given.judged, output.judged)?;
+        same("judged bytes within their bound", &input, self.given.judged <= self.format.most_judged() * size, true)
     }
 }
 
@@ -468,7 +480,7 @@ fn drive(pair: &mut Pair, r: &mut Random, tally: &mut Tally, segment: &[u8]) -> 
     if r.once_in(4) {
         pair.chunk(r, tally, &[])?;
     }
-    let is_marked = pair.state.follows;
+    let is_marked = pair.state.follows && pair.state.held.is_empty();
     pair.end(r, tally)?;
     Ok(is_marked)
 }
@@ -482,9 +494,8 @@ pub fn segment(r: &mut Random, tally: &mut Tally) -> Outcome {
         tally.optional_after_quiet(pair.format, was_marked && s.first().copied() == pair.format.optional());
         was_marked = drive(&mut pair, r, tally, &s)?;
         pair.by_rule(&State::default(), &s, tally)?;
-        pair.frames.clear();
-        pair.noise = 0;
-        pair.judged = 0;
+        pair.taken = 0;
+        pair.given = Output::default();
     }
     Ok(())
 }
@@ -526,9 +537,10 @@ pub fn made_state(r: &mut Random, tally: &mut Tally) -> Outcome {
         return pair.quiet(r, tally, room).map(drop);
     }
     let held = pair.reader.held[..pair.reader.count].to_vec();
-    let start = State { held, follows: pair.reader.follows == 1, judged: pair.reader.judged };
+    let start = State { held, follows: pair.reader.follows == 1, judged: pair.reader.judged, place: 0 };
     tally.judged_in_state(pair.format, &start);
     pair.state = start.clone();
+    pair.taken = start.held.len();
     let rest = if r.once_in(3) { Vec::new() } else { random::next_segment(r, pair.format.framing()) };
     drive(&mut pair, r, tally, &rest)?;
     pair.by_rule(&start, &rest, tally)

@@ -1,5 +1,5 @@
-//! Document 01's frames, leftmost rule and line reader, with CR 2, CR 7 and CR 9 of document 02, byte by byte. Nothing is shared with the library: this is
-//! a second reading of the same text.
+//! Document 01's frames, leftmost rule and line reader, with CR 2, CR 7, CR 9 and CR 14 of document 02, byte by byte. Nothing is shared with the library:
+//! this is a second reading of the same text.
 
 /// How frames are written.
 #[derive(Clone, Copy, Debug, PartialEq)]
@@ -220,25 +220,34 @@ pub fn write_frame(framing: Framing, payload: &[u8], room: usize) -> Result<Vec<
     Ok(out)
 }
 
-/// What the leftmost rule makes of a segment: the payloads, the noise, and its own count of judged bytes.
+/// What the leftmost rule makes of a segment: the payloads, the places of their frames, how far before the first untaken byte each of these began, the noise,
+/// and the rule's own count of judged bytes.
 #[derive(Default)]
 pub struct Output {
     pub frames: Vec<Vec<u8>>,
+    pub places: Vec<usize>,
+    pub began: Vec<usize>,
     pub noise: usize,
     pub judged: usize,
 }
 
-/// The leftmost rule over a whole segment. It counts the bytes judged at each place at which it stands; it never stands at an optional byte behind a frame.
-fn rule(format: Format, segment: &[u8]) -> Output {
+/// The leftmost rule over a whole segment, from a place on. It counts the bytes judged at each place at which it stands; it never stands at an optional byte
+/// behind a frame. Of a segment whose first `taken` bytes were held from the start, a reader that hands out a frame has taken these, and all up to the
+/// furthest byte that was judged at the frame's place or an earlier one.
+fn rule(format: Format, segment: &[u8], mut place: usize, taken: usize) -> Output {
     let mut output = Output::default();
-    let mut place = 0;
+    let mut furthest = taken;
     while place < segment.len() {
         let rest = &segment[place..];
         let verdict = judge(format, rest);
-        output.judged += verdict.judged(rest.len());
+        let judged = verdict.judged(rest.len());
+        output.judged += judged;
+        furthest = furthest.max(place + judged);
         match verdict {
             Verdict::Frame { size, payload } => {
                 output.frames.push(payload);
+                output.places.push(place);
+                output.began.push(furthest - place);
                 place += size + has_optional(format, rest, size) as usize;
             }
             _ => {
@@ -268,12 +277,14 @@ fn judged_to_stop(format: Format, line: &[u8], has_ended: bool) -> usize {
 }
 
 /// What a reader remembers between calls: undecided bytes, whether the optional byte of the frame that it gave last may follow, and how many of the held
-/// bytes were judged at the place of the first.
+/// bytes were judged at the place of the first. Beside it, what no reader of the library knows: `place`, where in the segment the first held byte stands, or
+/// the next one where none is held.
 #[derive(Clone, Debug, Default, PartialEq)]
 pub struct State {
     pub held: Vec<u8>,
     pub follows: bool,
     pub judged: usize,
+    pub place: usize,
 }
 
 impl State {
@@ -304,33 +315,42 @@ impl State {
         judged_to_stop(format, &self.judgeable(format, chunk), has_ended) - self.counted_before(format, chunk)
     }
 
-    /// The rule from this state on, where `rest` is what is to come of the segment. It counts all that it judges but what was counted before.
+    /// The rule from this state on, where the held bytes come first in the segment and then `rest`. It counts all that it judges but what was counted before.
     pub fn rule(&self, format: Format, rest: &[u8]) -> Output {
-        let mut output = rule(format, &self.judgeable(format, rest));
+        let segment = [&self.held, rest].concat();
+        let mut output = rule(format, &segment, self.meets_optional(format, rest) as usize, self.held.len());
         output.judged -= self.counted_before(format, rest);
         output
     }
+
+    /// Where in the segment the first byte stands that was not taken.
+    fn untaken(&self) -> usize {
+        self.place + self.held.len()
+    }
 }
 
-/// What a line or quiet call does, where it is not refused.
+/// What a line or quiet call does, where it is not refused. Where it gives a frame, `began` is how far before the first untaken byte that began.
 #[derive(Clone, Debug, PartialEq)]
 pub struct Call {
     pub taken: usize,
     pub noise: usize,
     pub judged: usize,
     pub payload: Option<Vec<u8>>,
+    pub began: usize,
     pub state: State,
 }
 
 /// The line call by the taking rule: a further byte is taken only while the held bytes are empty or have passed every check without completing a frame.
 /// Before that the optional byte that may follow is passed over; it is taken if it was not held. All bytes held when more are needed were judged at the place
-/// of the first; behind a frame none were.
+/// of the first; behind a frame none were. The place moves on by each byte that is dropped or handed out.
 pub fn feed(format: Format, state: &State, chunk: &[u8]) -> Call {
     let judged = state.judged_by_call(format, chunk, false);
     let mut held = state.held.clone();
+    let mut place = state.place;
     let mut taken = 0;
     let mut noise = 0;
     if state.meets_optional(format, chunk) {
+        place += 1;
         if held.is_empty() {
             taken += 1;
         } else {
@@ -343,12 +363,15 @@ pub fn feed(format: Format, state: &State, chunk: &[u8]) -> Call {
                 Verdict::Cut => break,
                 Verdict::Fails { .. } => {
                     held.remove(0);
+                    place += 1;
                     noise += 1;
                 }
                 Verdict::Frame { size, payload } => {
+                    let began = state.untaken() + taken - place;
                     let follows = format.may_follow(held[size - 1]);
                     held.drain(..size);
-                    return Call { taken, noise, judged, payload: Some(payload), state: State { held, follows, judged: 0 } };
+                    let state = State { held, follows, judged: 0, place: place + size };
+                    return Call { taken, noise, judged, payload: Some(payload), began, state };
                 }
             }
         }
@@ -360,25 +383,32 @@ pub fn feed(format: Format, state: &State, chunk: &[u8]) -> Call {
     }
     let nothing_came = state.held.is_empty() && chunk.is_empty();
     let count = held.len();
-    Call { taken, noise, judged, payload: None, state: State { held, follows: state.follows && nothing_came, judged: count } }
+    let state = State { held, follows: state.follows && nothing_came, judged: count, place };
+    Call { taken, noise, judged, payload: None, began: 0, state }
 }
 
-/// The quiet call: the held bytes end the segment, so an unfinished frame fails like any other, and no optional byte comes any more but a held one.
+/// The quiet call: the held bytes end the segment, so an unfinished frame fails like any other, and no optional byte comes any more but a held one. The first
+/// untaken byte would stand at the segment's end. Behind "empty" the next segment begins.
 pub fn quiet(format: Format, state: &State) -> Call {
     let judged = state.judged_by_call(format, &[], true);
     let mut held = state.held.clone();
+    let mut place = state.place;
     let mut noise = 0;
     if state.meets_optional(format, &[]) {
         held.remove(0);
+        place += 1;
     }
     while !held.is_empty() {
         if let Verdict::Frame { size, payload } = judge(format, &held) {
+            let began = state.untaken() - place;
             let follows = format.may_follow(held[size - 1]);
             held.drain(..size);
-            return Call { taken: 0, noise, judged, payload: Some(payload), state: State { held, follows, judged: 0 } };
+            let state = State { held, follows, judged: 0, place: place + size };
+            return Call { taken: 0, noise, judged, payload: Some(payload), began, state };
         }
         held.remove(0);
+        place += 1;
         noise += 1;
     }
-    Call { taken: 0, noise, judged, payload: None, state: State::default() }
+    Call { taken: 0, noise, judged, payload: None, began: 0, state: State::default() }
 }

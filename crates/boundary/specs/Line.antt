@@ -20,7 +20,15 @@ use Rattle.boundary.specs.declared.line.LineFed.{LineFed}
 -- The numbers of an answer as they cross.
 abbrev pub flatValues : Values → LineAnswer
 flatValues v =
-    record { refusal = v .number; «is_frame» = v .isFrame; taken = v .taken; noise = v .noise; judged = v .judged; len = v .len }
+    record {
+      refusal = v .number;
+      «is_frame» = v .isFrame;
+      taken = v .taken;
+      noise = v .noise;
+      judged = v .judged;
+      len = v .len;
+      began = v .began;
+    }
 
 -- The mark as it crosses: 1 for yes, 0 for no. Any other number is no mark.
 abbrev pub markNumber : Bool → ℕ

@@ -22,7 +22,8 @@ pub struct LineReader {
     pub judged: usize,
 }
 
-// The answer's numbers: the refusal's, 0 for none, whether there is a frame, bytes taken, noise, bytes judged, and the payload's length.
+// The answer's numbers: the refusal's, 0 for none, whether there is a frame, bytes taken, noise, bytes judged, the payload's length, and how far before the
+// first byte that is not taken the frame began, at a quiet before the segment's end.
 #[repr(C)]
 pub struct LineAnswer {
     pub refusal: u8,
@@ -31,6 +32,7 @@ pub struct LineAnswer {
     pub noise: usize,
     pub judged: usize,
     pub len: usize,
+    pub began: usize,
 }
 
 // An answer with the state that follows.
@@ -50,6 +52,7 @@ fn refused(number: u8) -> LineAnswer
         noise: 0,
         judged: 0,
         len: 0,
+        began: 0,
     }
 }
 
@@ -62,6 +65,7 @@ fn fed_numbers(answer: FeedAnswer) -> LineAnswer
             noise,
             judged,
             len,
+            began,
         } => LineAnswer {
             refusal: 0,
             is_frame: true,
@@ -69,6 +73,7 @@ fn fed_numbers(answer: FeedAnswer) -> LineAnswer
             noise: noise,
             judged: judged,
             len: len,
+            began: began,
         },
         FeedAnswer::NeedsMore {
             taken,
@@ -81,6 +86,7 @@ fn fed_numbers(answer: FeedAnswer) -> LineAnswer
             noise: noise,
             judged: judged,
             len: 0,
+            began: 0,
         },
         FeedAnswer::Refused(refusal) => refused(refusal.number()),
     }
@@ -90,13 +96,19 @@ fn quiet_numbers(answer: QuietAnswer) -> LineAnswer
     ensures { λ r. ⌜ r ≡ flatValues (quietValuesOf answer) ⌝ }
 {
     match answer {
-        QuietAnswer::Frame { noise, judged, len } => LineAnswer {
+        QuietAnswer::Frame {
+            noise,
+            judged,
+            len,
+            began,
+        } => LineAnswer {
             refusal: 0,
             is_frame: true,
             taken: 0,
             noise: noise,
             judged: judged,
             len: len,
+            began: began,
         },
         QuietAnswer::Empty { noise, judged } => LineAnswer {
             refusal: 0,
@@ -105,6 +117,7 @@ fn quiet_numbers(answer: QuietAnswer) -> LineAnswer
             noise: noise,
             judged: judged,
             len: 0,
+            began: 0,
         },
         QuietAnswer::Refused(refusal) => refused(refusal.number()),
     }

@@ -13,10 +13,10 @@ use Rattle.frame.specs.Binary.{binary}
 use Rattle.frame.specs.Ascii.{ascii}
 use Rattle.frame.specs.Framing.{judge, judgedAt, absorbed}
 use Rattle.frame.specs.Rule.{Output, nothing, join, places, ruleJudged}
-use Rattle.frame.specs.Reader.{State, holding, Settled, settled, settle, Called, lineOn, lineBehind, line, ended, quietHeld, quiet}
+use Rattle.frame.specs.Reader.{State, holding, Settled, settle, Called, lineOn, lineBehind, line, ended, quietHeld, quiet}
 use Rattle.frame.specs.Reader.{judgedTo, leftOut, countFrom, lineJudged, quietJudged, judgedHeld, after, stateOf, Holds, Values, feedValuesOf}
 use Rattle.frame.specs.Reader.{Feeds, refusalValues}
-use Rattle.frame.specs.Drain.{before, drain, afterDrain, judgedAfter, drainJudged}
+use Rattle.frame.specs.Drain.{Drained, drained, before, drain, afterDrain, judgedAfter, drainJudged}
 use Rattle.frame.specs.Calls.{Answered, Phase, offering, ending, over}
 use Rattle.frame.specs.Calls.{Calls, fed, taken, quieted, emptied, feedRefused, quietRefused, done}
 use Rattle.frame.specs.Counts.{LineCounts, QuietCounts, DrainCounts, DrainSums, AbsorbedNotJudged, judgedBy, CallsCount, CallsCountFrom}
@@ -174,7 +174,7 @@ drained-frames :
 unfolding join
 drained-frames s chunk =
     let c : Called = line s chunk in
-    ap (λ (d : Settled). length (d .out .frames)) (line-drains s chunk)
+    ap (λ (d : Drained). length (d .out .frames)) (line-drains s chunk)
     ∙ length-append (c .out .frames) (drain (after s c) (drop (c .taken) chunk) .out .frames)
 
 -- The first call needs more bytes.
@@ -184,7 +184,7 @@ drained-last s chunk l e =
     let c : Called = line s chunk in
     let n = needs-more-is-true s chunk e .0 in
     let todo : drop (c .taken) chunk ≡ [] = ap (λ (k : ℕ). drop k chunk) n ∙ drop-length chunk in
-    let d : drain s chunk ≡ before (c .out) (settled nothing (c .held) (c .follows)) =
+    let d : drain s chunk ≡ before (c .out) (drained nothing (c .held) (c .follows)) =
     line-drains s chunk ∙ ap (λ (t : List ℕ). before (c .out) (drain (after s c) t)) todo ∙ ap (before (c .out)) (needs-more-is-drained s chunk e) in
     let state : after s c ≡ afterDrain s (drain s chunk) =
     ap (λ (fs : List (List ℕ)). holding (s .format) (c .held) (c .follows) (judgedHeld fs (c .held))) e ∙ sym (ap (afterDrain s) d) in
@@ -215,21 +215,21 @@ drained-next s chunk l k =
     }
 
 -- All of them: each but the last hands out a frame of those that are drained.
-drained :
+drained-all :
     (n : ℕ) (s : State) (chunk : List ℕ) (fs : List (List ℕ)) → line s chunk .out .frames ≡ fs → length (drain s chunk .out .frames) ≤ n →
     s .judged ≤ length (s .held) → DrainedSo s chunk
-drained zero s chunk [] e m l = drained-last s chunk l e
-drained (suc n) s chunk [] e m l = drained-last s chunk l e
-drained zero s chunk (p ∷ ps) e m l = absurd (let z : ⊥ = omega (arith, m, drained-frames s chunk, ap length e) in z)
-drained (suc n) s chunk (p ∷ ps) e m l =
+drained-all zero s chunk [] e m l = drained-last s chunk l e
+drained-all (suc n) s chunk [] e m l = drained-last s chunk l e
+drained-all zero s chunk (p ∷ ps) e m l = absurd (let z : ⊥ = omega (arith, m, drained-frames s chunk, ap length e) in z)
+drained-all (suc n) s chunk (p ∷ ps) e m l =
     let c : Called = line s chunk in
     drained-next s chunk l
-    (drained n (after s c) (drop (c .taken) chunk) (line (after s c) (drop (c .taken) chunk) .out .frames) refl
+    (drained-all n (after s c) (drop (c .taken) chunk) (line (after s c) (drop (c .taken) chunk) .out .frames) refl
     (omega (arith, m, drained-frames s chunk, ap length e)) (judged-few (c .out .frames) (c .held)))
 
 pub drain-counts : DrainCounts
 drain-counts s chunk more l =
-    let k = drained (length (drain s chunk .out .frames)) s chunk (line s chunk .out .frames) refl (le-refl _) l in
+    let k = drained-all (length (drain s chunk .out .frames)) s chunk (line s chunk .out .frames) refl (le-refl _) l in
     let whole : judgedAfter s chunk ≡ k .counted + judgedAfter (afterDrain s (drain s chunk)) [] =
     ap (judgedAfter s) (sym (append-nil chunk)) ∙ k .rest [] in
     omega (arith, k .rest more, whole)

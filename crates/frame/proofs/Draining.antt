@@ -12,8 +12,8 @@ use lib.Seq.{drop-append-le}
 use Rattle.frame.specs.Checks.{Verdict, cut, refused, frame}
 use Rattle.frame.specs.Framing.{judge, read, isOpen, isOptional, behindOptional}
 use Rattle.frame.specs.Rule.{Output, nothing, noiseByte, handed, join, passAfter, outAt, payloads}
-use Rattle.frame.specs.Reader.{Settled, settled, Called, line}
-use Rattle.frame.specs.Drain.{before, drainAs, followsAfter, drainFrom}
+use Rattle.frame.specs.Reader.{Called, line}
+use Rattle.frame.specs.Drain.{Drained, drained, before, drainAs, followsAfter, drainFrom}
 use Rattle.frame.specs.Draining.{LineDrains, NeedsMoreIsDrained, DrainFollowsRule, DrainIsSized}
 use Rattle.frame.specs.Draining.{overhead, sizeOf, RuleIsSized}
 use Rattle.frame.specs.declared.framing.Footer.the-variants.{Optional, Required}
@@ -26,13 +26,13 @@ use Rattle.frame.proofs.Rules.{join-nothing, join-assoc, ruleFrom, rule
 use Rattle.frame.proofs.Settling.{line-over, line-unmarked, needs-more-is-true}
 use Rattle.frame.proofs.Shapes.{NoFrame, IsRefused, judge-stands}
 
--- Nothing before what was settled adds nothing.
-before-nothing : (st : Settled) → before nothing st ≡ st
-before-nothing st = ap (λ (o : Output (List ℕ)). settled o (st .rest) (st .follows)) (join-nothing (st .out))
+-- Nothing before what was drained adds nothing.
+before-nothing : (st : Drained) → before nothing st ≡ st
+before-nothing st = ap (λ (o : Output (List ℕ)). drained o (st .rest) (st .follows)) (join-nothing (st .out))
 
 -- Outputs are put before it in any grouping.
-before-join : (x y : Output (List ℕ)) (st : Settled) → before (join x y) st ≡ before x (before y st)
-before-join x y st = ap (λ (o : Output (List ℕ)). settled o (st .rest) (st .follows)) (join-assoc x y (st .out))
+before-join : (x y : Output (List ℕ)) (st : Drained) → before (join x y) st ≡ before x (before y st)
+before-join x y st = ap (λ (o : Output (List ℕ)). drained o (st .rest) (st .follows)) (join-assoc x y (st .out))
 
 module _ (f : Format) where
   -- To pass over bytes is to begin behind them.
@@ -57,7 +57,7 @@ module _ (f : Format) where
       by-byte false = refl
 
   -- What is drained at a place of this verdict.
-  abbrev drainedAs : Verdict → ℕ → List ℕ → Settled
+  abbrev drainedAs : Verdict → ℕ → List ℕ → Drained
   drainedAs v b s = drainAs v (b ∷ s) (drainFrom f (followsAfter f v (b ∷ s)) (passAfter v) s)
 
   drain-here : (b : ℕ) (s : List ℕ) (v : Verdict) → judge f (b ∷ s) ≡ v → drainFrom f false 0 (b ∷ s) ≡ drainedAs v b s
@@ -81,18 +81,18 @@ module _ (f : Format) where
   drain-frame (suc used) p (b ∷ s) e = drain-here b s (frame (suc used) p) e ∙ ap (before (handed p)) (drain-pass (isOpen f (suc used) (b ∷ s)) used s)
 
   -- Undecided bytes stay.
-  drain-cut : (s : List ℕ) → judge f s ≡ cut → drainFrom f false 0 s ≡ settled nothing s false
+  drain-cut : (s : List ℕ) → judge f s ≡ cut → drainFrom f false 0 s ≡ drained nothing s false
   unfolding drainFrom
   drain-cut [] e = refl
   drain-cut (b ∷ s) e = drain-here b s cut e
 
   -- Of nothing nothing is drained, and the mark stays.
-  drain-nil : (follows : Bool) (s : List ℕ) → s ≡ [] → drainFrom f follows 0 s ≡ settled nothing s follows
+  drain-nil : (follows : Bool) (s : List ℕ) → s ≡ [] → drainFrom f follows 0 s ≡ drained nothing s follows
   unfolding drainFrom
   drain-nil follows s e = rw e
 
-  -- What was settled gave the first part of what the rule gives, and the bytes still held stand for the rest of it.
-  abbrev Leads : Output (List ℕ) → Settled → List ℕ → Type 0
+  -- What was drained gave the first part of what the rule gives, and the bytes still held stand for the rest of it.
+  abbrev Leads : Output (List ℕ) → Drained → List ℕ → Type 0
   Leads o st more = o ≡ join (st .out) (givenBehind f (st .follows) (st .rest ++ more))
 
   -- At a place with this verdict.
@@ -102,7 +102,7 @@ module _ (f : Format) where
       Leads (given f ((b ∷ s) ++ more)) (drainedAs v b s) more
   drain-at b s more cut e later = sym (join-nothing (given f ((b ∷ s) ++ more)))
   drain-at b s more (refused judged n) e later =
-      let st : Settled = drainFrom f false 0 s in
+      let st : Drained = drainFrom f false 0 s in
       given-failed f b (s ++ more) (subst NoFrame (sym (judge-stands f (b ∷ s) more (refused judged n) tt e)) tt)
       ∙ ap (join noiseByte) (later false 0 zero-le)
       ∙ sym (join-assoc noiseByte (st .out) (givenBehind f (st .follows) (st .rest ++ more)))
@@ -110,7 +110,7 @@ module _ (f : Format) where
   drain-at b s more (frame (suc used) p) e later =
       let inside : used ≤ length s = omega (arith, frame-sized f (b ∷ s) p (suc used) e .there) in
       let q : Bool = isOpen f (suc used) (b ∷ s) in
-      let st : Settled = drainFrom f q used s in
+      let st : Drained = drainFrom f q used s in
       given-judged f (suc used) p ((b ∷ s) ++ more) (judge-stands f (b ∷ s) more (frame (suc used) p) tt e)
       ∙ ap₂ (λ (x : Bool) (t : List ℕ). join (handed p) (givenBehind f x t))
       (open-append f (suc used) (suc-le-suc zero-le) (b ∷ s) more (suc-le-suc inside))
@@ -183,8 +183,8 @@ drain-follows-rule s chunk more =
     ap (givenBehind f (s .follows)) (sym (append-assoc (s .held) chunk more)) ∙ drain-rule f (s .follows) 0 (s .held ++ chunk) more zero-le
 
 module _ (f : Format) where
-  -- What was settled of n bytes, with `pass` of them passed over, takes no more than there are.
-  abbrev Covers : Settled → ℕ → ℕ → Type 0
+  -- What was drained of n bytes, with `pass` of them passed over, takes no more than there are.
+  abbrev Covers : Drained → ℕ → ℕ → Type 0
   Covers st pass n = sizeOf f (st .out) + length (st .rest) + pass ≤ n
 
   -- One place of what is drained.

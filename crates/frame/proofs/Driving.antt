@@ -130,7 +130,7 @@ module _ (r : Reader) (l : StateFits r) where
   ends-frame n p ps e h later =
       let s′ : State = after (stateOf r) quietCall in
       let r′ : Reader = readerOf s′ in
-      let a : Quieted = record { reader = r′; answer = QuietFrame (quietCall .out .noise) (quietJudged (stateOf r)) (length p) } in
+      let a : Quieted = record { reader = r′; answer = QuietFrame (quietCall .out .noise) (quietJudged (stateOf r)) (length p) (quietCall .began) } in
       let q : Quiets r buffer a (inFront p buffer) =
       keeps quietCall (quietJudged (stateOf r)) (p ∷ ps) buffer r′ (quiet-free r l) h
       (subst
@@ -245,7 +245,8 @@ module _
           count = ap suc {x = countOf (k .calls)} (k .count);
         }
     goes-on (p ∷ ps) h =
-        let a : Fed = record { reader = next; answer = FeedFrame (call .taken) (call .out .noise) (lineJudged (stateOf r) chunk) (length p) } in
+        let a : Fed =
+        record { reader = next; answer = FeedFrame (call .taken) (call .out .noise) (lineJudged (stateOf r) chunk) (length p) (call .began) } in
         let q : Feeds r chunk buffer a (inFront p buffer) =
         keeps call (lineJudged (stateOf r) chunk) (p ∷ ps) buffer next (feed-free r chunk l (short .0)) h (reader-holds (after (stateOf r) call)) in
         let again : List (List ℕ) = drop (call .taken) chunk ∷ chunks in

@@ -28,7 +28,7 @@ use Rattle.frame.proofs.ScanCalls.{scan-chunk}
 
 -- None taken first is the call itself.
 none-first : (c : Called) → tookFirst 0 c ≡ c
-none-first c = ap (λ (n : ℕ). called n (c .out) (c .held) (c .follows)) (zero-add (c .taken))
+none-first c = ap (λ (n : ℕ). called n (c .out) (c .began) (c .held) (c .follows)) (zero-add (c .taken))
 
 -- With held bytes an optional one in front is dropped.
 pub behind-held :

@@ -37,6 +37,9 @@ pub mod RuleCounts
 pub mod CallCounts
 pub mod Bounds
 pub mod CountExamples
+-- Where frames stood.
+pub mod Positions
+pub mod CallPositions
 -- Good frames behind damage.
 pub mod Stretches
 pub mod AsciiRecovery

@@ -47,13 +47,13 @@ module _ (f : Format) (w : List ℕ) (before : Before) (place reach : ℕ) (end 
   pub kept-frame :
       (used len : ℕ) (follows : Bool) → follows ≡ isOpen f used (drop place w) → end ≡ Frame used len → length (payloadAt f (drop place w) len) ≡ len →
       place + used ≤ reach → reach ≤ length w → reach ≤ place + 517 →
-      Right end (keptAs (FeedFrame (reach - before .base) (before .noise + place) total len) (place + used) reach follows)
+      Right end (keptAs (FeedFrame (reach - before .base) (before .noise + place) total len (reach - place)) (place + used) reach follows)
   kept-frame used len follows u e l h k m =
       subst
-      (λ (x : ScanEnd). Right x (keptAs (FeedFrame (reach - before .base) (before .noise + place) total len) (place + used) reach follows))
+      (λ (x : ScanEnd). Right x (keptAs (FeedFrame (reach - before .base) (before .noise + place) total len (reach - place)) (place + used) reach follows))
       (sym e)
       (record {
-        values = ap (frameValues (reach - before .base) (before .noise + place) total) (sym l);
+        values = ap (λ (n : ℕ). frameValues (reach - before .base) (before .noise + place) total n (reach - place)) (sym l);
         held = refl;
         follows = u;
         inside = h;

@@ -28,9 +28,9 @@ use Rattle.frame.proofs.Scanning.{step-refused, step-frame, step-undeci
 
 -- What a quiet call gives where the scan of s stopped so at a place.
 abbrev quietBy : Format → List ℕ → Stop → ℕ → Called
-quietBy f s (found used p) place = called 0 (output (p ∷ []) place) (drop (place + used) s) (isOpen f used (drop place s))
-quietBy f s undecided place = called 0 (output [] place) (drop place s) false
-quietBy f s passed place = called 0 (output [] place) [] false
+quietBy f s (found used p) place = called 0 (output (p ∷ []) place) (length s - place) (drop (place + used) s) (isOpen f used (drop place s))
+quietBy f s undecided place = called 0 (output [] place) 0 (drop place s) false
+quietBy f s passed place = called 0 (output [] place) 0 [] false
 
 -- One step of settling at a place of s.
 settle-next :
@@ -55,7 +55,7 @@ module _ (f : Format) (s : List ℕ) where
       rw (settle-next f (judging true f) s place l, q, step-refused true f (length s) place reach s l judged n q, ← add-assoc)
       (later (max reach (place + judged)))
   quiet-at place reach (frame used p) l q later =
-      rw (settle-next f (judging true f) s place l, q, step-frame true f (length s) place reach s l used p q, add-zero, drop-drop)
+      rw (settle-next f (judging true f) s place l, q, step-frame true f (length s) place reach s l used p q, add-zero, drop-drop, length-drop)
 
   -- A quiet from a place on.
   quiet-from :
@@ -76,12 +76,12 @@ module _ (f : Format) (s : List ℕ) where
   -- By the reason for which it stopped: at a frame, or behind the last place.
   pub scan-quiet-found :
       (x : Scanned) (used : ℕ) (p : List ℕ) → x ≡ scanFrom (judging true f) (length s) 0 0 s → x .stop ≡ found used p →
-      quietHeld f s ≡ called 0 (output (p ∷ []) (x .place)) (drop (x .place + used) s) (isOpen f used (drop (x .place) s))
+      quietHeld f s ≡ called 0 (output (p ∷ []) (x .place)) (length s - x .place) (drop (x .place + used) s) (isOpen f used (drop (x .place) s))
   scan-quiet-found x used p is q = rw q at (quiet-scan x is)
 
   pub scan-quiet-passed :
       (x : Scanned) → x ≡ scanFrom (judging true f) (length s) 0 0 s → x .stop ≡ passed →
-      quietHeld f s ≡ called 0 (output [] (x .place)) [] false
+      quietHeld f s ≡ called 0 (output [] (x .place)) 0 [] false
   scan-quiet-passed x is q = rw q at (quiet-scan x is)
 
 -- The bytes taken up to a decision, counted from the place at which it is made, or from the first byte on.
@@ -89,6 +89,10 @@ count-far :
     (base place reach judged : ℕ) → place ≤ reach → base ≤ reach →
     reach - base + (max (reach - place) judged - (reach - place)) ≡ max reach (place + judged) - base
 count-far base place reach judged l b = omega arith
+
+-- How far behind a place the bytes reach that were taken for a decision there.
+back-far : (place reach judged : ℕ) → place ≤ reach → max (reach - place) judged ≡ max reach (place + judged) - place
+back-far place reach judged l = omega arith
 
 -- The rest of a call at a place of w, where bytes up to `reach` are taken and `base` were held at first.
 abbrev callFrom : Format → List ℕ → ℕ → ℕ → ℕ → Called
@@ -119,7 +123,7 @@ module _ (f : Format) (w : List ℕ) (base place reach : ℕ) (l : place ≤ rea
       let count : reach - base + (length s - (reach - place)) ≡ size = omega (arith, length-drop place w) in
       let noise : place + 0 ≡ 0 + place = omega arith in
       ap (λ (c : Called). noisier place (tookFirst (reach - base) c)) (line-cut f s (reach - place) held-there q)
-      ∙ (λ i. called (count i) (output [] (noise i)) s false)
+      ∙ (λ i. called (count i) (output [] (noise i)) 0 s false)
 
   -- At a frame.
   call-frame :
@@ -133,8 +137,9 @@ module _ (f : Format) (w : List ℕ) (base place reach : ℕ) (l : place ≤ rea
       let noise : place + 0 ≡ 0 + place = omega arith in
       let count : reach - base + (max m used - m) ≡ far - base = count-far base place reach used l b in
       let held : take (max m used - used) (drop used s) ≡ part (place + used) far w = rw (left, drop-drop) in
+      let began : max m used ≡ far - place = back-far place reach used l in
       ap (λ (c : Called). noisier place (tookFirst (reach - base) c)) (line-found f s m used p held-there q)
-      ∙ (λ i. called (count i) (output (p ∷ []) (noise i)) (held i) (isOpen f used s))
+      ∙ (λ i. called (count i) (output (p ∷ []) (noise i)) (began i) (held i) (isOpen f used s))
 
   -- At a failed start.
   call-refused :
@@ -156,7 +161,7 @@ module _ (f : Format) (w : List ℕ) (base place reach : ℕ) (l : place ≤ rea
       ∙ ap (tookFirst (max m judged - m)) (line-failed f s (max m judged) judged n q (le-max-right m judged) ∙ rw (left, drop-drop 1 place w))
       in
       ap (λ (c : Called). noisier place (tookFirst (reach - base) c)) first
-      ∙ (λ i. called (count i) (output (c .out .frames) (noise i)) (c .held) (c .follows))
+      ∙ (λ i. called (count i) (output (c .out .frames) (noise i)) (c .began) (c .held) (c .follows))
 
 module _ (f : Format) (w : List ℕ) (base size n : ℕ) (all : base + size ≡ length w) where
   -- The scan at a place of this verdict goes on with the call.
@@ -194,7 +199,7 @@ module _ (f : Format) (w : List ℕ) (base size n : ℕ) (all : base + size ≡ 
 -- Behind the last byte of w nothing is left.
 call-over :
     (f : Format) (w : List ℕ) (base place reach : ℕ) → place ≡ length w → reach ≡ length w →
-    callFrom f w base place reach ≡ called (length w - base) (output [] place) [] false
+    callFrom f w base place reach ≡ called (length w - base) (output [] place) 0 [] false
 unfolding lineOn lineFrom settle
 call-over f w base place reach a b = rw (a, b, drop-length, sub-self, add-zero, add-zero)
 
@@ -287,7 +292,7 @@ module _ (f : Format) (held chunk : List ℕ) where
       rw (joined-front, drop-take)
       (open-take f used (sized .some) (length held + limit f - x .place) (drop (x .place) w) (omega (arith, sized .most, at .before)))
       in
-      λ i. called (x .reach - length held) (output (p ∷ []) (0 + x .place)) (same i) (marks i)
+      λ i. called (x .reach - length held) (output (p ∷ []) (0 + x .place)) (x .reach - x .place) (same i) (marks i)
   held-stop x undecided facts q =
       let at : AtUndecided false f (joined f held chunk) (length held) (x .place) = rw q at (facts .ends) in
       let short = undecided-short f (drop (x .place) (joined f held chunk)) (at .is-cut) in

@@ -8,7 +8,7 @@ use mathlib.Core.Path.{_≡_, refl, sym, ap, ap₂, _∙_, subst}
 use mathlib.Core.List.{List, [], _∷_, _++_, append-nil}
 use mathlib.Core.Bool.{Bool, true, false, cond}
 use lib.ListN.{length, getD, take, drop, length-append, take-append-drop}
-use lib.Seq.{drop-append-le, drop-cons, drop-length, drop-drop, take-suc, take-length, take-append-seam, drop-append-seam}
+use lib.Seq.{drop-append-le, drop-cons, drop-length, drop-drop, length-take-le, take-suc, take-length, take-append-seam, drop-append-seam}
 use Rattle.frame.specs.Checks.{Verdict, cut, refused, frame}
 use Rattle.frame.specs.Framing.{checks, judge, isOptional, isOpen, absorbed}
 use Rattle.frame.specs.Rule.{output, nothing, noiseByte, handed, join}
@@ -25,12 +25,12 @@ use Rattle.frame.proofs.Prefixes.{enough, too-few, front-undecided, jud
 
 -- A call with k bytes of noise more.
 abbrev pub noisier : ℕ → Called → Called
-noisier k c = called (c .taken) (output (c .out .frames) (k + c .out .noise)) (c .held) (c .follows)
+noisier k c = called (c .taken) (output (c .out .frames) (k + c .out .noise)) (c .began) (c .held) (c .follows)
 
 -- Noise that came out before a byte was taken does not change the call.
 noise-more :
     (st : Settled) (c : Called) (fs : List (List ℕ)) →
-    let st′ : Settled = settled (join noiseByte (st .out)) (st .rest) (st .follows) in
+    let st′ : Settled = settled (join noiseByte (st .out)) (st .began) (st .rest) (st .follows) in
     ifFrame fs (stopped st′) (oneMore (st′ .out) c) ≡ noisier 1 (ifFrame fs (stopped st) (oneMore (st .out) c))
 unfolding join
 noise-more st c [] = rw add-assoc
@@ -38,13 +38,14 @@ noise-more st c (p ∷ ps) = refl
 
 module _ (f : Format) where
   -- Undecided bytes stay as they are.
-  settle-cut : (h : List ℕ) → judge f h ≡ cut → settle f (judge f) h ≡ settled nothing h false
+  settle-cut : (h : List ℕ) → judge f h ≡ cut → settle f (judge f) h ≡ settled nothing 0 h false
   unfolding settle
   settle-cut [] q = refl
   settle-cut (b ∷ h) q = rw q
 
   -- A frame is handed out.
-  settle-frame : (h p : List ℕ) (used : ℕ) → judge f h ≡ frame used p → settle f (judge f) h ≡ settled (handed p) (drop used h) (isOpen f used h)
+  settle-frame :
+      (h p : List ℕ) (used : ℕ) → judge f h ≡ frame used p → settle f (judge f) h ≡ settled (handed p) (length h) (drop used h) (isOpen f used h)
   unfolding settle
   settle-frame [] p used q = let size = frame-sized f [] p used q in absurd (not-suc-le-zero (le-trans (size .some) (size .there)))
   settle-frame (b ∷ h) p used q = rw q
@@ -54,12 +55,12 @@ module _ (f : Format) where
   unfolding lineOn lineFrom
   line-more h b chunk q =
       let c : Called = lineOn f (h ++ (b ∷ [])) chunk in
-      rw (settle-cut h q, one-add) (λ i. called (suc (c .taken)) (join-nothing (c .out) i) (c .held) (c .follows))
+      rw (settle-cut h q, one-add) (λ i. called (suc (c .taken)) (join-nothing (c .out) i) (c .began) (c .held) (c .follows))
 
   -- A call stops at a frame.
   line-frame :
       (h p chunk : List ℕ) (used : ℕ) → judge f h ≡ frame used p →
-      lineOn f h chunk ≡ called 0 (handed p) (drop used h) (isOpen f used h)
+      lineOn f h chunk ≡ called 0 (handed p) (length h) (drop used h) (isOpen f used h)
   unfolding lineOn lineFrom
   line-frame h p [] used q = rw (settle-frame h p used q)
   line-frame h p (b ∷ chunk) used q = rw (settle-frame h p used q)
@@ -67,7 +68,7 @@ module _ (f : Format) where
   -- Nor does it change a call over a whole chunk.
   noise-first :
       (st : Settled) (chunk : List ℕ) →
-      lineFrom f (settled (join noiseByte (st .out)) (st .rest) (st .follows)) chunk ≡ noisier 1 (lineFrom f st chunk)
+      lineFrom f (settled (join noiseByte (st .out)) (st .began) (st .rest) (st .follows)) chunk ≡ noisier 1 (lineFrom f st chunk)
   unfolding lineFrom join
   noise-first st [] = refl
   noise-first st (b ∷ chunk) = noise-more st (lineFrom f (settle f (judge f) (st .rest ++ (b ∷ []))) chunk) (st .out .frames)
@@ -97,10 +98,10 @@ module _ (f : Format) where
         let rest : lineAt s (suc m) ≡ tookFirst d (lineAt s (m + suc d)) =
         rw next (advance d (suc m) (omega arith) (λ i a b. q i (omega arith) (omega arith))) in
         let count : 1 + (d + c .taken) ≡ suc d + c .taken = omega arith in
-        one ∙ ap (tookFirst 1) rest ∙ (λ i. called (count i) (c .out) (c .held) (c .follows))
+        one ∙ ap (tookFirst 1) rest ∙ (λ i. called (count i) (c .out) (c .began) (c .held) (c .follows))
 
     -- Undecided bytes are all taken.
-    pub line-cut : (m : ℕ) → m ≤ length s → judge f s ≡ cut → lineAt s m ≡ called (length s - m) nothing s false
+    pub line-cut : (m : ℕ) → m ≤ length s → judge f s ≡ cut → lineAt s m ≡ called (length s - m) nothing 0 s false
     unfolding lineOn lineFrom
     line-cut m l q =
         let all : m + (length s - m) ≡ length s = omega arith in
@@ -121,12 +122,13 @@ module _ (f : Format) where
     -- A frame.
     pub line-found :
         (m used : ℕ) (p : List ℕ) → m ≤ length s → judge f s ≡ frame used p →
-        lineAt s m ≡ called (max m used - m) (handed p) (take (max m used - used) (drop used s)) (isOpen f used s)
+        lineAt s m ≡ called (max m used - m) (handed p) (max m used) (take (max m used - used) (drop used s)) (isOpen f used s)
     line-found m used p l q =
         let far : ℕ = max m used in
         let there : judge f (take far s) ≡ frame used p = enough (checks f) s far (rw q tt) (rw q (omega arith)) ∙ q in
         let marks : isOpen f used (take far s) ≡ isOpen f used s = open-take f used (some-used f s p used q) far s (omega arith) in
-        rw q at (line-decided m l) ∙ rw (line-frame (take far s) p (drop far s) used there, add-zero, drop-take, marks)
+        let size : length (take far s) ≡ far = length-take-le far s (omega (arith, frame-sized f s p used q .there)) in
+        rw q at (line-decided m l) ∙ rw (line-frame (take far s) p (drop far s) used there, add-zero, drop-take, marks, size)
 
   -- A failed start with the bytes judged for it held.
   pub line-failed :
@@ -144,14 +146,15 @@ module _ (f : Format) where
   Whole s m st = (lineAt s m .out ≡ st .out) × (remaining (lineAt s m) (drop m s) ≡ st .rest) × (lineAt s m .follows ≡ st .follows)
 
   -- Undecided bytes.
-  whole-cut : (s : List ℕ) (m : ℕ) → m ≤ length s → judge f s ≡ cut → Whole s m (settled nothing s false)
+  whole-cut : (s : List ℕ) (m : ℕ) → m ≤ length s → judge f s ≡ cut → Whole s m (settled nothing 0 s false)
   whole-cut s m l q =
       let all : m + (length s - m) ≡ length s = omega arith in
       rw (line-cut s m l q) (refl, rw (drop-drop, all, drop-length) (append-nil s), refl)
 
   -- A frame.
   whole-frame :
-      (s : List ℕ) (m used : ℕ) (p : List ℕ) → m ≤ length s → judge f s ≡ frame used p → Whole s m (settled (handed p) (drop used s) (isOpen f used s))
+      (s : List ℕ) (m used : ℕ) (p : List ℕ) → m ≤ length s → judge f s ≡ frame used p →
+      Whole s m (settled (handed p) (length s) (drop used s) (isOpen f used s))
   whole-frame s m used p l q =
       let far : ℕ = max m used in
       let there : m + (far - m) ≡ used + (far - used) = omega arith in
@@ -160,7 +163,7 @@ module _ (f : Format) where
   -- A failed start, and what the bytes behind it give.
   whole-refused :
       (b m : ℕ) (s : List ℕ) (judged n : ℕ) (later : Settled) → judge f (b ∷ s) ≡ refused judged n → m ≤ length (b ∷ s) →
-      ((k : ℕ) → k ≤ length s → Whole s k later) → Whole (b ∷ s) m (settled (join noiseByte (later .out)) (later .rest) (later .follows))
+      ((k : ℕ) → k ≤ length s → Whole s k later) → Whole (b ∷ s) m (settled (join noiseByte (later .out)) (later .began) (later .rest) (later .follows))
   unfolding join
   whole-refused b m s judged n later q l w =
       let far : ℕ = max m judged in
@@ -233,12 +236,17 @@ none-follows m (b ∷ s) e = ap (λ (q : Bool). cond q 1 0) (e b)
 
 same-calls : {a b : Called} → a ≡ b → SameButMark a b
 same-calls e =
-    record { taken = ap (λ (c : Called). c .taken) e; out = ap (λ (c : Called). c .out) e; held = ap (λ (c : Called). c .held) e }
+    record {
+      taken = ap (λ (c : Called). c .taken) e;
+      out = ap (λ (c : Called). c .out) e;
+      began = ap (λ (c : Called). c .began) e;
+      held = ap (λ (c : Called). c .held) e;
+    }
 
 -- So a line call is the same with the mark and without.
 same-line :
     (m : Format) (h chunk : List ℕ) → ((b : ℕ) → isOptional m b ≡ false) → SameButMark (lineBehind m true h chunk) (lineBehind m false h chunk)
-same-line m [] [] e = record { taken = refl; out = refl; held = refl }
+same-line m [] [] e = record { taken = refl; out = refl; began = refl; held = refl }
 same-line m [] (b ∷ chunk) e = same-calls (ap (λ (n : ℕ). tookFirst n (lineOn m [] (drop n (b ∷ chunk)))) (none-follows m (b ∷ chunk) e))
 same-line m (b ∷ h) chunk e = same-calls (ap (λ (n : ℕ). lineOn m (drop n (b ∷ h)) chunk) (none-follows m (b ∷ h) e))
 

@@ -12,6 +12,7 @@ use Rattle.frame.specs.Draining.{FeedReports, QuietReports, ViewReports,
 use Rattle.frame.specs.Driving.{CanDrive, DrivesAreShort, StateNeverRefused, FeedStaysSound, QuietStaysSound, EndsFresh}
 use Rattle.frame.specs.Counts.{CallsCount, CallsCountFrom, RuleBound, CallsBound, StateBound, ColonsCount, NestedStartsCount, LineCounts, QuietCounts}
 use Rattle.frame.specs.Counts.{DrainCounts, DrainSums, FrameCounts, AbsorbedNotJudged, Unfinished, OptionalNotJudged, HandMadeCounts}
+use Rattle.frame.specs.Positions.{CallsStand, CutsAgree, CallsStandFrom, CallsGivePlaces, NoneIsZero, StoodExamples}
 use Rattle.frame.specs.MarkExamples.{NextCallTakesIt, OtherFormats, HeldBehindTheFrame, QuietEndsIt, AnyEnding}
 use Rattle.frame.specs.RecoveryExamples.{LostAndBack, ProvisoNeeded, MixedFooters, FooterRequired, AsciiBack, MixedLines, StrictLines, LfJudges}
 use Rattle.frame.specs.declared.framing.Footer.{Footer}
@@ -38,6 +39,7 @@ use Rattle.frame.proofs.RuleCounts as rule-counts
 use Rattle.frame.proofs.CallCounts as call-counts
 use Rattle.frame.proofs.Bounds as bounds
 use Rattle.frame.proofs.CountExamples as count-examples
+use Rattle.frame.proofs.CallPositions as call-positions
 
 pub layout-reads : (m : Format) → LayoutReads m
 layout-reads = optional.layout-reads
@@ -245,3 +247,21 @@ optional-not-judged = count-examples.optional-not-judged
 
 pub hand-made-counts : HandMadeCounts
 hand-made-counts = count-examples.hand-made-counts
+
+pub calls-stand : (f : Format) → CallsStand f
+calls-stand = call-positions.calls-stand
+
+pub cuts-agree : (f : Format) → CutsAgree f
+cuts-agree = call-positions.cuts-agree
+
+pub calls-stand-from : CallsStandFrom
+calls-stand-from = call-positions.calls-stand-from
+
+pub calls-give-places : (f : Format) → CallsGivePlaces f
+calls-give-places = call-positions.calls-give-places
+
+pub none-is-zero : NoneIsZero
+none-is-zero = call-positions.none-is-zero
+
+pub stood-examples : StoodExamples
+stood-examples = call-positions.stood-examples

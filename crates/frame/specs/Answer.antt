@@ -31,9 +31,9 @@ HeldSo answer count r =
 -- What a scan of w that stopped so gives as a call.
 abbrev pub calledAs : Format → Stop → Before → List ℕ → ℕ → ℕ → Called
 calledAs m (found used p) before w place reach =
-    called (reach - before .base) (output (p ∷ []) (before .noise + place)) (part (place + used) reach w) (isOpen m used (drop place w))
-calledAs m undecided before w place reach = called (before .size) (output [] (before .noise + place)) (drop place w) false
-calledAs m passed before w place reach = called (before .size) (output [] (before .noise + place)) [] false
+    called (reach - before .base) (output (p ∷ []) (before .noise + place)) (reach - place) (part (place + used) reach w) (isOpen m used (drop place w))
+calledAs m undecided before w place reach = called (before .size) (output [] (before .noise + place)) 0 (drop place w) false
+calledAs m passed before w place reach = called (before .size) (output [] (before .noise + place)) 0 [] false
 
 abbrev pub calledBy : Format → Before → List ℕ → Scanned → Called
 calledBy m before w x = calledAs m (x .stop) before w (x .place) (x .reach)

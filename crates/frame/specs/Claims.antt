@@ -135,6 +135,7 @@ HeldThenChunk =
 pub record SameButMark (a b : Called) : Type 0 where
   pub taken : a .taken ≡ b .taken
   pub out : a .out ≡ b .out
+  pub began : a .began ≡ b .began
   pub held : a .held ≡ b .held
 
 -- What follows from document 02, CR 2 and 9, for a format in which no byte is optional: the mark means nothing. With it and without, a line call gives the same

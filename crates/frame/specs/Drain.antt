@@ -7,16 +7,25 @@ use lib.ListN.{length}
 use Rattle.frame.specs.Checks.{Verdict, cut, refused, frame}
 use Rattle.frame.specs.Framing.{judge, isOpen, isOptional, behindOptional}
 use Rattle.frame.specs.Rule.{Output, nothing, noiseByte, handed, join, passAfter, rule, ruleJudged, payloads}
-use Rattle.frame.specs.Reader.{State, holding, Settled, settled, countFrom}
+use Rattle.frame.specs.Reader.{State, holding, countFrom}
 use Rattle.frame.specs.declared.framing.Format.{Format}
 
--- An output, and then what was settled.
-abbrev pub before : Output (List ℕ) → Settled → Settled
-before o st = settled (join o (st .out)) (st .rest) (st .follows)
+-- What was drained of bytes: what they gave, those that stay, and the mark.
+pub record Drained : Type 0 where
+  pub out : Output (List ℕ)
+  pub rest : List ℕ
+  pub follows : Bool
+
+abbrev pub drained : Output (List ℕ) → List ℕ → Bool → Drained
+drained out rest follows = record { out = out; rest = rest; follows = follows }
+
+-- An output, and then what was drained.
+abbrev pub before : Output (List ℕ) → Drained → Drained
+before o d = drained (join o (d .out)) (d .rest) (d .follows)
 
 -- The rule at a place of a segment that goes on: undecided bytes stay.
-abbrev pub drainAs : Verdict → List ℕ → Settled → Settled
-drainAs cut s later = settled nothing s false
+abbrev pub drainAs : Verdict → List ℕ → Drained → Drained
+drainAs cut s later = drained nothing s false
 drainAs (refused judged n) s later = before noiseByte later
 drainAs (frame used p) s later = before (handed p) later
 
@@ -28,18 +37,18 @@ followsAfter m (frame used p) s = isOpen m used s
 
 -- The leftmost rule over s, with `pass` bytes to pass over first, as far as it is settled: from the first undecided place on the bytes stay. `follows`
 -- says whether the byte behind those that are passed over may be an optional one, which is then passed over too.
-unfoldable pub drainFrom : Format → Bool → ℕ → List ℕ → Settled
-drainFrom m follows pass [] = settled nothing [] follows
+unfoldable pub drainFrom : Format → Bool → ℕ → List ℕ → Drained
+drainFrom m follows pass [] = drained nothing [] follows
 drainFrom m follows (suc pass) (b ∷ s) = drainFrom m follows pass s
 drainFrom m follows zero (b ∷ s) =
     let v : Verdict = judge m (b ∷ s) in
     cond (follows && isOptional m b) (drainFrom m false zero s) (drainAs v (b ∷ s) (drainFrom m (followsAfter m v (b ∷ s)) (passAfter v) s))
 
 -- What the line calls over a chunk give together from a state on, and the state that follows them: the bytes that stay were all judged at the first of them.
-abbrev pub drain : State → List ℕ → Settled
+abbrev pub drain : State → List ℕ → Drained
 drain s chunk = drainFrom (s .format) (s .follows) 0 (s .held ++ chunk)
 
-abbrev pub afterDrain : State → Settled → State
+abbrev pub afterDrain : State → Drained → State
 afterDrain s d = holding (s .format) (d .rest) (d .follows) (length (d .rest))
 
 -- What the rule gives from a state on, where these bytes are still to come.

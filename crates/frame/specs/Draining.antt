@@ -9,10 +9,10 @@ use lib.Dec.{eqb}
 use lib.ListN.{length, drop}
 use Rattle.frame.specs.Hex.{sumOf}
 use Rattle.frame.specs.Rule.{Output, nothing, join, rule, payloads}
-use Rattle.frame.specs.Reader.{State, Settled, settled, Called, line, quiet, lineJudged, quietJudged, after, stateOf, Holds, Values, feedValuesOf}
+use Rattle.frame.specs.Reader.{State, Called, line, quiet, lineJudged, quietJudged, after, stateOf, Holds, Values, feedValuesOf}
 use Rattle.frame.specs.Reader.{quietValuesOf, feedRefusal, quietRefusal, Feeds, AfterQuiet, Quiets}
 use Rattle.frame.specs.View.{viewCall, viewJudged, Follows, viewRefusal, Views}
-use Rattle.frame.specs.Drain.{before, drain, afterDrain, ruleAfter}
+use Rattle.frame.specs.Drain.{Drained, drained, before, drain, afterDrain, ruleAfter}
 use Rattle.frame.specs.Calls.{Refused, Answered, outOf}
 use Rattle.frame.specs.declared.framing.Footer.the-variants.{Optional, Required}
 use Rattle.frame.specs.declared.framing.Ending.the-variants.{CrLf, Any}
@@ -32,13 +32,13 @@ LineDrains =
 -- Where no frame comes out of a line call, all is drained.
 abbrev pub NeedsMoreIsDrained : Type 0
 NeedsMoreIsDrained =
-    (s : State) (chunk : List ℕ) → let c : Called = line s chunk in c .out .frames ≡ [] → drain (after s c) [] ≡ settled nothing (c .held) (c .follows)
+    (s : State) (chunk : List ℕ) → let c : Called = line s chunk in c .out .frames ≡ [] → drain (after s c) [] ≡ drained nothing (c .held) (c .follows)
 
 -- What is drained, and then the rule over what is left and what follows, is the rule over all.
 abbrev pub DrainFollowsRule : Type 0
 DrainFollowsRule =
     (s : State) (chunk more : List ℕ) →
-    let d : Settled = drain s chunk in ruleAfter s (chunk ++ more) ≡ join (d .out) (ruleAfter (afterDrain s d) more)
+    let d : Drained = drain s chunk in ruleAfter s (chunk ++ more) ≡ join (d .out) (ruleAfter (afterDrain s d) more)
 
 -- A quiet call gives the first part of what the rule gives over the held bytes, and the same call again the others.
 abbrev pub QuietFollowsRule : Type 0
@@ -96,7 +96,7 @@ sizeOf m o = sumOf (map (λ p. length p + overhead m) (o .frames)) + o .noise
 abbrev pub DrainIsSized : Type 0
 DrainIsSized =
     (s : State) (chunk : List ℕ) →
-    let d : Settled = drain s chunk in sizeOf (s .format) (d .out) + length (d .rest) ≤ length (s .held) + length chunk
+    let d : Drained = drain s chunk in sizeOf (s .format) (d .out) + length (d .rest) ≤ length (s .held) + length chunk
 
 -- What the rule gives takes no more than the segment has.
 abbrev pub RuleIsSized : Format → Type 0

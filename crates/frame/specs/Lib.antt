@@ -22,6 +22,7 @@ pub mod Recovery
 pub mod RecoveryExamples
 pub mod MarkExamples
 pub mod Counts
+pub mod Positions
 pub mod Driving
 pub mod Draining
 -- Third, what only functions behind the public calls cite: nobody has to believe it.

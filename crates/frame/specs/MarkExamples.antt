@@ -20,21 +20,21 @@ plain h = holding (Binary Optional) h false 0
 
 -- A frame with its 04, in one chunk or two: the call stops at the checksum, and the next one takes the 04, once.
 pub record NextCallTakesIt : Type 0 where
-  pub stops : line (plain []) response ≡ called 9 (output (success ∷ []) 0) [] true
-  pub cut : line (plain []) (bare response) ≡ called 9 (output (success ∷ []) 0) [] true
-  pub stays : line (marked []) [] ≡ called 0 nothing [] true
-  pub taken : line (marked []) (0x04 ∷ []) ≡ called 1 nothing [] false
-  pub once : line (marked []) (0x04 ∷ 0x04 ∷ []) ≡ called 2 (output [] 1) [] false
-  pub other : line (marked []) (0x05 ∷ 0x04 ∷ []) ≡ called 2 (output [] 2) [] false
+  pub stops : line (plain []) response ≡ called 9 (output (success ∷ []) 0) 9 [] true
+  pub cut : line (plain []) (bare response) ≡ called 9 (output (success ∷ []) 0) 9 [] true
+  pub stays : line (marked []) [] ≡ called 0 nothing 0 [] true
+  pub taken : line (marked []) (0x04 ∷ []) ≡ called 1 nothing 0 [] false
+  pub once : line (marked []) (0x04 ∷ 0x04 ∷ []) ≡ called 2 (output [] 1) 0 [] false
+  pub other : line (marked []) (0x05 ∷ 0x04 ∷ []) ≡ called 2 (output [] 2) 0 [] false
 
 -- In a format without an optional byte a frame sets no mark. One that was set by hand stays where no byte is held or offered, and is gone behind other calls;
 -- what these give besides is the same with it and without (MarkMeansNothing).
 pub record OtherFormats : Type 0 where
-  pub required : line (holding (Binary Required) [] true 0) (0x04 ∷ []) ≡ called 1 (output [] 1) [] false
-  pub ascii : line (holding (Ascii CrLf) [] true 0) (0x0A ∷ []) ≡ called 1 (output [] 1) [] false
-  pub stays : line (holding (Binary Required) [] true 0) [] ≡ called 0 nothing [] true
-  pub unset : line (holding (Binary Required) [] false 0) response ≡ called 10 (output (success ∷ []) 0) [] false
-  pub unsetAscii : line (holding (Ascii CrLf) [] false 0) asciiFrame ≡ called 13 (output (four ∷ []) 0) [] false
+  pub required : line (holding (Binary Required) [] true 0) (0x04 ∷ []) ≡ called 1 (output [] 1) 0 [] false
+  pub ascii : line (holding (Ascii CrLf) [] true 0) (0x0A ∷ []) ≡ called 1 (output [] 1) 0 [] false
+  pub stays : line (holding (Binary Required) [] true 0) [] ≡ called 0 nothing 0 [] true
+  pub unset : line (holding (Binary Required) [] false 0) response ≡ called 10 (output (success ∷ []) 0) 10 [] false
+  pub unsetAscii : line (holding (Ascii CrLf) [] false 0) asciiFrame ≡ called 13 (output (four ∷ []) 0) 13 [] false
 
 -- A start that claims eight bytes of payload and fails late, and a frame inside its claim.
 abbrev pub failsLate : List ℕ
@@ -42,9 +42,9 @@ failsLate = 0xA5 ∷ 0x5A ∷ 0x80 ∷ 0x08 ∷ 0xA5 ∷ 0x5A ∷ 0x80 ∷ 0x01 
 
 -- The frame's 04 is held behind it, and the next call drops it.
 pub record HeldBehindTheFrame : Type 0 where
-  pub first : line (plain []) failsLate ≡ called 13 (output ((0x11 ∷ []) ∷ []) 4) (0x04 ∷ 0x00 ∷ 0x55 ∷ []) true
-  pub next : line (marked (0x04 ∷ 0x00 ∷ 0x55 ∷ [])) [] ≡ called 0 (output [] 2) [] false
-  pub atQuiet : quiet (marked (0x04 ∷ 0x00 ∷ 0x55 ∷ [])) ≡ called 0 (output [] 2) [] false
+  pub first : line (plain []) failsLate ≡ called 13 (output ((0x11 ∷ []) ∷ []) 4) 9 (0x04 ∷ 0x00 ∷ 0x55 ∷ []) true
+  pub next : line (marked (0x04 ∷ 0x00 ∷ 0x55 ∷ [])) [] ≡ called 0 (output [] 2) 0 [] false
+  pub atQuiet : quiet (marked (0x04 ∷ 0x00 ∷ 0x55 ∷ [])) ≡ called 0 (output [] 2) 0 [] false
   pub all : rule (Binary Optional) failsLate ≡ output (foundAt 4 7 (0x11 ∷ []) ∷ []) 6
 
 -- A start that claims more than comes before the quiet.
@@ -53,11 +53,11 @@ unfinished = 0xA5 ∷ 0x5A ∷ 0x80 ∷ 0x10 ∷ response
 
 -- A frame that a quiet call finds keeps its 04; behind "empty" a 04 is noise.
 pub record QuietEndsIt : Type 0 where
-  pub waits : line (plain []) unfinished ≡ called 14 nothing unfinished false
-  pub found : quiet (plain unfinished) ≡ called 0 (output (success ∷ []) 4) (0x04 ∷ []) true
-  pub dropped : quiet (marked (0x04 ∷ [])) ≡ called 0 nothing [] false
-  pub none : quiet (marked []) ≡ called 0 nothing [] false
-  pub after : line (plain []) (0x04 ∷ []) ≡ called 1 (output [] 1) [] false
+  pub waits : line (plain []) unfinished ≡ called 14 nothing 0 unfinished false
+  pub found : quiet (plain unfinished) ≡ called 0 (output (success ∷ []) 4) 10 (0x04 ∷ []) true
+  pub dropped : quiet (marked (0x04 ∷ [])) ≡ called 0 nothing 0 [] false
+  pub none : quiet (marked []) ≡ called 0 nothing 0 [] false
+  pub after : line (plain []) (0x04 ∷ []) ≡ called 1 (output [] 1) 0 [] false
 
 -- A reader under any ending that holds these bytes, with the mark and without.
 abbrev pub markedLine : List ℕ → State
@@ -69,15 +69,15 @@ plainLine h = holding (Ascii Any) h false 0
 -- Under any ending, a frame in one chunk or two: the call stops at CR or LF. Behind CR the next call takes an LF, once, and drops one that is held in a state
 -- made by hand; behind LF, and behind "empty", an LF is noise.
 pub record AnyEnding : Type 0 where
-  pub atCr : line (plainLine []) asciiFrame ≡ called 12 (output (four ∷ []) 0) [] true
-  pub cut : line (plainLine []) endedByCr ≡ called 12 (output (four ∷ []) 0) [] true
-  pub stays : line (markedLine []) [] ≡ called 0 nothing [] true
-  pub taken : line (markedLine []) (0x0A ∷ []) ≡ called 1 nothing [] false
-  pub once : line (markedLine []) (0x0A ∷ 0x0A ∷ []) ≡ called 2 (output [] 1) [] false
-  pub other : line (markedLine []) (0x0D ∷ 0x0A ∷ []) ≡ called 2 (output [] 2) [] false
-  pub atLf : line (plainLine []) (endedByLf ++ (0x0A ∷ [])) ≡ called 12 (output (four ∷ []) 0) [] false
-  pub behindLf : line (plainLine []) (0x0A ∷ []) ≡ called 1 (output [] 1) [] false
-  pub held : line (markedLine (0x0A ∷ 0x0A ∷ [])) [] ≡ called 0 (output [] 1) [] false
-  pub atQuiet : quiet (markedLine (0x0A ∷ 0x0A ∷ [])) ≡ called 0 (output [] 1) [] false
-  pub none : quiet (markedLine []) ≡ called 0 nothing [] false
-  pub behindQuiet : line (after (markedLine []) (quiet (markedLine []))) (0x0A ∷ []) ≡ called 1 (output [] 1) [] false
+  pub atCr : line (plainLine []) asciiFrame ≡ called 12 (output (four ∷ []) 0) 12 [] true
+  pub cut : line (plainLine []) endedByCr ≡ called 12 (output (four ∷ []) 0) 12 [] true
+  pub stays : line (markedLine []) [] ≡ called 0 nothing 0 [] true
+  pub taken : line (markedLine []) (0x0A ∷ []) ≡ called 1 nothing 0 [] false
+  pub once : line (markedLine []) (0x0A ∷ 0x0A ∷ []) ≡ called 2 (output [] 1) 0 [] false
+  pub other : line (markedLine []) (0x0D ∷ 0x0A ∷ []) ≡ called 2 (output [] 2) 0 [] false
+  pub atLf : line (plainLine []) (endedByLf ++ (0x0A ∷ [])) ≡ called 12 (output (four ∷ []) 0) 12 [] false
+  pub behindLf : line (plainLine []) (0x0A ∷ []) ≡ called 1 (output [] 1) 0 [] false
+  pub held : line (markedLine (0x0A ∷ 0x0A ∷ [])) [] ≡ called 0 (output [] 1) 0 [] false
+  pub atQuiet : quiet (markedLine (0x0A ∷ 0x0A ∷ [])) ≡ called 0 (output [] 1) 0 [] false
+  pub none : quiet (markedLine []) ≡ called 0 nothing 0 [] false
+  pub behindQuiet : line (after (markedLine []) (quiet (markedLine []))) (0x0A ∷ []) ≡ called 1 (output [] 1) 0 [] false

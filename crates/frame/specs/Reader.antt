@@ -31,43 +31,46 @@ pub record State : Type 0 where
 abbrev pub holding : Format → List ℕ → Bool → ℕ → State
 holding m h follows judged = record { format = m; held = h; follows = follows; judged = judged }
 
--- Bytes after judging: what they gave, those that are still held, and the mark.
+-- Bytes after judging: what they gave; how far before the first untaken byte the frame began that they gave (document 02, CR 14), 0 where they gave none;
+-- those that are still held; and the mark.
 pub record Settled : Type 0 where
   pub out : Output (List ℕ)
+  pub began : ℕ
   pub rest : List ℕ
   pub follows : Bool
 
-abbrev pub settled : Output (List ℕ) → List ℕ → Bool → Settled
-settled out rest follows = record { out = out; rest = rest; follows = follows }
+abbrev pub settled : Output (List ℕ) → ℕ → List ℕ → Bool → Settled
+settled out began rest follows = record { out = out; began = began; rest = rest; follows = follows }
 
--- The held bytes h, judged so: undecided, they stay; a frame is handed out, and an optional byte may follow it where it is open; at a failed start one byte
--- is noise, and the rest is judged again.
+-- The held bytes h, judged so: undecided, they stay; a frame is handed out, which began as many bytes before the first untaken one as h has, and an optional
+-- byte may follow it where it is open; at a failed start one byte is noise, and the rest is judged again.
 abbrev pub settleAs : Format → Verdict → List ℕ → Settled → Settled
-settleAs m cut h later = settled nothing h false
-settleAs m (refused judged n) h later = settled (join noiseByte (later .out)) (later .rest) (later .follows)
-settleAs m (frame used p) h later = settled (handed p) (drop used h) (isOpen m used h)
+settleAs m cut h later = settled nothing 0 h false
+settleAs m (refused judged n) h later = settled (join noiseByte (later .out)) (later .began) (later .rest) (later .follows)
+settleAs m (frame used p) h later = settled (handed p) (length h) (drop used h) (isOpen m used h)
 
 unfoldable pub settle : Format → (List ℕ → Verdict) → List ℕ → Settled
-settle m judgement [] = settled nothing [] false
+settle m judgement [] = settled nothing 0 [] false
 settle m judgement (b ∷ h) = let later : Settled = settle m judgement h in settleAs m (judgement (b ∷ h)) (b ∷ h) later
 
--- What a call gives: bytes taken, what came out, the bytes held afterwards, and the mark.
+-- What a call gives: bytes taken, what came out, how far before the first untaken byte the frame began that came out, the bytes held afterwards, and the mark.
 pub record Called : Type 0 where
   pub taken : ℕ
   pub out : Output (List ℕ)
+  pub began : ℕ
   pub held : List ℕ
   pub follows : Bool
 
-abbrev pub called : ℕ → Output (List ℕ) → List ℕ → Bool → Called
-called taken out held follows = record { taken = taken; out = out; held = held; follows = follows }
+abbrev pub called : ℕ → Output (List ℕ) → ℕ → List ℕ → Bool → Called
+called taken out began held follows = record { taken = taken; out = out; began = began; held = held; follows = follows }
 
 -- The call stops here.
 abbrev pub stopped : Settled → Called
-stopped st = called 0 (st .out) (st .rest) (st .follows)
+stopped st = called 0 (st .out) (st .began) (st .rest) (st .follows)
 
 -- The call took one byte more, after `out` had come out.
 abbrev pub oneMore : Output (List ℕ) → Called → Called
-oneMore out c = called (suc (c .taken)) (join out (c .out)) (c .held) (c .follows)
+oneMore out c = called (suc (c .taken)) (join out (c .out)) (c .began) (c .held) (c .follows)
 
 -- A frame came out: the first; otherwise the second.
 abbrev pub ifFrame : List (List ℕ) → Called → Called → Called
@@ -88,12 +91,12 @@ lineOn m h chunk = lineFrom m (settle m (judge m) h) chunk
 
 -- A call that took n bytes more, before the others.
 abbrev pub tookFirst : ℕ → Called → Called
-tookFirst n c = called (n + c .taken) (c .out) (c .held) (c .follows)
+tookFirst n c = called (n + c .taken) (c .out) (c .began) (c .held) (c .follows)
 
 -- The line call by what is held and the mark. An optional byte that may follow is dealt with first: where it is the first held byte, it is dropped; where
 -- nothing is held, it is taken from the chunk's front, and with an empty chunk the mark stays. It is no noise.
 abbrev pub lineBehind : Format → Bool → List ℕ → List ℕ → Called
-lineBehind m follows [] [] = called 0 nothing [] follows
+lineBehind m follows [] [] = called 0 nothing 0 [] follows
 lineBehind m follows [] (b ∷ chunk) =
     let n : ℕ = absorbed m follows (b ∷ chunk) in tookFirst n (lineOn m [] (drop n (b ∷ chunk)))
 lineBehind m follows (b ∷ h) chunk = lineOn m (behindOptional m follows (b ∷ h)) chunk
@@ -101,8 +104,8 @@ lineBehind m follows (b ∷ h) chunk = lineOn m (behindOptional m follows (b ∷
 abbrev pub line : State → List ℕ → Called
 line s chunk = lineBehind (s .format) (s .follows) (s .held) chunk
 
--- At a quiet the held bytes end the segment: an unfinished frame fails like any other. (The 0 is of no use here: how many bytes are judged at a place is
--- `judgedAt`.)
+-- At a quiet the held bytes end the segment, so that where a frame began is counted from the segment's end, and an unfinished frame fails like any other. (The
+-- 0 is of no use here: how many bytes are judged at a place is `judgedAt`.)
 abbrev pub ended : Verdict → Verdict
 ended cut = refused 0 2
 ended (refused judged n) = refused judged n
@@ -169,39 +172,41 @@ abbrev pub newReader : Format → Reader
 newReader m = record { format = m; held = replicate 517 0; count = 0; follows = false; judged = 0 }
 
 -- An answer as document 01 has it: the refusal's number, 0 for none, bytes taken, noise, the payload's length, and whether there is one; and as document 02,
--- CR 7, has it: bytes judged.
+-- CR 7 and 14, has it: bytes judged, and how far back the frame began.
 pub record Values : Type 0 where
   pub number : ℕ
   pub taken : ℕ
   pub noise : ℕ
   pub judged : ℕ
   pub len : ℕ
+  pub began : ℕ
   pub isFrame : Bool
 
 abbrev pub refusalValues : ℕ → Values
-refusalValues n = record { number = n; taken = 0; noise = 0; judged = 0; len = 0; isFrame = false }
+refusalValues n = record { number = n; taken = 0; noise = 0; judged = 0; len = 0; began = 0; isFrame = false }
 
-abbrev pub frameValues : ℕ → ℕ → ℕ → ℕ → Values
-frameValues taken noise judged len = record { number = 0; taken = taken; noise = noise; judged = judged; len = len; isFrame = true }
+abbrev pub frameValues : ℕ → ℕ → ℕ → ℕ → ℕ → Values
+frameValues taken noise judged len began =
+    record { number = 0; taken = taken; noise = noise; judged = judged; len = len; began = began; isFrame = true }
 
 abbrev pub noFrameValues : ℕ → ℕ → ℕ → Values
-noFrameValues taken noise judged = record { number = 0; taken = taken; noise = noise; judged = judged; len = 0; isFrame = false }
+noFrameValues taken noise judged = record { number = 0; taken = taken; noise = noise; judged = judged; len = 0; began = 0; isFrame = false }
 
 -- The values of each answer; everything else that is said of answers goes by them.
 abbrev pub feedValuesOf : FeedAnswer → Values
-feedValuesOf (FeedFrame taken noise judged len) = frameValues taken noise judged len
+feedValuesOf (FeedFrame taken noise judged len began) = frameValues taken noise judged len began
 feedValuesOf (NeedsMore taken noise judged) = noFrameValues taken noise judged
 feedValuesOf (FeedRefused r) = refusalValues (numberOf r)
 
 abbrev pub quietValuesOf : QuietAnswer → Values
-quietValuesOf (QuietFrame noise judged len) = frameValues 0 noise judged len
+quietValuesOf (QuietFrame noise judged len began) = frameValues 0 noise judged len began
 quietValuesOf (Empty noise judged) = noFrameValues 0 noise judged
 quietValuesOf (QuietRefused r) = refusalValues (numberOf r)
 
 -- The values of a call that is not refused, by the bytes that it judged and the payloads that came out.
 abbrev pub calledValues : Called → ℕ → List (List ℕ) → Values
 calledValues c judged [] = noFrameValues (c .taken) (c .out .noise) judged
-calledValues c judged (p ∷ ps) = frameValues (c .taken) (c .out .noise) judged (length p)
+calledValues c judged (p ∷ ps) = frameValues (c .taken) (c .out .noise) judged (length p) (c .began)
 
 abbrev pub valuesAt : Called → ℕ → Values
 valuesAt c judged = calledValues c judged (c .out .frames)

@@ -13,13 +13,14 @@ ghost use Rattle.frame.specs.Answer.{HeldSo, TookFirst, keptAs, Answerab
 
 pub enum FeedAnswer {
     // A frame: `taken` bytes of the chunk were taken, an optional one that follows the frame before this among them, `noise` bytes were settled as noise,
-    // the leftmost rule judges `judged` bytes at the places where the call stood, without those that the state before said were judged, and the payload of
-    // `len` bytes is in the buffer's front.
+    // the leftmost rule judges `judged` bytes at the places where the call stood, without those that the state before said were judged, the payload of
+    // `len` bytes is in the buffer's front, and the frame began `began` bytes before the first byte that is not taken.
     Frame {
         taken: usize,
         noise: usize,
         judged: usize,
         len: usize,
+        began: usize,
     },
     // The whole chunk was taken, `noise` bytes were settled as noise, `judged` bytes were judged so, and more bytes are needed.
     NeedsMore {
@@ -31,11 +32,12 @@ pub enum FeedAnswer {
 }
 
 pub enum QuietAnswer {
-    // A frame among the held bytes, with the same numbers.
+    // A frame among the held bytes, with the same numbers; it began `began` bytes before their end, which is the segment's.
     Frame {
         noise: usize,
         judged: usize,
         len: usize,
+        began: usize,
     },
     // No frame is left, and the state is a new reader's.
     Empty {
@@ -84,11 +86,13 @@ pub(crate) fn took_first(answer: FeedAnswer, first: usize) -> FeedAnswer
             noise,
             judged,
             len,
+            began,
         } => FeedAnswer::Frame {
             taken: first + taken,
             noise: noise,
             judged: judged,
             len: len,
+            began: began,
         },
         FeedAnswer::NeedsMore {
             taken,
@@ -138,6 +142,7 @@ pub(crate) fn answer(
     match end {
         ScanEnd::Frame { used, len } => {
             let taken = far - before.base;
+            let began = far - place;
             let next = place + used;
             Kept {
                 answer: FeedAnswer::Frame {
@@ -145,6 +150,7 @@ pub(crate) fn answer(
                     noise,
                     judged,
                     len,
+                    began,
                 },
                 from: next,
                 end: far,

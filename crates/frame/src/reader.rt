@@ -363,12 +363,14 @@ fn quiet_held(format: Format, s: &[u8], known: usize, buf: &mut [u8]) -> Quieted
         ScanEnd::Frame { used, len } => {
             let next = place + used;
             let reader = hold(format, &s[next..], may_follow(format, s, next), 0);
+            let began = s.len() - place;
             Quieted {
                 reader: reader,
                 answer: QuietAnswer::Frame {
                     noise: place,
                     judged: judged,
                     len: len,
+                    began: began,
                 },
             }
         }

@@ -12,7 +12,7 @@ use lib.ListN.{length, take, drop, length-take, length-drop}
 use lib.Seq.{take-length, drop-length, drop-drop}
 use Rattle.frame.specs.Framing.{limit, absorbed, inFront, behindOptional}
 use Rattle.frame.specs.Rule.{Output, output, nothing, join, places, outFrom, rule}
-use Rattle.frame.specs.Reader.{State, holding, Settled, settled, Called, line, quiet, lineJudged, quietJudged, judgedHeld, after, stateOf, Holds, newReader}
+use Rattle.frame.specs.Reader.{State, holding, Called, line, quiet, lineJudged, quietJudged, judgedHeld, after, stateOf, Holds, newReader}
 use Rattle.frame.specs.Reader.{Values, frameValues, noFrameValues, refusalValues, feedRefusal, quietRefusal, sound, AfterQuiet}
 use Rattle.frame.specs.Calls.{Answered, outOf}
 use Rattle.frame.specs.View.{inside, viewed, viewCall, Follows, viewRefusal, Stands}
@@ -23,7 +23,7 @@ use Rattle.frame.specs.declared.reader.Reader.{Reader}
 use Rattle.frame.specs.declared.view.View.{View}
 use Rattle.frame.specs.Refusal.{numberOf}
 use Rattle.frame.specs.Counts.{mostJudged}
-use Rattle.frame.specs.Drain.{before, drain, afterDrain, ruleAfter, judgedAfter, drainJudged}
+use Rattle.frame.specs.Drain.{Drained, drained, before, drain, afterDrain, ruleAfter, judgedAfter, drainJudged}
 use Rattle.frame.specs.declared.refusal.Refusal.{Refusal}
 use Rattle.frame.specs.declared.refusal.Refusal.the-variants.{Start, Cut, Length, Checksum, Footer, Character, Buffer, Payload, Chunk}
 use Rattle.frame.specs.declared.refusal.Refusal.the-variants.{State as BadState}
@@ -195,7 +195,7 @@ all-judged s chunk before known e j n k =
 none-judged : (s : State) (c : Called) (p : List ℕ) → c .out .frames ≡ p ∷ [] → after s c .judged ≡ 0
 none-judged s c p e = ap (λ (fs : List (List ℕ)). judgedHeld fs (c .held)) e
 
-module _ {whole : Settled} {total : ℕ} {s : State} {rest out₀ : List ℕ} {at base end noise judged : ℕ} {out : List ℕ}
+module _ {whole : Drained} {total : ℕ} {s : State} {rest out₀ : List ℕ} {at base end noise judged : ℕ} {out : List ℕ}
     (g : PartlyDrained whole total s rest out₀ at base end noise judged out) (fits : Room whole at base out₀) where
   -- The bytes judged so far are no more than all of them.
   pub call-judged : {n : ℕ} → n ≡ lineJudged s rest → judged + n ≤ total
@@ -205,7 +205,7 @@ module _ {whole : Settled} {total : ℕ} {s : State} {rest out₀ : List ℕ} {a
   left-is : (o : Output (List ℕ)) → line s rest .out ≡ o →
       drain s rest .out ≡ join o (drain (after s (line s rest)) (drop (line s rest .taken) rest) .out)
   left-is o e =
-      ap (λ (st : Settled). st .out) (line-drains s rest)
+      ap (λ (st : Drained). st .out) (line-drains s rest)
       ∙ ap (λ (x : Output (List ℕ)). join x (drain (after s (line s rest)) (drop (line s rest .taken) rest) .out)) e
 
   -- A frame came out: there is room for its line, the noise so far is small, and behind it the calls go on.
@@ -224,8 +224,8 @@ module _ {whole : Settled} {total : ℕ} {s : State} {rest out₀ : List ℕ} {a
         PartlyDrained whole total (after s (line s rest)) (drop (line s rest .taken) rest) out₀ at base next (noise + more) (judged + n) out′
     frame-step q j =
         record {
-          same = sym (ap (λ (st : Settled). st .rest) (line-drains s rest)) ∙ g .same;
-          mark = sym (ap (λ (st : Settled). st .follows) (line-drains s rest)) ∙ g .mark;
+          same = sym (ap (λ (st : Drained). st .rest) (line-drains s rest)) ∙ g .same;
+          mark = sym (ap (λ (st : Drained). st .follows) (line-drains s rest)) ∙ g .mark;
           progress = progress-frame (g .progress) (fits .room) p more _ (left-is (one p more) e) q;
           counts = omega (arith, g .counts, call-counts s rest (g .known));
           known = omega (arith, none-judged s (line s rest) p (ap (λ (o : Output (List ℕ)). o .frames) e));
@@ -245,17 +245,17 @@ module _ {whole : Settled} {total : ℕ} {s : State} {rest out₀ : List ℕ} {a
     none-rest : drop (line s rest .taken) rest ≡ []
     none-rest = ap (λ (n : ℕ). drop n rest) (needs-more-is-true s rest none-frames .0) ∙ drop-length rest
 
-    drained : drain s rest ≡ settled (none more) (line s rest .held) (line s rest .follows)
+    all-drained : drain s rest ≡ drained (none more) (line s rest .held) (line s rest .follows)
     unfolding join
-    drained =
+    all-drained =
         let c : Called = line s rest in
         line-drains s rest
         ∙ ap₂ before e (ap (drain (after s c)) none-rest ∙ needs-more-is-drained s rest none-frames)
-        ∙ (λ i. settled (output [] (add-zero more i)) (c .held) (c .follows))
+        ∙ (λ i. drained (output [] (add-zero more i)) (c .held) (c .follows))
 
     pub none-noise : noise + more ≤ 66053
     none-noise =
-        let l : more ≤ drain s rest .out .noise = omega (arith, ap (λ (st : Settled). st .out .noise) drained) in
+        let l : more ≤ drain s rest .out .noise = omega (arith, ap (λ (st : Drained). st .out .noise) all-drained) in
         omega (arith, progress-noise (g .progress) more l, fits .few)
 
     -- All is listed.
@@ -264,9 +264,9 @@ module _ {whole : Settled} {total : ℕ} {s : State} {rest out₀ : List ℕ} {a
         ((x : ℕ) → x + judgedAfter (afterDrain s₀ whole) [] ≡ total → x ≡ most) →
         a .reader ≡ r → a .answer ≡ Lines end (noise + more) (judged + n) → ListsRest s₀ whole most out₀ at base a out
     none-lists s₀ r a {n} ef h j most er ea =
-        let all = progress-end (g .progress) (fits .room) more (ap (λ (st : Settled). st .out) drained) in
-        let left : line s rest .held ≡ whole .rest = sym (ap (λ (st : Settled). st .rest) drained) ∙ g .same in
-        let mark : line s rest .follows ≡ whole .follows = sym (ap (λ (st : Settled). st .follows) drained) ∙ g .mark in
+        let all = progress-end (g .progress) (fits .room) more (ap (λ (st : Drained). st .out) all-drained) in
+        let left : line s rest .held ≡ whole .rest = sym (ap (λ (st : Drained). st .rest) all-drained) ∙ g .same in
+        let mark : line s rest .follows ≡ whole .follows = sym (ap (λ (st : Drained). st .follows) all-drained) ∙ g .mark in
         let next : after s (line s rest) ≡ afterDrain s₀ whole =
         ap (λ (fs : List (List ℕ)). holding (s .format) (line s rest .held) (line s rest .follows) (judgedHeld fs (line s rest .held))) none-frames
         ∙ state-is ef left mark in
@@ -300,16 +300,16 @@ module _ {S : Type 0} {number : ℕ} (c : Called) {judged : ℕ} {Next : S → T
       by true e = e
       by false e = absurd (true≢false (ap (λ (n : ℕ). eqb n 0) (sym z) ∙ h .refused e .0))
 
-  pub reports-frame : {taken more n len : ℕ} → v ≡ frameValues taken more n len → c .out ≡ one (take len buf′) more
+  pub reports-frame : {taken more n len back : ℕ} → v ≡ frameValues taken more n len back → c .out ≡ one (take len buf′) more
   reports-frame e = sym (h .answered answered .1) ∙ ap (λ (x : Values). outOf x buf′) e
 
   pub reports-none : {taken more n : ℕ} → v ≡ noFrameValues taken more n → c .out ≡ none more
   reports-none e = sym (h .answered answered .1) ∙ ap (λ (x : Values). outOf x buf′) e
 
-  pub reports-inside : {taken more n len : ℕ} → v ≡ frameValues taken more n len → len ≤ length buf′
+  pub reports-inside : {taken more n len back : ℕ} → v ≡ frameValues taken more n len back → len ≤ length buf′
   reports-inside e = subst (λ (x : Values). x .len ≤ length buf′) e (h .inside)
 
-  pub reports-taken : {taken more n len : ℕ} → v ≡ frameValues taken more n len → taken ≡ c .taken
+  pub reports-taken : {taken more n len back : ℕ} → v ≡ frameValues taken more n len back → taken ≡ c .taken
   reports-taken e = sym (ap (λ (x : Values). x .taken) e) ∙ h .answered answered .2
 
   pub reports-judged : v .judged ≡ judged
@@ -337,7 +337,7 @@ inside-known v chunk e =
     (omega (arith, leb-true (v .from) (v .end) (a .0), leb-true (v .end) (length chunk) (b .0), leb-true (v .judged) count (c .1)))
 
 -- Calls that go on from an equal state with an equal rest.
-moved : {whole : Settled} {total : ℕ} {s s′ : State} {t t′ out₀ : List ℕ} {at base end noise judged : ℕ} {out : List ℕ} → s′ ≡ s → t′ ≡ t →
+moved : {whole : Drained} {total : ℕ} {s s′ : State} {t t′ out₀ : List ℕ} {at base end noise judged : ℕ} {out : List ℕ} → s′ ≡ s → t′ ≡ t →
     PartlyDrained whole total s t out₀ at base end noise judged out → PartlyDrained whole total s′ t′ out₀ at base end noise judged out
 moved {whole} {total} {out₀ = out₀} {at} {base} {end} {noise} {judged} {out} e f m =
     subst₂ (λ (s : State) (t : List ℕ). PartlyDrained whole total s t out₀ at base end noise judged out) (sym e) (sym f) m
@@ -349,7 +349,7 @@ view-rest v chunk v′ f = ap (λ (n : ℕ). drop n chunk) (f .end) ∙ sym (dro
 
 -- The view that follows goes on with the chunk's rest.
 pub view-next :
-    {whole : Settled} {total : ℕ} {out₀ : List ℕ} {at base end noise judged : ℕ} {out : List ℕ} (v : View) (chunk : List ℕ) (v′ : View) →
+    {whole : Drained} {total : ℕ} {out₀ : List ℕ} {at base end noise judged : ℕ} {out : List ℕ} (v : View) (chunk : List ℕ) (v′ : View) →
     Follows v chunk (viewCall v chunk) v′ →
     let c : Called = viewCall v chunk in
     PartlyDrained whole total (after (viewed v chunk) c) (drop (c .taken) (drop (v .end) chunk)) out₀ at base end noise judged out →
@@ -382,7 +382,7 @@ module _ (r : Reader) (chunk : List ℕ) (done taken : ℕ) (r′ : Reader) (h :
   feed-rest = ap (λ (n : ℕ). drop (done + n) chunk) e ∙ sym (drop-drop (line (stateOf r) (drop done chunk) .taken) done chunk)
 
   pub feed-next :
-      {whole : Settled} {total : ℕ} {out₀ : List ℕ} {at base end noise judged : ℕ} {out : List ℕ} →
+      {whole : Drained} {total : ℕ} {out₀ : List ℕ} {at base end noise judged : ℕ} {out : List ℕ} →
       let c : Called = line (stateOf r) (drop done chunk) in
       PartlyDrained whole total (after (stateOf r) c) (drop (c .taken) (drop done chunk)) out₀ at base end noise judged out →
       PartlyDrained whole total (stateOf r′) (drop (done + taken) chunk) out₀ at base end noise judged out
@@ -494,7 +494,7 @@ answered-lists o r out a z values next left =
 
 -- What is listed from the front of a buffer on is what the call promises.
 pub rest-lists :
-    {number judged : ℕ} {s : State} (whole : Settled) (r : Reader) (out : List ℕ) (a : Listed) (out′ : List ℕ) → number ≡ 0 →
+    {number judged : ℕ} {s : State} (whole : Drained) (r : Reader) (out : List ℕ) (a : Listed) (out′ : List ℕ) → number ≡ 0 →
     ListsRest s whole judged out 0 0 a out′ → Lists number (whole .out) judged (Holds (afterDrain s whole)) r out a out′
 rest-lists {judged = judged} whole r out a out′ z h =
     answered-lists (whole .out) r out a z
@@ -503,14 +503,14 @@ rest-lists {judged = judged} whole r out a out′ z h =
     (puts-front out (linesOf (whole .out .frames)) out′ (0 + length (linesOf (whole .out .frames))) (h .puts) .1)
 
 -- Where some of the calls are made, all that is left has room.
-pub partly-drained-room : {whole : Settled} {total : ℕ} {s : State} {rest out₀ : List ℕ} {at base end noise judged : ℕ} {out : List ℕ} →
+pub partly-drained-room : {whole : Drained} {total : ℕ} {s : State} {rest out₀ : List ℕ} {at base end noise judged : ℕ} {out : List ℕ} →
     PartlyDrained whole total s rest out₀ at base end noise judged out → Room whole at base out₀ → Room (drain s rest) end noise out
 partly-drained-room g fits =
     record { room = partly-put-room (fits .room) (g .progress .text); few = omega (arith, g .progress .noises, fits .few) }
 
 -- What is left is listed, and so all is.
 pub partly-drained-lists :
-    {whole : Settled} {total : ℕ} {s : State} {rest out₀ : List ℕ} {at base end noise judged most : ℕ} {out : List ℕ} (s₀ : State) (a : Listed)
+    {whole : Drained} {total : ℕ} {s : State} {rest out₀ : List ℕ} {at base end noise judged most : ℕ} {out : List ℕ} (s₀ : State) (a : Listed)
     (out′ : List ℕ) → PartlyDrained whole total s rest out₀ at base end noise judged out → Room whole at base out₀ → s .format ≡ s₀ .format →
     ((x : ℕ) → x + judgedAfter (afterDrain s₀ whole) [] ≡ total → x ≡ most) →
     ListsRest s (drain s rest) (judged + drainJudged s rest) out end noise a out′ → ListsRest s₀ whole most out₀ at base a out′

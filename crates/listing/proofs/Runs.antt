@@ -14,9 +14,9 @@ use lib.Seq.{take-append-seam, drop-length}
 use Rattle.frame.specs.Checks.{cut}
 use Rattle.frame.specs.Framing.{judge, limit, inFront}
 use Rattle.frame.specs.Rule.{Output, join}
-use Rattle.frame.specs.Reader.{State, holding, Settled, Called, line, after, stateOf, Holds, newReader, sound}
+use Rattle.frame.specs.Reader.{State, holding, Called, line, after, stateOf, Holds, newReader, sound}
 use Rattle.frame.specs.Single.{Writing, writingOf}
-use Rattle.frame.specs.Drain.{drain, afterDrain, ruleAfter, judgedAfter, drainJudged}
+use Rattle.frame.specs.Drain.{Drained, drain, afterDrain, ruleAfter, judgedAfter, drainJudged}
 use Rattle.frame.specs.Elements.{All}
 use Rattle.frame.specs.declared.framing.Format.{Format}
 use Rattle.frame.specs.declared.reader.Reader.{Reader}
@@ -36,7 +36,7 @@ given-is : (s : State) (chunks : List (List ℕ)) → given s chunks ≡ ruleAft
 unfolding flatten
 given-is s [] = refl
 given-is s (chunk ∷ chunks) =
-    let d : Settled = drain s chunk in
+    let d : Drained = drain s chunk in
     ap (join (d .out)) (given-is (afterDrain s d) chunks) ∙ sym (drain-follows-rule s chunk (flatten chunks))
 
 pub any-cut-is-listed : AnyCutIsListed
@@ -92,7 +92,7 @@ shownFrom s noise chunks = linesOf (given s chunks .frames) ++ noiseLine (noise 
 run-is : {r : Reader} {noise : ℕ} {chunks : List (List ℕ)} {shown : List ℕ} → Run r noise chunks shown → shown ≡ shownFrom (stateOf r) noise chunks
 unfolding join
 run-is (chunkListed {r} {noise} {chunks} {shown} chunk out out′ a p h later) =
-    let d : Settled = drain (stateOf r) chunk in
+    let d : Drained = drain (stateOf r) chunk in
     let g : Output (List ℕ) = given (afterDrain (stateOf r) d) chunks in
     let k = kept (d .out) a p h in
     let n : (noise + valuesOf (a .answer) .noise) + g .noise ≡ noise + (d .out .noise + g .noise) = omega (arith, k .1) in
@@ -124,7 +124,7 @@ run-judges :
     judgedByRun run ≡ judgedAfter (stateOf r) (flatten chunks)
 unfolding flatten
 run-judges (chunkListed {r} {noise} {chunks} {shown} chunk out out′ a p h later) l =
-    let d : Settled = drain (stateOf r) chunk in
+    let d : Drained = drain (stateOf r) chunk in
     let k = kept (d .out) a p h in
     let known : Known (a .reader) = subst (λ (s : State). s .judged ≤ length (s .held)) (sym (k .2 .state)) (le-refl (length (d .rest))) in
     ap₂ _+_ (k .3) (run-judges later known ∙ ap (λ (s : State). judgedAfter s (flatten chunks)) (k .2 .state))
@@ -147,17 +147,17 @@ left-by n s chunk l [] e more =
     let t = needs-more-is-true s chunk e in
     let over : drop (c .taken) chunk ≡ [] = ap (λ (k : ℕ). drop k chunk) (t .0) ∙ drop-length chunk in
     let rest : drain s chunk .rest ≡ c .held =
-    ap (λ (st : Settled). st .rest) (line-drains s chunk)
+    ap (λ (st : Drained). st .rest) (line-drains s chunk)
     ∙ ap (λ (x : List ℕ). drain (after s c) x .rest) over
-    ∙ ap (λ (st : Settled). st .rest) (needs-more-is-drained s chunk e) in
+    ∙ ap (λ (st : Drained). st .rest) (needs-more-is-drained s chunk e) in
     subst (Left (s .format)) (sym rest) (t .1)
 left-by n s chunk l (p ∷ ps) e more =
     let c : Called = line s chunk in
-    let later : Settled = drain (after s c) (drop (c .taken) chunk) in
+    let later : Drained = drain (after s c) (drop (c .taken) chunk) in
     let count : length (drain s chunk .out .frames) ≡ length (c .out .frames) + length (later .out .frames) =
-    ap (λ (st : Settled). length (st .out .frames)) (line-drains s chunk) ∙ length-append (c .out .frames) (later .out .frames) in
+    ap (λ (st : Drained). length (st .out .frames)) (line-drains s chunk) ∙ length-append (c .out .frames) (later .out .frames) in
     let some : length (c .out .frames) ≡ suc (length ps) = ap length e in
-    subst (Left (s .format)) (sym (ap (λ (st : Settled). st .rest) (line-drains s chunk)))
+    subst (Left (s .format)) (sym (ap (λ (st : Drained). st .rest) (line-drains s chunk)))
     (more (after s c) (drop (c .taken) chunk) refl (omega arith))
 
 -- Bytes that are left are undecided, or none.
@@ -223,12 +223,12 @@ module _ (r : Reader) (l : sound r ≡ true) where
 
   abbrev afterChunk : List ℕ → Listed
   afterChunk chunk =
-      let d : Settled = drain (stateOf r) chunk in linesAnswer (d .out) (drainJudged (stateOf r) chunk) (readerOf (afterDrain (stateOf r) d))
+      let d : Drained = drain (stateOf r) chunk in linesAnswer (d .out) (drainJudged (stateOf r) chunk) (readerOf (afterDrain (stateOf r) d))
 
   chunk-listed : (chunk : List ℕ) → length chunk ≤ 65536 →
       ListsChunk r chunk chunkBuffer (afterChunk chunk) (inFront (linesOf (drain (stateOf r) chunk .out .frames)) chunkBuffer)
   chunk-listed chunk short =
-      let d : Settled = drain (stateOf r) chunk in
+      let d : Drained = drain (stateOf r) chunk in
       answered-lists (d .out) r chunkBuffer (afterChunk chunk) (chunk-free r (length chunkBuffer) (length chunk) l (buffer-room 198159) short) refl
       (reader-holds (afterDrain (stateOf r) d)) refl
 

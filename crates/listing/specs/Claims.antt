@@ -9,9 +9,9 @@ use lib.Dec.{eqb}
 use lib.ListN.{length, take}
 use Rattle.frame.specs.Ascii.{carriageReturn, lineFeed}
 use Rattle.frame.specs.Rule.{Output, join, rule, ruleJudged, payloads}
-use Rattle.frame.specs.Reader.{State, holding, Settled, newReader, sound}
+use Rattle.frame.specs.Reader.{State, holding, newReader, sound}
 use Rattle.frame.specs.Single.{writingOf}
-use Rattle.frame.specs.Drain.{drain, afterDrain, ruleAfter}
+use Rattle.frame.specs.Drain.{Drained, drain, afterDrain, ruleAfter}
 use Rattle.frame.specs.Elements.{All}
 use Rattle.frame.specs.declared.framing.Footer.the-variants.{Optional}
 use Rattle.frame.specs.declared.framing.Ending.the-variants.{CrLf}
@@ -43,7 +43,7 @@ TotalIsSmall =
 -- What the chunks of a segment give from a state on, and then its quiet.
 abbrev pub given : State → List (List ℕ) → Output (List ℕ)
 given s [] = ruleAfter s []
-given s (chunk ∷ chunks) = let d : Settled = drain s chunk in join (d .out) (given (afterDrain s d) chunks)
+given s (chunk ∷ chunks) = let d : Drained = drain s chunk in join (d .out) (given (afterDrain s d) chunks)
 
 -- All that is printed of an output.
 abbrev pub printed : Output (List ℕ) → List ℕ

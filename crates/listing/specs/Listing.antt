@@ -8,9 +8,9 @@ use lib.ListN.{length}
 use Rattle.frame.specs.Framing.{inFront}
 use Rattle.frame.specs.Refusal.{numberOf}
 use Rattle.frame.specs.Rule.{Output}
-use Rattle.frame.specs.Reader.{State, Settled, stateOf, newReader, Holds, sound, Promise}
+use Rattle.frame.specs.Reader.{State, stateOf, newReader, Holds, sound, Promise}
 use Rattle.frame.specs.Single.{lengthWriting, noWriting, writingOf}
-use Rattle.frame.specs.Drain.{drain, afterDrain, ruleAfter, judgedAfter, drainJudged}
+use Rattle.frame.specs.Drain.{Drained, drain, afterDrain, ruleAfter, judgedAfter, drainJudged}
 use Rattle.frame.specs.declared.reader.Reader.{Reader}
 use Rattle.frame.specs.declared.single.WriteAnswer.{WriteAnswer}
 use Rattle.listing.specs.Line.{linesOf, noiseLine}
@@ -52,7 +52,7 @@ chunkRefusal r room size = cond (sound r) (cond (leb 198159 room) (cond (leb siz
 abbrev pub ListsChunk : Reader → List ℕ → List ℕ → Listed → List ℕ → Type 0
 ListsChunk r chunk out a out′ =
     let s : State = stateOf r in
-    let d : Settled = drain s chunk in
+    let d : Drained = drain s chunk in
     Lists (chunkRefusal r (length out) (length chunk)) (d .out) (drainJudged s chunk) (Holds (afterDrain s d)) r out a out′
 
 -- The refusals of a quiet: 16; 13 for a buffer under 1,551 bytes, three times 517.

@@ -6,10 +6,10 @@ use mathlib.Core.Bool.{Bool, true, false, cond}
 use lib.Dec.{eqb}
 use lib.ListN.{length, drop}
 use Rattle.frame.specs.Hex.{hex}
-use Rattle.frame.specs.Reader.{State, Settled, stateOf, Holds, sound}
+use Rattle.frame.specs.Reader.{State, stateOf, Holds, sound}
 use Rattle.frame.specs.Rule.{Output}
 use Rattle.frame.specs.View.{inside, viewed}
-use Rattle.frame.specs.Drain.{drain, afterDrain, judgedAfter, drainJudged}
+use Rattle.frame.specs.Drain.{Drained, drain, afterDrain, judgedAfter, drainJudged}
 use Rattle.frame.specs.declared.reader.Reader.{Reader}
 use Rattle.frame.specs.declared.view.View.{View}
 use Rattle.message.specs.Number.{bytes2, bytes4}
@@ -48,7 +48,7 @@ pub record Progress (whole left : Output (List ℕ)) (out₀ : List ℕ) (at bas
 
 -- Some of the calls over a chunk are made: from the state s on, `rest` is still to be offered, and what the other calls give is what is left of `whole`; the
 -- bytes judged so far and those that are still judged, as if the segment ended with the chunk, are `total`.
-pub record PartlyDrained (whole : Settled) (total : ℕ) (s : State) (rest out₀ : List ℕ) (at base end noise judged : ℕ) (out : List ℕ) : Type 0 where
+pub record PartlyDrained (whole : Drained) (total : ℕ) (s : State) (rest out₀ : List ℕ) (at base end noise judged : ℕ) (out : List ℕ) : Type 0 where
   pub same : drain s rest .rest ≡ whole .rest
   pub mark : drain s rest .follows ≡ whole .follows
   pub progress : Progress (whole .out) (drain s rest .out) out₀ at base end noise out
@@ -56,18 +56,18 @@ pub record PartlyDrained (whole : Settled) (total : ℕ) (s : State) (rest out�
   pub known : s .judged ≤ length (s .held)
 
 -- All of `whole` can be listed: there is room for its lines, and its noise is small.
-pub record Room (whole : Settled) (at base : ℕ) (out : List ℕ) : Type 0 where
+pub record Room (whole : Drained) (at base : ℕ) (out : List ℕ) : Type 0 where
   pub room : at + length (linesOf (whole .out .frames)) ≤ length out
   pub few : base + whole .out .noise ≤ 66053
 
 -- It is listed: the lines are put from `at` on, the noise is added to `base`, `judged` bytes were judged, and the reader has the state that follows s.
-pub record ListsRest (s : State) (whole : Settled) (judged : ℕ) (out : List ℕ) (at base : ℕ) (a : Listed) (out′ : List ℕ) : Type 0 where
+pub record ListsRest (s : State) (whole : Drained) (judged : ℕ) (out : List ℕ) (at base : ℕ) (a : Listed) (out′ : List ℕ) : Type 0 where
   pub values : valuesOf (a .answer) ≡ textValues (at + length (linesOf (whole .out .frames))) (base + whole .out .noise) judged
   pub state : Holds (afterDrain s whole) (a .reader)
   pub puts : Puts out at (linesOf (whole .out .frames)) (at + length (linesOf (whole .out .frames))) out′
 
 -- What `list_view` is called with, and what it lists: the calls of a view over the rest of its chunk, where `before` bytes were judged before.
-abbrev pub viewDrain : View → List ℕ → Settled
+abbrev pub viewDrain : View → List ℕ → Drained
 viewDrain v chunk = drain (viewed v chunk) (drop (v .end) chunk)
 
 abbrev pub ListsView : View → List ℕ → List ℕ → ℕ → ℕ → ℕ → Listed → List ℕ → Type 0

@@ -155,6 +155,7 @@ fn list_held(reader: Reader, chunk: &[u8], out: &mut [u8]) -> Part
                 noise,
                 judged,
                 len,
+                ..
             } => {
                 let whole = &buf[..];
                 end = put_line(&whole[..len], out, end);
@@ -227,7 +228,12 @@ pub fn list_quiet(reader: Reader, out: &mut [u8]) -> Listed
         let answer = quieted.answer;
         state = quieted.reader;
         match answer {
-            QuietAnswer::Frame { noise, judged, len } => {
+            QuietAnswer::Frame {
+                noise,
+                judged,
+                len,
+                ..
+            } => {
                 let whole = &buf[..];
                 end = put_line(&whole[..len], out, end);
                 noise_total += noise;

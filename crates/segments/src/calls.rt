@@ -173,9 +173,10 @@ fn feed_call(run: Run, chunk: &[u8], buf: &mut [u8]) -> Step
             noise,
             judged,
             len,
+            began,
         } => {
             print_fed(taken, noise, judged);
-            show_frame(buf, len);
+            show_frame(began, buf, len);
             let run = with_answer(run, reader, 1, noise, judged);
             let again = true;
             Step { run, taken, again }
@@ -207,9 +208,14 @@ fn quiet_call(run: Run, buf: &mut [u8]) -> Step {
     let taken: usize = 0;
     io::write_all(STDOUT_FILENO, b"quiet");
     match answer {
-        QuietAnswer::Frame { noise, judged, len } => {
+        QuietAnswer::Frame {
+            noise,
+            judged,
+            len,
+            began,
+        } => {
             print_counts(noise, judged);
-            show_frame(buf, len);
+            show_frame(began, buf, len);
             let run = with_answer(run, reader, 1, noise, judged);
             let again = true;
             Step { run, taken, again }

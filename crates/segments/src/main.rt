@@ -1,6 +1,6 @@
 // Reads segments with the line reader of the crate frame, in chunks of a given size, and prints what each call answers.
 //
-// Standard input, of which 65,536 bytes are read, has a row to a line, and empty lines are passed over:
+// Standard input, of which 131,072 bytes are read, has a row to a line, and empty lines are passed over:
 // - `# ..`: a heading, printed as it is.
 // - `FORMAT SIZE BYTES`: a segment for a new reader, offered in chunks of SIZE bytes, or as a whole where SIZE is 0. FORMAT is `ascii`, in which the
 //   ending is CR LF, `any`, ASCII with any ending, `binary`, in which the footer is optional, or `required`, binary with the footer required. BYTES are up to
@@ -13,9 +13,10 @@
 //   them.
 //
 // A row is printed with the count of its bytes in their place. Each call then prints a line, in which JUDGED is how many bytes it judged, each counted once at
-// every place where it was, without those that the state said were judged:
-// - `feed TAKEN NOISE JUDGED frame PAYLOAD`, `feed TAKEN NOISE JUDGED more`;
-// - `quiet NOISE JUDGED frame PAYLOAD`, `quiet NOISE JUDGED empty`;
+// every place where it was, without those that the state said were judged, and BEGAN is how many bytes before the first untaken one the frame began, or at a
+// quiet before the segment's end:
+// - `feed TAKEN NOISE JUDGED frame BEGAN PAYLOAD`, `feed TAKEN NOISE JUDGED more`;
+// - `quiet NOISE JUDGED frame BEGAN PAYLOAD`, `quiet NOISE JUDGED empty`;
 // - `feed refused NUMBER state kept buffer kept` and the same of `quiet`, behind `short` for a buffer of 255 bytes and `long` for a chunk of
 //   65,537;
 // - `state MARK JUDGED HELD` behind the line call of a row `quiet`: the mark, how many of the held bytes were judged at the first, and the bytes held, or `-`.
@@ -50,7 +51,7 @@ use libc::STDIN_FILENO;
 
 // Runs the rows of standard input.
 fn main() {
-    let mut text = io::large_buffer();
+    let mut text = [0u8; 131072];
     let n = io::read_full(STDIN_FILENO, &mut text);
     run_rows(&text[..n]);
 }

@@ -115,11 +115,13 @@ pub fn show_state(reader: Reader) {
     print_line(&digits[..n]);
 }
 
-// Prints `frame` and the payload, which is in the front of a buffer of 256 bytes.
-pub fn show_frame(buf: &[u8], len: usize) {
+// Prints `frame`, how many bytes before the first untaken one or the segment's end it began, and the payload, which is in the front of a buffer of 256 bytes.
+pub fn show_frame(began: usize, buf: &[u8], len: usize) {
     let mut digits = [0u8; 512];
     let n = put_hex(front(buf, len), &mut digits);
-    io::write_all(STDOUT_FILENO, b" frame ");
+    io::write_all(STDOUT_FILENO, b" frame");
+    print_field(began);
+    io::write_all(STDOUT_FILENO, b" ");
     io::write_all(STDOUT_FILENO, &digits[..n]);
     show_end(b"", true, is_untouched(rest(buf, len)));
 }

@@ -46,6 +46,9 @@ enum-known-end c = search needs
 sub-taken : tie.Need-sub-taken
 sub-taken c = search needs
 
+sub-began : tie.Need-sub-began
+sub-began c = omega (arith, at-frame (c .before) .1)
+
 add-next : tie.Need-add-next
 add-next c = omega (arith, at-frame (c .before) .1)
 
@@ -106,6 +109,7 @@ answer-spec =
     add-noise
     enum-known-end
     sub-taken
+    sub-began
     add-next
     may-follow-requires
     enum-told

@@ -13,7 +13,16 @@ use Rattle.frame.proofs.answer.took_first.Tie as tie
 
 -- Values with n bytes more taken.
 abbrev more : ℕ → Values → Values
-more n v = record { number = v .number; taken = n + v .taken; noise = v .noise; judged = v .judged; len = v .len; isFrame = v .isFrame }
+more n v =
+    record {
+      number = v .number;
+      taken = n + v .taken;
+      noise = v .noise;
+      judged = v .judged;
+      len = v .len;
+      began = v .began;
+      isFrame = v .isFrame;
+    }
 
 -- A call that took more has these.
 took-values : (n : ℕ) (c : Called) (total : ℕ) (ps : List (List ℕ)) → more n (calledValues c total ps) ≡ calledValues (tookFirst n c) total ps
@@ -30,14 +39,14 @@ taken-by a = feedValuesOf a .taken
 enum-known-answer : tie.Need-enum-known-answer
 enum-known-answer c = search needs
 
-add-t12 : tie.Need-add-t12
-add-t12 c = omega (arith, ap taken-by (c .before .answer .given .1))
+add-t13 : tie.Need-add-t13
+add-t13 c = omega (arith, ap taken-by (c .before .answer .given .1))
 
 enum-known-answer-2 : tie.Need-enum-known-answer-2
 enum-known-answer-2 c = search needs
 
-add-t13 : tie.Need-add-t13
-add-t13 c = omega (arith, ap taken-by (c .before .answer2 .given .1))
+add-t14 : tie.Need-add-t14
+add-t14 c = omega (arith, ap taken-by (c .before .answer2 .given .1))
 
 enum-known-answer-3 : tie.Need-enum-known-answer-3
 enum-known-answer-3 c = search needs
@@ -59,9 +68,9 @@ took-first-spec =
     tie.close
     (tie.spec
     enum-known-answer
-    add-t12
-    enum-known-answer-2
     add-t13
+    enum-known-answer-2
+    add-t14
     enum-known-answer-3
     returns
     returns-2

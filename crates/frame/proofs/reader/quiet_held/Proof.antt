@@ -147,6 +147,9 @@ hold-requires c κs =
 may-follow-requires : tie.Need-may-follow-requires
 may-follow-requires c κs = (omega (arith, some (c .before)), inside (c .before))
 
+sub-began : tie.Need-sub-began
+sub-began c = omega (arith, inside (c .before .before .before))
+
 enum-told : tie.Need-enum-told
 enum-told c = search needs
 
@@ -176,10 +179,10 @@ returns c =
     let next = drop (r .place + used) (a .s .now) in
     let h = payload-there (a .format) at used len (at-frame (c .before .before .before) .is-frame) in
     let stops = ap (stopOf (a .format) at) (end .given .1) in
-    quiet-right (a .format) (quietHeld (a .format) (a .s .now)) (called 0 (output (p ∷ []) (r .place)) next (isOpen (a .format) used at)) _ (a .buf .now) _ _
+    quiet-right (a .format) (quietHeld (a .format) (a .s .now)) (called 0 (output (p ∷ []) (r .place)) (length (a .s .now) - r .place) next (isOpen (a .format) used at)) _ (a .buf .now) _ _
     (scan-quiet-found (a .format) (a .s .now) (scanned (a .format) (a .s .now) r) used p (is x) stops)
     (record {
-      values = ap₂ (frameValues 0 (r .place)) (total-is y) (sym (h .1));
+      values = ap₂ (λ (j n : ℕ). frameValues 0 (r .place) j n (length (a .s .now) - r .place)) (total-is y) (sym (h .1));
       state = subst (λ (q : Bool). Holds (holding (a .format) next q 0) (c .hold .result))
           (c .before .may-follow .ensures ∙ open-at (a .format) used (some (c .before .before .before)) (r .place) (a .s .now))
           (subst (λ (l : List ℕ). Holds (holding (a .format) l (c .before .may-follow .result) 0) (c .hold .result)) (take-rest (a .s .now) (r .place + used))
@@ -210,7 +213,7 @@ returns-3 c =
     let a = start x .args in
     let r = x .find .result in
     let stops = ap (stopOf (a .format) (drop (r .place) (a .s .now))) (c .before .enum-told2 .given .1) in
-    quiet-right (a .format) (quietHeld (a .format) (a .s .now)) (called 0 (output [] (r .place)) [] false) _ (a .buf .now) _ _
+    quiet-right (a .format) (quietHeld (a .format) (a .s .now)) (called 0 (output [] (r .place)) 0 [] false) _ (a .buf .now) _ _
     (scan-quiet-passed (a .format) (a .s .now) (scanned (a .format) (a .s .now) r) (is x) stops)
     (record {
       values = ap quietValuesOf (c .emptied2 .ensures .1) ∙ ap (noFrameValues 0 (r .place)) (total-is y);
@@ -232,6 +235,7 @@ quiet-held-spec =
     part-hold-end
     may-follow-requires
     hold-requires
+    sub-began
     enum-told
     emptied-requires
     enum-told-2

@@ -10,8 +10,8 @@ use borrow.Author.Needs.{needs}
 use lib.ListN.{length, drop, length-drop}
 use Rattle.io.proofs.Counting.{front}
 use Rattle.frame.specs.Draining.{Reports}
-use Rattle.frame.specs.Reader.{Settled, stateOf, line, lineJudged, after, Holds, Values, frameValues, feedValuesOf, feedRefusal, sound, Feeds}
-use Rattle.frame.specs.Drain.{drain, judgedAfter}
+use Rattle.frame.specs.Reader.{stateOf, line, lineJudged, after, Holds, Values, frameValues, feedValuesOf, feedRefusal, sound, Feeds}
+use Rattle.frame.specs.Drain.{Drained, drain, judgedAfter}
 use Rattle.frame.proofs.Theorems.{feed-reports, feed-stays-sound, taken-is-inside}
 use Rattle.listing.specs.Parts.{PartlyDrained, Room, HeldListed, judgedMost}
 use Rattle.listing.specs.declared.list.Part.{Part}
@@ -123,7 +123,7 @@ limits : (f : tie.After-feed Inv-loop μ-loop) →
 limits f = feed-stays-sound (loop-at-feed f .loop .state) _ (loop-at-feed f .loop .buf) (f .feed .result) _ (feeds f) (loop-at-feed f .loop .inv .2)
 
 -- The bytes taken are within the chunk.
-taken-inside : (f : tie.After-feed Inv-loop μ-loop) {taken more n len : ℕ} → feedValuesOf (f .feed .result .answer) ≡ frameValues taken more n len →
+taken-inside : (f : tie.After-feed Inv-loop μ-loop) {taken more n len back : ℕ} → feedValuesOf (f .feed .result .answer) ≡ frameValues taken more n len back →
     loop-at-feed f .loop .done + taken ≤ length (entry-at-feed f .args .chunk .now)
 taken-inside f e =
     let chunk = entry-at-feed f .args .chunk .now in
@@ -182,7 +182,7 @@ loop-less c =
     let e = ap feedValuesOf (answer-at-slice-known2 c .answer .given .1) in
     let less = frame-less (l .inv .4) (fits f) _ _ (reports-frame _ (reports f) (free f) e) in
     let same = feed-left (l .state) (entry-at-feed (feed-at-slice-known2 c) .args .chunk .now) (l .done) _ (f .feed .result .reader) (reports-next _ (reports f) (free f)) (reports-taken _ (reports f) (free f) e) in
-    omega (arith, less, ap (λ (st : Settled). length (st .out .frames)) same)
+    omega (arith, less, ap (λ (st : Drained). length (st .out .frames)) same)
 
 loop-again : tie.Need-loop-again Inv-loop μ-loop
 loop-again c =

@@ -97,23 +97,23 @@ room : (q : tie.After-quiet Inv-loop μ-loop) →
 room q = quiet-room (entry-at-quiet q .args .reader) (entry-at-quiet q .args .out .now) (sound-count (entry-at-quiet q .args .reader) (yes (q .before .before .before .before))) (q .before .before .before .if2 .left)
 
 -- With a frame: what is left begins with it.
-frame-left : (q : tie.After-quiet Inv-loop μ-loop) {taken more n len : ℕ} → quietValuesOf (q .quiet .result .answer) ≡ frameValues taken more n len →
+frame-left : (q : tie.After-quiet Inv-loop μ-loop) {taken more n len back : ℕ} → quietValuesOf (q .quiet .result .answer) ≡ frameValues taken more n len back →
     ruleAfter (stateOf (loop-at-quiet q .loop .state)) [] ≡ join (one (take len (q .quiet .last .1 .0)) more) (ruleAfter (stateOf (q .quiet .result .reader)) [])
 frame-left q e = quiet-next (loop-at-quiet q .loop .state) (q .quiet .result .reader) (reports-next _ (reports q) (free q)) _ _ (reports-frame _ (reports q) (free q) e)
 
-frame-few : (q : tie.After-quiet Inv-loop μ-loop) {taken more n len : ℕ} → quietValuesOf (q .quiet .result .answer) ≡ frameValues taken more n len →
+frame-few : (q : tie.After-quiet Inv-loop μ-loop) {taken more n len back : ℕ} → quietValuesOf (q .quiet .result .answer) ≡ frameValues taken more n len back →
     loop-at-quiet q .loop .noise-total + more ≤ 517
 unfolding join
 frame-few q {more = more} e =
     let l : more ≤ ruleAfter (stateOf (loop-at-quiet q .loop .state)) [] .noise = omega (arith, ap (λ (o : Output (List ℕ)). o .noise) (frame-left q e)) in
     omega (arith, progress-noise (loop-at-quiet q .loop .inv .3) more l, room q .1)
 
-frame-less : (q : tie.After-quiet Inv-loop μ-loop) {taken more n len : ℕ} → quietValuesOf (q .quiet .result .answer) ≡ frameValues taken more n len →
+frame-less : (q : tie.After-quiet Inv-loop μ-loop) {taken more n len back : ℕ} → quietValuesOf (q .quiet .result .answer) ≡ frameValues taken more n len back →
     length (ruleAfter (stateOf (q .quiet .result .reader)) [] .frames) < length (ruleAfter (stateOf (loop-at-quiet q .loop .state)) [] .frames)
 unfolding join
 frame-less q e = omega (arith, ap (λ (o : Output (List ℕ)). length (o .frames)) (frame-left q e))
 
-frame-judged : (q : tie.After-quiet Inv-loop μ-loop) {taken more n len : ℕ} → quietValuesOf (q .quiet .result .answer) ≡ frameValues taken more n len →
+frame-judged : (q : tie.After-quiet Inv-loop μ-loop) {taken more n len back : ℕ} → quietValuesOf (q .quiet .result .answer) ≡ frameValues taken more n len back →
     let s = stateOf (loop-at-quiet q .loop .state) in judgedAfter s [] ≡ quietJudged s + judgedAfter (stateOf (q .quiet .result .reader)) []
 frame-judged q e =
     quiet-next-judged (loop-at-quiet q .loop .state) (q .quiet .result .reader) (reports-next _ (reports q) (free q)) _ _

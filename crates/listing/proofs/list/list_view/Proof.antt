@@ -8,9 +8,9 @@ use borrow.Author.Needs.{needs}
 use lib.ListN.{length, drop}
 use Rattle.io.proofs.Counting.{front}
 use Rattle.frame.specs.Draining.{Reports}
-use Rattle.frame.specs.Reader.{State, Settled, Values, feedValuesOf}
+use Rattle.frame.specs.Reader.{State, Values, feedValuesOf}
 use Rattle.frame.specs.View.{inside, viewed, viewCall, viewJudged, Follows, viewRefusal}
-use Rattle.frame.specs.Drain.{drain, judgedAfter}
+use Rattle.frame.specs.Drain.{Drained, drain, judgedAfter}
 use Rattle.frame.proofs.Theorems.{view-reports, view-stays-inside}
 use Rattle.listing.specs.Parts.{PartlyDrained, Room, viewDrain, judgedMost}
 use Rattle.listing.proofs.Chunks.{partly-drained, all-judged, call-judged, frame-room, frame-noise, frame-step, frame-less, none-noise}
@@ -123,7 +123,7 @@ loop-less c =
     let l = loop-at-feed (feed-at-slice-known2 c) .loop in
     let less = frame-less (l .inv .3) (fits f) _ _ (reports-frame _ (reports f) (free f) (ap feedValuesOf (answer-at-slice-known2 c .answer .given .1))) in
     let same = view-left (l .view) (entry-at-feed (feed-at-slice-known2 c) .args .chunk .now) (f .feed .result .view) (reports-next _ (reports f) (free f)) in
-    omega (arith, less, ap (λ (st : Settled). length (st .out .frames)) same)
+    omega (arith, less, ap (λ (st : Drained). length (st .out .frames)) same)
 
 loop-again : tie.Need-loop-again Inv-loop μ-loop
 loop-again c =
