@@ -2,8 +2,9 @@
 -- Assumes nothing.
 use Prim.Native.Nat.{ℕ, zero, suc, _<_}
 use native.Mathlib.Omega.{arith}
-use mathlib.Core.Path.{_≡_, refl}
-use mathlib.Core.Bool.{Bool, true, false, cond}
+use mathlib.Core.Path.{_≡_, refl, sym, ap, _∙_, subst}
+use mathlib.Core.List.{List}
+use mathlib.Core.Bool.{Bool, true, false, cond, true≢false}
 use lib.Dec.{eqb, leb}
 use borrow.Author.Tests.{leb-true, ne-eqb}
 use Rattle.frame.specs.Framing.{formatOf as defaultFormat}
@@ -13,7 +14,12 @@ use Rattle.frame.specs.declared.framing.Footer.the-variants.{Optional, Required
 use Rattle.frame.specs.declared.framing.Ending.the-variants.{CrLf, Any}
 use Rattle.frame.specs.declared.framing.Format.{Format}
 use Rattle.frame.specs.declared.framing.Format.the-variants.{Binary, Ascii}
+use Rattle.frame.specs.Reader.{feedValuesOf, quietValuesOf}
 use Rattle.frame.specs.declared.reader.Reader.{Reader}
+use Rattle.frame.specs.declared.answer.FeedAnswer.{FeedAnswer}
+use Rattle.frame.specs.declared.answer.FeedAnswer.the-variants.{Frame as FeedFrame, NeedsMore, Refused as FeedRefused}
+use Rattle.frame.specs.declared.answer.QuietAnswer.{QuietAnswer}
+use Rattle.frame.specs.declared.answer.QuietAnswer.the-variants.{Frame as QuietFrame, Empty, Refused as QuietRefused}
 use Rattle.message.specs.FromModule.{outcomeByte}
 use Rattle.message.specs.Options.{byteGiven, wordGiven}
 use Rattle.message.specs.Setup.{commandNumber, commandOf}
@@ -38,8 +44,8 @@ use Rattle.message.specs.declared.from_module.Outcome.the-variants.{Failure, Su
 use Rattle.message.specs.declared.from_module.Notice.{Notice}
 use Rattle.message.specs.declared.from_module.Notice.the-variants.{Response as IsResponse, Standard, Remote, Setup}
 use Rattle.boundary.specs.Framing.{framingOf, formatOf, formatNumber, unknownNumber}
-use Rattle.boundary.specs.Line.{markNumber, markIn, flatReader, formatIn, readerIn}
-use Rattle.boundary.specs.Claims.{CrossesBack}
+use Rattle.boundary.specs.Line.{flatValues, markNumber, markIn, flatReader, formatIn, readerIn, FeedsFlat, QuietsFlat}
+use Rattle.boundary.specs.Claims.{CrossesBack, ZeroWithoutFrame, NoneIsZero}
 use Rattle.boundary.specs.Options.{byteOf, wordOf, byteIn, wordIn, optionNumbers, optionsIn}
 use Rattle.boundary.specs.ToModule.{transmissionNumbers, requestNumbers, setupNumbers, transmissionIn, requestIn}
 use Rattle.boundary.specs.ToModule.{addressKind, changeRefusalIn, setupRefusalIn}
@@ -49,6 +55,8 @@ use Rattle.boundary.specs.declared.framing.NamedFraming.the-variants.{Kn
 use Rattle.boundary.specs.declared.framing.NamedFormat.{NamedFormat}
 use Rattle.boundary.specs.declared.framing.NamedFormat.the-variants.{Known as KnownFormat, Unknown as NoFormat}
 use Rattle.boundary.specs.declared.line.LineReader.{LineReader}
+use Rattle.boundary.specs.declared.line.LineAnswer.{LineAnswer}
+use Rattle.boundary.specs.declared.line.LineFed.{LineFed}
 use Rattle.boundary.specs.declared.to_module.NamedRequest.the-variants.{Known as KnownRequest}
 use Rattle.boundary.specs.declared.from_module.NamedDelivery.the-variants.{Known as KnownDelivery, Unknown as NoDelivery}
 use Rattle.boundary.specs.declared.from_module.NamedNotice.the-variants.{Known as KnownNotice, Unknown as NoNotice}
@@ -248,3 +256,33 @@ crosses-back =
       noticeNoDelivery = notice-no-delivery;
       deliveryNoNotice = delivery-no-notice;
     }
+
+-- The numbers of an answer without a frame.
+fed-zero : (a : FeedAnswer) → feedValuesOf a .isFrame ≡ false → ZeroWithoutFrame (flatValues (feedValuesOf a))
+fed-zero (FeedFrame taken noise judged len began) e = absurd (true≢false e)
+fed-zero (NeedsMore taken noise judged) e = record { len = refl; began = refl }
+fed-zero (FeedRefused r) e = record { len = refl; began = refl }
+
+quiet-zero : (a : QuietAnswer) → quietValuesOf a .isFrame ≡ false → ZeroWithoutFrame (flatValues (quietValuesOf a))
+quiet-zero (QuietFrame noise judged len began) e = absurd (true≢false e)
+quiet-zero (Empty noise judged) e = record { len = refl; began = refl }
+quiet-zero (QuietRefused r) e = record { len = refl; began = refl }
+
+-- They are what crosses.
+zero-crosses : {a b : LineAnswer} → a ≡ b → (b .«is_frame» ≡ false → ZeroWithoutFrame b) → a .«is_frame» ≡ false → ZeroWithoutFrame a
+zero-crosses e none n = subst ZeroWithoutFrame (sym e) (none (ap (λ (x : LineAnswer). x .«is_frame») (sym e) ∙ n))
+
+at-line :
+    (m : NamedFormat) (r : LineReader) (chunk buf : List ℕ) (fed : LineFed) (after : List ℕ) → FeedsFlat m r chunk buf fed after →
+    fed .answer .«is_frame» ≡ false → ZeroWithoutFrame (fed .answer)
+at-line (KnownFormat f) r chunk buf fed after p = zero-crosses (ap (λ (x : LineFed). x .answer) (p .crosses)) (fed-zero (p .answer .answer))
+at-line NoFormat r chunk buf fed after p = zero-crosses (ap (λ (x : LineFed). x .answer) (p .refuses)) (λ _. record { len = refl; began = refl })
+
+at-quiet :
+    (m : NamedFormat) (r : LineReader) (buf : List ℕ) (fed : LineFed) (after : List ℕ) → QuietsFlat m r buf fed after →
+    fed .answer .«is_frame» ≡ false → ZeroWithoutFrame (fed .answer)
+at-quiet (KnownFormat f) r buf fed after p = zero-crosses (ap (λ (x : LineFed). x .answer) (p .crosses)) (quiet-zero (p .answer .answer))
+at-quiet NoFormat r buf fed after p = zero-crosses (ap (λ (x : LineFed). x .answer) (p .refuses)) (λ _. record { len = refl; began = refl })
+
+pub none-is-zero : NoneIsZero
+none-is-zero = record { atLine = at-line; atQuiet = at-quiet }

@@ -1,7 +1,10 @@
 -- What is claimed of the flat form. A state that a call gave can be handed to the next call as it is, and so can a message that was read across the boundary
--- to a write: its numbers stand for it, and for no message of another call. proofs/Theorems.antt proves each claim.
+-- to a write: its numbers stand for it, and for no message of another call. An answer without a frame has 0 in the fields that speak of one.
+-- proofs/Theorems.antt proves each claim.
 use Prim.Native.Nat.{ℕ, _<_}
 use mathlib.Core.Path.{_≡_}
+use mathlib.Core.List.{List}
+use mathlib.Core.Bool.{false}
 use Rattle.frame.specs.Framing.{formatOf as defaultFormat}
 use Rattle.frame.specs.Reader.{newReader}
 use Rattle.frame.specs.declared.framing.Framing.{Framing}
@@ -19,12 +22,15 @@ use Rattle.message.specs.declared.to_module.OutputChange.{OutputChange}
 use Rattle.message.specs.declared.from_module.Delivery.{Delivery}
 use Rattle.message.specs.declared.from_module.Notice.{Notice}
 use Rattle.boundary.specs.Framing.{framingOf, formatOf, formatNumber, unknownNumber}
-use Rattle.boundary.specs.Line.{flatReader, formatIn, readerIn, newFlat}
+use Rattle.boundary.specs.Line.{flatReader, formatIn, readerIn, newFlat, FeedsFlat, QuietsFlat}
 use Rattle.boundary.specs.ToModule.{requestNumbers, changeNumbers, setupNumbers, requestIn, changeIn, changeRefusalIn, setupRefusalIn}
 use Rattle.boundary.specs.FromModule.{deliveryNumbers, noticeNumbers, deliveryIn, noticeIn}
 use Rattle.boundary.specs.declared.framing.NamedFraming.the-variants.{Known as KnownFraming, Unknown as NoFraming}
+use Rattle.boundary.specs.declared.framing.NamedFormat.{NamedFormat}
 use Rattle.boundary.specs.declared.framing.NamedFormat.the-variants.{Known as KnownFormat, Unknown as NoFormat}
 use Rattle.boundary.specs.declared.line.LineReader.{LineReader}
+use Rattle.boundary.specs.declared.line.LineAnswer.{LineAnswer}
+use Rattle.boundary.specs.declared.line.LineFed.{LineFed}
 use Rattle.boundary.specs.declared.to_module.NamedRequest.the-variants.{Known as KnownRequest, Unknown as NoRequest}
 use Rattle.boundary.specs.declared.from_module.NamedDelivery.the-variants.{Known as KnownDelivery, Unknown as NoDelivery}
 use Rattle.boundary.specs.declared.from_module.NamedNotice.the-variants.{Known as KnownNotice, Unknown as NoNotice}
@@ -63,3 +69,16 @@ pub record CrossesBack : Type 0 where
   -- From the module: the same.
   pub noticeNoDelivery : (m : Notice) → deliveryIn (noticeNumbers m) ≡ NoDelivery
   pub deliveryNoNotice : (m : Delivery) (start : ℕ) → noticeIn (deliveryNumbers m start) ≡ NoNotice
+
+-- Of a line or quiet call, refused ones too: without a frame, the payload's length is 0, and so is how far back a frame began.
+pub record ZeroWithoutFrame (a : LineAnswer) : Type 0 where
+  pub len : a .len ≡ 0
+  pub began : a .began ≡ 0
+
+pub record NoneIsZero : Type 0 where
+  pub atLine :
+      (m : NamedFormat) (r : LineReader) (chunk buf : List ℕ) (fed : LineFed) (after : List ℕ) → FeedsFlat m r chunk buf fed after →
+      fed .answer .«is_frame» ≡ false → ZeroWithoutFrame (fed .answer)
+  pub atQuiet :
+      (m : NamedFormat) (r : LineReader) (buf : List ℕ) (fed : LineFed) (after : List ℕ) → QuietsFlat m r buf fed after →
+      fed .answer .«is_frame» ≡ false → ZeroWithoutFrame (fed .answer)

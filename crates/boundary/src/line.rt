@@ -7,7 +7,7 @@ use frame::Format;
 use frame::QuietAnswer;
 use frame::Reader;
 ghost use mathlib.Core.Path.{_≡_};
-ghost use Rattle.frame.specs.Reader.{refusalValues, feedValuesOf, quietValuesOf};
+ghost use Rattle.frame.specs.Reader.{refusalValues, frameValues, noFrameValues, feedValuesOf, quietValuesOf};
 ghost use Rattle.boundary.specs.Line.{markNumber, flatReader, flatValues, formatIn, readerIn, newFlat, FeedsFlat, QuietsFlat};
 
 // A reader's state: its format as a number, the bytes that it holds, the first `count` of `held`, whether an optional byte may follow the last frame, 0 for no,
@@ -23,7 +23,7 @@ pub struct LineReader {
 }
 
 // The answer's numbers: the refusal's, 0 for none, whether there is a frame, bytes taken, noise, bytes judged, the payload's length, and how far before the
-// first byte that is not taken the frame began, at a quiet before the segment's end.
+// first byte that is not taken, at a quiet before the segment's end, the frame began, 0 where there is none.
 #[repr(C)]
 pub struct LineAnswer {
     pub refusal: u8,
@@ -56,6 +56,34 @@ fn refused(number: u8) -> LineAnswer
     }
 }
 
+fn with_frame(taken: usize, noise: usize, judged: usize, len: usize, began: usize) -> LineAnswer
+    ensures { λ r. ⌜ r ≡ flatValues (frameValues taken noise judged len began) ⌝ }
+{
+    LineAnswer {
+        refusal: 0,
+        is_frame: true,
+        taken: taken,
+        noise: noise,
+        judged: judged,
+        len: len,
+        began: began,
+    }
+}
+
+fn without_frame(taken: usize, noise: usize, judged: usize) -> LineAnswer
+    ensures { λ r. ⌜ r ≡ flatValues (noFrameValues taken noise judged) ⌝ }
+{
+    LineAnswer {
+        refusal: 0,
+        is_frame: false,
+        taken: taken,
+        noise: noise,
+        judged: judged,
+        len: 0,
+        began: 0,
+    }
+}
+
 fn fed_numbers(answer: FeedAnswer) -> LineAnswer
     ensures { λ r. ⌜ r ≡ flatValues (feedValuesOf answer) ⌝ }
 {
@@ -66,28 +94,12 @@ fn fed_numbers(answer: FeedAnswer) -> LineAnswer
             judged,
             len,
             began,
-        } => LineAnswer {
-            refusal: 0,
-            is_frame: true,
-            taken: taken,
-            noise: noise,
-            judged: judged,
-            len: len,
-            began: began,
-        },
+        } => with_frame(taken, noise, judged, len, began),
         FeedAnswer::NeedsMore {
             taken,
             noise,
             judged,
-        } => LineAnswer {
-            refusal: 0,
-            is_frame: false,
-            taken: taken,
-            noise: noise,
-            judged: judged,
-            len: 0,
-            began: 0,
-        },
+        } => without_frame(taken, noise, judged),
         FeedAnswer::Refused(refusal) => refused(refusal.number()),
     }
 }
@@ -101,24 +113,8 @@ fn quiet_numbers(answer: QuietAnswer) -> LineAnswer
             judged,
             len,
             began,
-        } => LineAnswer {
-            refusal: 0,
-            is_frame: true,
-            taken: 0,
-            noise: noise,
-            judged: judged,
-            len: len,
-            began: began,
-        },
-        QuietAnswer::Empty { noise, judged } => LineAnswer {
-            refusal: 0,
-            is_frame: false,
-            taken: 0,
-            noise: noise,
-            judged: judged,
-            len: 0,
-            began: 0,
-        },
+        } => with_frame(0, noise, judged, len, began),
+        QuietAnswer::Empty { noise, judged } => without_frame(0, noise, judged),
         QuietAnswer::Refused(refusal) => refused(refusal.number()),
     }
 }

@@ -1,4 +1,4 @@
--- Where frames stood, over any list of calls: it says what is worked out from the segment alone, and gives the rule's places.
+-- Where frames began, over any list of calls: it says what is worked out from the segment alone, and gives the rule's places.
 -- Assumes nothing.
 use Prim.Native.Nat.{ℕ, _+_, _-_, _≤_, max, zero-le}
 use native.Mathlib.Nat.{zero-add, le-refl}
@@ -11,15 +11,15 @@ use Rattle.frame.specs.Checks.{Verdict, cut, refused, frame, byte, test,
 use Rattle.frame.specs.Binary.{binary, body, footer}
 use Rattle.frame.specs.Digit.{isDigit, digitValue}
 use Rattle.frame.specs.Ascii.{ascii, hexDigits, lineEnding, lineEnd, afterDigits}
-use Rattle.frame.specs.Framing.{judgedAt, read, absorbed}
+use Rattle.frame.specs.Framing.{judgedAt, read}
 use Rattle.frame.specs.Rule.{Output, Found, join, onBy, places, outAt, outFrom, rule}
 use Rattle.frame.specs.Reader.{State, Called, line, quietHeld, quiet, lineJudged, quietJudged, after, stateOf, Values, feedValuesOf, quietValuesOf}
-use Rattle.frame.specs.Reader.{calledValues, Feeds, Quiets}
-use Rattle.frame.specs.Elements.{All}
+use Rattle.frame.specs.Reader.{calledValues, refusalValues, Feeds, Quiets}
 use Rattle.frame.specs.Calls.{Answered, WithFrame, WithoutFrame, outOf, Phase, offering, ending, over}
 use Rattle.frame.specs.Calls.{Calls, fed, taken, quieted, emptied, feedRefused, quietRefused, done}
-use Rattle.frame.specs.Positions.{Position, position, stoodAt, stoodFrom, saidOf, saidBy, CallsStand, CutsAgree, CallsStandFrom}
-use Rattle.frame.specs.Positions.{placeOf, GivesPlaces, CallsGivePlaces, NoneIsZero, StoodExamples}
+use Rattle.frame.specs.Positions.{Position, position, positionAt, positionsFrom, positionOf, positionsBy, takenBy, AllIsTaken, CallsGivePositions}
+use Rattle.frame.specs.Positions.{CutsAgree, GivesPlaces, CallsGivePlaces, firstAfter, placesAfter, positionsAfter, CallsGiveAfter, NoneIsZero}
+use Rattle.frame.specs.Positions.{PositionExamples, PositionsAfterExamples}
 use Rattle.frame.specs.declared.framing.Format.{Format}
 use Rattle.frame.specs.declared.reader.Reader.{Reader}
 use Rattle.frame.specs.declared.reader.Fed.{Fed}
@@ -32,7 +32,7 @@ use Rattle.frame.proofs.Settling.{line-one, line-taken, quiet-one, quie
 use Rattle.frame.proofs.Promises.{answered, refusing, hands-out, takes}
 use Rattle.frame.proofs.Calling.{empty-none, frame-holds, emptied-fresh}
 use Rattle.frame.proofs.Optional.{absorbed-nil}
-use Rattle.frame.proofs.Positions.{standing, standingBehind, LeadsBehind, line-leads, quiet-leads}
+use Rattle.frame.proofs.Positions.{positionsIn, positionsBehind, LeadsBehind, line-leads, quiet-leads}
 
 -- What is said of the payloads that came out of a call, by the call's number or by that of its answer.
 said-alike :
@@ -44,13 +44,13 @@ said-alike c j from (p ∷ ps) = refl
 -- An answer says of its frame what the call gives.
 said-is :
     (c : Called) (j from from′ : ℕ) (v : Values) (buf : List ℕ) → v ≡ calledValues c j (c .out .frames) → outOf v buf ≡ c .out → from ≡ from′ →
-    saidOf v buf from ≡ map (λ p. position p from′ (c .began)) (c .out .frames)
+    positionOf v buf from ≡ map (λ p. position p from′ (c .began)) (c .out .frames)
 said-is c j from from′ v buf e o same =
     (λ i. map (λ p. position p (same i) (e i .began)) (o i .frames)) ∙ said-alike c j from′ (c .out .frames)
 
 -- What the rule gives from a state on, where `at` bytes were taken, the held ones the last of them.
 abbrev ahead : State → ℕ → List ℕ → List Position
-ahead s at todo = standingBehind (s .format) (s .follows) at (at - length (s .held)) (s .held ++ todo)
+ahead s at todo = positionsBehind (s .format) (s .follows) at (at - length (s .held)) (s .held ++ todo)
 
 -- What is left to be said by a list of calls from the reader r with todo still to be taken.
 abbrev left : Phase → Reader → ℕ → List ℕ → List Position
@@ -62,17 +62,17 @@ left over r at todo = []
 first-said :
     (s : State) (at : ℕ) (todo : List ℕ) (c : Called) → length (s .held) ≤ at →
     LeadsBehind (s .format) (length (s .held)) todo (at - length (s .held)) c
-    (standingBehind (s .format) (s .follows) (at - length (s .held) + length (s .held)) (at - length (s .held)) (s .held ++ todo)) →
+    (positionsBehind (s .format) (s .follows) (at - length (s .held) + length (s .held)) (at - length (s .held)) (s .held ++ todo)) →
     (length (c .held) ≤ at + c .taken)
     × (ahead s at todo ≡ map (λ p. position p (at + c .taken) (c .began)) (c .out .frames) ++ ahead (after s c) (at + c .taken) (drop (c .taken) todo))
 first-said s at todo c l k =
     let f : Format = s .format in
     let whole : at - length (s .held) + length (s .held) ≡ at = omega arith in (
       omega (arith, k .few),
-      ap (λ (r : ℕ). standingBehind f (s .follows) r (at - length (s .held)) (s .held ++ todo)) (sym whole)
+      ap (λ (r : ℕ). positionsBehind f (s .follows) r (at - length (s .held)) (s .held ++ todo)) (sym whole)
           ∙ k .same
           ∙ ap (λ (r : ℕ). map (λ p. position p (r + c .taken) (c .began)) (c .out .frames)
-          ++ standingBehind f (c .follows) (r + c .taken) (r + c .taken - length (c .held)) (c .held ++ drop (c .taken) todo)) whole,
+          ++ positionsBehind f (c .follows) (r + c .taken) (r + c .taken - length (c .held)) (c .held ++ drop (c .taken) todo)) whole,
     )
 
 -- A line call and a quiet call do.
@@ -103,7 +103,7 @@ fed-says :
     {r : Reader} {todo : List ℕ} (chunk more buf buf′ : List ℕ) (a : Fed) (at : ℕ) (later : List Position) → Feeds r chunk buf a buf′ →
     Answered (feedValuesOf (a .answer)) → todo ≡ chunk ++ more → length (stateOf r .held) ≤ at →
     let v : Values = feedValuesOf (a .answer) in
-    later ≡ ahead (stateOf (a .reader)) (at + v .taken) (drop (v .taken) todo) → saidOf v buf′ (at + v .taken) ++ later ≡ ahead (stateOf r) at todo
+    later ≡ ahead (stateOf (a .reader)) (at + v .taken) (drop (v .taken) todo) → positionOf v buf′ (at + v .taken) ++ later ≡ ahead (stateOf r) at todo
 fed-says {r} {todo} chunk more buf buf′ a at later p z e l k =
     let s : State = stateOf r in
     let c : Called = line s chunk in
@@ -143,7 +143,7 @@ fed-keeps {r} {todo} {at} {size} chunk more buf buf′ a p z e k =
 quieted-says :
     {r : Reader} (buf buf′ : List ℕ) (a : Quieted) (at size : ℕ) (later : List Position) → Quiets r buf a buf′ →
     WithFrame (quietValuesOf (a .answer)) → Keeps r [] at size → later ≡ ahead (stateOf (a .reader)) at [] →
-    saidOf (quietValuesOf (a .answer)) buf′ size ++ later ≡ ahead (stateOf r) at []
+    positionOf (quietValuesOf (a .answer)) buf′ size ++ later ≡ ahead (stateOf r) at []
 quieted-says {r} buf buf′ a at size later p n k e =
     let s : State = stateOf r in
     let c : Called = quiet s in
@@ -166,7 +166,7 @@ quieted-keeps {r} {at} buf buf′ a p n k =
 emptied-says :
     {r : Reader} (buf buf′ : List ℕ) (a : Quieted) (at : ℕ) → Quiets r buf a buf′ → WithoutFrame (quietValuesOf (a .answer)) →
     length (stateOf r .held) ≤ at → [] ≡ ahead (stateOf r) at []
-unfolding places stoodFrom
+unfolding places positionsFrom
 emptied-says {r} buf buf′ a at p n l =
     let s : State = stateOf r in
     let f : Format = s .format in
@@ -175,15 +175,15 @@ emptied-says {r} buf buf′ a at p n l =
     sym
     (quiet-said s at l .1
     ∙ ap₂
-    (λ (fs : List (List ℕ)) (h : List ℕ). map (λ p. position p at (c .began)) fs ++ standingBehind f (c .follows) at (at - length h) (h ++ []))
+    (λ (fs : List (List ℕ)) (h : List ℕ). map (λ p. position p at (c .began)) fs ++ positionsBehind f (c .follows) at (at - length h) (h ++ []))
     none
     (quiet-left s none)
-    ∙ ap (λ (k : ℕ). standing f at (at - 0 + k) (drop k [])) (absorbed-nil f (c .follows)))
+    ∙ ap (λ (k : ℕ). positionsIn f at (at - 0 + k) (drop k [])) (absorbed-nil f (c .follows)))
 
 -- Whatever the calls, they say what the rule gives from the state on.
 calls-say :
     {phase : Phase} {r : Reader} {todo : List ℕ} {out : Output (List ℕ)} (calls : Calls phase r todo out) (size at : ℕ) → Keeps r todo at size →
-    saidBy size at calls ≡ left phase r at todo
+    positionsBy size at calls ≡ left phase r at todo
 calls-say (fed {r} chunk more buf buf′ a p n e later) size at k =
     fed-says {r = r} chunk more buf buf′ a at _ p n e (k .few) (calls-say later size _ (fed-keeps {r = r} chunk more buf buf′ a p n e k))
 calls-say (taken later) size at k = calls-say later size at k
@@ -201,56 +201,90 @@ calls-say (quietRefused {phase} {r} {todo} buf buf′ a p n later) size at k =
     calls-say later size at (subst (λ (x : Reader). Keeps x todo at size) (sym same) k) ∙ ap (λ (x : Reader). left phase x at todo) same
 calls-say done size at k = refl
 
--- From any reader.
-pub calls-stand-from : CallsStandFrom
-calls-stand-from r todo out calls =
-    let s : State = stateOf r in
-    let f : Format = s .format in
-    let count : ℕ = length (s .held) in
-    let n : ℕ = absorbed f (s .follows) (s .held ++ todo) in
-    let first : count - count + n ≡ n = omega arith in
-    calls-say calls (count + length todo) count (record { all = refl; few = le-refl count })
-    ∙ ap (λ (k : ℕ). standing f count k (drop n (s .held ++ todo))) first
-
--- From a new one, over a whole segment.
-pub calls-stand : (f : Format) → CallsStand f
-calls-stand f segment out calls = calls-say calls (length segment) 0 (record { all = zero-add (length segment); few = zero-le })
+-- From a new reader, over a whole segment.
+pub calls-give-positions : (f : Format) → CallsGivePositions f
+calls-give-positions f segment out calls = calls-say calls (length segment) 0 (record { all = zero-add (length segment); few = zero-le })
 
 -- So it is for two lists of calls.
 pub cuts-agree : (f : Format) → CutsAgree f
-cuts-agree f segment out out′ a b = calls-stand f segment out a ∙ sym (calls-stand f segment out′ b)
+cuts-agree f segment out out′ a b = calls-give-positions f segment out a ∙ sym (calls-give-positions f segment out′ b)
 
 module _ (f : Format) where
   -- What the rule gives at a place is its frame there.
   place-at :
       (v : Verdict) (place far : ℕ) (said : List Position) (o : Output Found) → place ≤ far → GivesPlaces said (o .frames) →
-      GivesPlaces (stoodAt v place far ++ said) (join (outAt place v) o .frames)
+      GivesPlaces (positionAt v place far ++ said) (join (outAt place v) o .frames)
   unfolding join
   place-at cut place far said o l h = h
   place-at (refused judged n) place far said o l h = h
   place-at (frame used p) place far said o l h =
       let back : far - (far - place) ≡ place = omega arith in
       record {
-        places = ap₂ _∷_ back (h .places);
-        payloads = ap (λ (l : List (List ℕ)). p ∷ l) (h .payloads);
+        place = ap₂ _∷_ back (h .place);
+        payload = ap (λ (l : List (List ℕ)). p ∷ l) (h .payload);
         inside = (omega arith, h .inside);
       }
 
   -- At all places.
-  place-from : (reach place : ℕ) (ss : List (List ℕ)) → GivesPlaces (stoodFrom f reach place ss) (outFrom f place ss .frames)
-  unfolding stoodFrom outFrom
-  place-from reach place [] = record { places = refl; payloads = refl; inside = tt }
+  place-from : (reach place : ℕ) (ss : List (List ℕ)) → GivesPlaces (positionsFrom f reach place ss) (outFrom f place ss .frames)
+  unfolding positionsFrom outFrom
+  place-from reach place [] = record { place = refl; payload = refl; inside = tt }
   place-from reach place (s ∷ ss) =
       let far : ℕ = max reach (place + judgedAt f s) in
-      place-at (read f s) place far (stoodFrom f far (place + onBy (read f s)) ss) (outFrom f (place + onBy (read f s)) ss) (omega arith)
+      place-at (read f s) place far (positionsFrom f far (place + onBy (read f s)) ss) (outFrom f (place + onBy (read f s)) ss) (omega arith)
       (place-from far (place + onBy (read f s)) ss)
 
   -- Over a segment, so that what a list of calls says gives the places.
   pub calls-give-places : CallsGivePlaces f
   unfolding rule
   calls-give-places segment out calls =
-      subst (λ (said : List Position). GivesPlaces said (rule f segment .frames)) (sym (calls-stand f segment out calls))
+      subst (λ (said : List Position). GivesPlaces said (rule f segment .frames)) (sym (calls-give-positions f segment out calls))
       (place-from 0 0 (places f 0 segment))
+
+-- From any reader.
+pub calls-give-after : CallsGiveAfter
+calls-give-after r todo out calls =
+    let s : State = stateOf r in
+    let f : Format = s .format in
+    let count : ℕ = length (s .held) in
+    let n : ℕ = firstAfter s todo in
+    let first : count - count + n ≡ n = omega arith in
+    let same : positionsBy (count + length todo) count calls ≡ positionsAfter s todo =
+    calls-say calls (count + length todo) count (record { all = refl; few = le-refl count })
+    ∙ ap (λ (k : ℕ). positionsIn f count k (drop n (s .held ++ todo))) first in
+    record {
+      positions = same;
+      frames = subst (λ (said : List Position). GivesPlaces said (outFrom f n (placesAfter s todo) .frames)) (sym same)
+          (place-from f count n (placesAfter s todo));
+    }
+
+-- An answered quiet call takes no byte.
+quiet-takes : {r : Reader} (buf buf′ : List ℕ) (a : Quieted) → Quiets r buf a buf′ → Answered (quietValuesOf (a .answer)) → quietValuesOf (a .answer) .taken ≡ 0
+unfolding quietHeld
+quiet-takes {r} buf buf′ a p z = takes (quiet (stateOf r)) (quietJudged (stateOf r)) p z
+
+-- Nor does a refused call.
+none-taken : {v : Values} {n : ℕ} → v ≡ refusalValues n → (later : ℕ) → v .taken + later ≡ later
+none-taken e later = ap (λ (v : Values). v .taken + later) e ∙ zero-add later
+
+-- Whatever the calls, all that was to be taken is taken.
+taken-is : {phase : Phase} {r : Reader} {todo : List ℕ} {out : Output (List ℕ)} (calls : Calls phase r todo out) → takenBy calls ≡ length todo
+taken-is (fed {r} {todo} chunk more buf buf′ a p n e later) =
+    let s : State = stateOf r in
+    let v : Values = feedValuesOf (a .answer) in
+    let there : length todo ≡ length chunk + length more = ap length e ∙ length-append chunk more in
+    omega (arith, taken-is later, length-drop (v .taken) todo, takes (line s chunk) (lineJudged s chunk) p n, line-taken s chunk, there)
+taken-is (taken later) = taken-is later
+taken-is (quieted {r} buf buf′ a p n later) = ap₂ _+_ (quiet-takes {r = r} buf buf′ a p (n .answered)) (taken-is later)
+taken-is (emptied {r} buf buf′ a p n later) = ap₂ _+_ (quiet-takes {r = r} buf buf′ a p (n .answered)) (taken-is later)
+taken-is (feedRefused {r = r} chunk buf buf′ a p n later) =
+    none-taken (refusing (line (stateOf r) chunk) (lineJudged (stateOf r) chunk) p n .0) (takenBy later) ∙ taken-is later
+taken-is (quietRefused {r = r} buf buf′ a p n later) =
+    none-taken (refusing (quiet (stateOf r)) (quietJudged (stateOf r)) p n .0) (takenBy later) ∙ taken-is later
+taken-is done = refl
+
+pub all-is-taken : AllIsTaken
+all-is-taken r todo out calls = taken-is calls
 
 -- Without a frame the number is 0.
 pub none-is-zero : NoneIsZero
@@ -266,16 +300,22 @@ none-is-zero = record { atLine = at-line; atQuiet = at-quiet }
     at-quiet (Empty noise judged) e = refl
     at-quiet (QuietRefused r) e = refl
 
-pub stood-examples : StoodExamples
-unfolding places stoodFrom binary body footer ascii hexDigits isDigit digitValue lineEnding lineEnd afterDigits byte test word bytes
-stood-examples =
+pub position-examples : PositionExamples
+unfolding places positionsFrom binary body footer ascii hexDigits isDigit digitValue lineEnding lineEnd afterDigits byte test word bytes
+position-examples =
     record {
       clean = refl;
       optional = refl;
       required = refl;
+      anyEnding = refl;
+      behindColon = refl;
       late = refl;
+      lateRequired = refl;
       lateTwice = refl;
       atQuiet = refl;
-      lines = refl;
-      anyLines = refl;
+      atQuietTwice = refl;
     }
+
+pub positions-after-examples : PositionsAfterExamples
+unfolding places positionsFrom binary body footer ascii hexDigits isDigit digitValue lineEnding lineEnd afterDigits byte test word bytes
+positions-after-examples = record { twoHeld = refl; optionalHeld = refl }

@@ -37,7 +37,7 @@ pub mod RuleCounts
 pub mod CallCounts
 pub mod Bounds
 pub mod CountExamples
--- Where frames stood.
+-- Where frames began.
 pub mod Positions
 pub mod CallPositions
 -- Good frames behind damage.

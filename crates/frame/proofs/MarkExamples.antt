@@ -12,7 +12,7 @@ use Rattle.frame.specs.MarkExamples.{NextCallTakesIt, OtherFormats, Held
 pub next-call-takes-it : NextCallTakesIt
 unfolding lineOn lineFrom settle join binary body footer byte test word bytes
 next-call-takes-it =
-    record { stops = refl; cut = refl; stays = refl; taken = refl; once = refl; other = refl }
+    record { stops = refl; cut = refl; stays = refl; taken = refl; once = refl; other = refl; behind = refl }
 
 pub other-formats : OtherFormats
 unfolding lineOn lineFrom settle join binary body footer ascii hexDigits isDigit digitValue lineEnding lineEnd afterDigits byte test word bytes

@@ -1,4 +1,4 @@
--- Where frames stood, call by call: each call says of its frame what the rule gives from its state on, and later calls say the rest.
+-- Where frames began, call by call: each call says of its frame what the rule gives from its state on, and later calls say the rest.
 -- Assumes nothing.
 use Prim.Native.Nat.{ℕ, zero, suc, pred, _+_, _-_, _≤_, max, zero-le}
 use native.Mathlib.Nat.{add-assoc, le-trans, not-suc-le-zero}
@@ -12,7 +12,7 @@ use Rattle.frame.specs.Checks.{Verdict, cut, refused, frame}
 use Rattle.frame.specs.Framing.{judge, judgedAs, judgedAt, read, isOpen, absorbed, behindOptional}
 use Rattle.frame.specs.Rule.{nothing, noiseByte, handed, join, onBy, passAfter, places}
 use Rattle.frame.specs.Reader.{Settled, settled, settleAs, settle, Called, called, lineFrom, lineOn, tookFirst, lineBehind, ended, quietHeld}
-use Rattle.frame.specs.Positions.{Position, position, stoodAt, stoodFrom}
+use Rattle.frame.specs.Positions.{Position, position, positionAt, positionsFrom}
 use Rattle.frame.specs.declared.framing.Format.{Format}
 use Rattle.frame.proofs.Framings.{frame-sized}
 use Rattle.frame.proofs.Prefixes.{refused-sized}
@@ -24,62 +24,62 @@ use Rattle.frame.proofs.Counting.{judged-at-there}
 
 module _ (f : Format) where
   -- What the rule gives of s from the index `place` on, where bytes were judged up to `reach` before.
-  abbrev pub standing : ℕ → ℕ → List ℕ → List Position
-  standing reach place s = stoodFrom f reach place (places f 0 s)
+  abbrev pub positionsIn : ℕ → ℕ → List ℕ → List Position
+  positionsIn reach place s = positionsFrom f reach place (places f 0 s)
 
   -- The same behind an optional byte, where one may follow.
-  abbrev pub standingBehind : Bool → ℕ → ℕ → List ℕ → List Position
-  standingBehind follows reach place s = let n : ℕ = absorbed f follows s in standing reach (place + n) (drop n s)
+  abbrev pub positionsBehind : Bool → ℕ → ℕ → List ℕ → List Position
+  positionsBehind follows reach place s = let n : ℕ = absorbed f follows s in positionsIn reach (place + n) (drop n s)
 
   -- Where no frame stands, the rule goes on with the next byte.
-  standing-failed :
+  positions-failed :
       (reach place b : ℕ) (s : List ℕ) → NoFrame (judge f (b ∷ s)) →
-      standing reach place (b ∷ s) ≡ standing (max reach (place + judgedAt f (b ∷ s))) (place + 1) s
-  unfolding places stoodFrom
-  standing-failed reach place b s h = by-verdict (read f (b ∷ s)) (no-frame-read f (b ∷ s) h)
+      positionsIn reach place (b ∷ s) ≡ positionsIn (max reach (place + judgedAt f (b ∷ s))) (place + 1) s
+  unfolding places positionsFrom
+  positions-failed reach place b s h = by-verdict (read f (b ∷ s)) (no-frame-read f (b ∷ s) h)
     where
       far : ℕ
       far = max reach (place + judgedAt f (b ∷ s))
 
       by-verdict :
           (v : Verdict) → NoFrame v →
-          stoodAt v place far ++ stoodFrom f far (place + onBy v) (places f (passAfter v) s) ≡ stoodFrom f far (place + 1) (places f 0 s)
+          positionAt v place far ++ positionsFrom f far (place + onBy v) (places f (passAfter v) s) ≡ positionsFrom f far (place + 1) (places f 0 s)
       by-verdict cut h = refl
       by-verdict (refused judged n) h = refl
       by-verdict (frame used p) h = absurd h
 
   -- A frame is counted back from the furthest byte judged, and the rule goes on behind it and an optional byte.
-  standing-frame :
+  positions-frame :
       (reach place used : ℕ) (p s : List ℕ) → judge f s ≡ frame used p →
       let far : ℕ = max reach (place + used) in
-      standing reach place s ≡ position p far (far - place) ∷ standingBehind (isOpen f used s) far (place + used) (drop used s)
-  unfolding places stoodFrom
-  standing-frame reach place used p [] e = absurd (not-suc-le-zero (le-trans (frame-sized f [] p used e .some) (frame-sized f [] p used e .there)))
-  standing-frame reach place zero p (b ∷ s) e = absurd (not-suc-le-zero (frame-sized f (b ∷ s) p zero e .some))
-  standing-frame reach place (suc used) p (b ∷ s) e =
+      positionsIn reach place s ≡ position p far (far - place) ∷ positionsBehind (isOpen f used s) far (place + used) (drop used s)
+  unfolding places positionsFrom
+  positions-frame reach place used p [] e = absurd (not-suc-le-zero (le-trans (frame-sized f [] p used e .some) (frame-sized f [] p used e .there)))
+  positions-frame reach place zero p (b ∷ s) e = absurd (not-suc-le-zero (frame-sized f (b ∷ s) p zero e .some))
+  positions-frame reach place (suc used) p (b ∷ s) e =
       let far : ℕ = max reach (place + suc used) in
       let n : ℕ = behindFrame f (b ∷ s) (suc used) in
       let pass : pred (suc used + n) ≡ used + n = omega arith in
       ap₂
       (λ (v w : Verdict).
-      stoodAt w place (max reach (place + judgedAs v (b ∷ s)))
-      ++ stoodFrom f (max reach (place + judgedAs v (b ∷ s))) (place + onBy w) (places f (passAfter w) s))
+      positionAt w place (max reach (place + judgedAs v (b ∷ s)))
+      ++ positionsFrom f (max reach (place + judgedAs v (b ∷ s))) (place + onBy w) (places f (passAfter w) s))
       e
       (read-judged f (b ∷ s) (suc used) p e)
-      ∙ ap₂ (λ (k : ℕ) (l : List (List ℕ)). position p far (far - place) ∷ stoodFrom f far k l)
+      ∙ ap₂ (λ (k : ℕ) (l : List (List ℕ)). position p far (far - place) ∷ positionsFrom f far k l)
       (sym (add-assoc place (suc used) n))
       (ap (λ (k : ℕ). places f k s) pass ∙ places-pass f (used + n) s ∙ ap (places f 0) (sym (drop-drop n used s)))
 
   -- It does not matter how far bytes were judged before, where they are judged further at the first place.
-  standing-reach :
+  positions-reach :
       (reach reach′ place : ℕ) (s : List ℕ) → reach ≤ reach′ → (1 ≤ length s → reach′ ≤ place + judgedAt f s) →
-      standing reach place s ≡ standing reach′ place s
-  unfolding places stoodFrom
-  standing-reach reach reach′ place [] l k = refl
-  standing-reach reach reach′ place (b ∷ s) l k =
+      positionsIn reach place s ≡ positionsIn reach′ place s
+  unfolding places positionsFrom
+  positions-reach reach reach′ place [] l k = refl
+  positions-reach reach reach′ place (b ∷ s) l k =
       let most : reach′ ≤ place + judgedAt f (b ∷ s) = k (omega arith) in
       let same : max reach (place + judgedAt f (b ∷ s)) ≡ max reach′ (place + judgedAt f (b ∷ s)) = omega arith in
-      ap (λ (far : ℕ). stoodAt (read f (b ∷ s)) place far ++ stoodFrom f far (place + onBy (read f (b ∷ s))) (places f (passAfter (read f (b ∷ s))) s)) same
+      ap (λ (far : ℕ). positionAt (read f (b ∷ s)) place far ++ positionsFrom f far (place + onBy (read f (b ∷ s))) (places f (passAfter (read f (b ∷ s))) s)) same
 
   -- A call over s, whose first byte has the index `place` and whose first m bytes were held, leads what the rule gives of s and the bytes behind it: it says so
   -- of its frame, and the rule gives the rest from what it holds on.
@@ -87,9 +87,9 @@ module _ (f : Format) where
     few : length (c .held) ≤ m + c .taken
     same :
         let from : ℕ = place + (m + c .taken) in
-        standing (place + m) place (s ++ more)
+        positionsIn (place + m) place (s ++ more)
         ≡ map (λ p. position p from (c .began)) (c .out .frames)
-        ++ standingBehind (c .follows) from (from - length (c .held)) (c .held ++ drop (m + c .taken) (s ++ more))
+        ++ positionsBehind (c .follows) from (from - length (c .held)) (c .held ++ drop (m + c .taken) (s ++ more))
 
   -- Undecided bytes.
   leads-cut :
@@ -103,8 +103,8 @@ module _ (f : Format) where
       record {
         few = omega arith;
         same =
-            standing-reach (place + m) (place + length s) place (s ++ more) (omega arith) (λ some. omega (arith, cut-judged f s more q))
-            ∙ (λ i. standing (reach i) (here i) (bytes i));
+            positions-reach (place + m) (place + length s) place (s ++ more) (omega arith) (λ some. omega (arith, cut-judged f s more q))
+            ∙ (λ i. positionsIn (reach i) (here i) (bytes i));
       }
 
   -- A frame.
@@ -131,8 +131,8 @@ module _ (f : Format) where
       record {
         few = omega (arith, count);
         same =
-            standing-frame (place + m) place used p (s ++ more) (judge-stands f s more (frame used p) tt q)
-            ∙ (λ i. position p (from i) (began i) ∷ standingBehind (marks i) (from i) (next i) (bytes i));
+            positions-frame (place + m) place used p (s ++ more) (judge-stands f s more (frame used p) tt q)
+            ∙ (λ i. position p (from i) (began i) ∷ positionsBehind (marks i) (from i) (next i) (bytes i));
       }
 
   -- A failed start, and the call over the bytes behind it.
@@ -151,12 +151,12 @@ module _ (f : Format) where
       record {
         few = omega (arith, h .few);
         same =
-            standing-failed (place + m) place b (s ++ more) (subst NoFrame (sym stands) tt)
-            ∙ ap (λ (k : ℕ). standing k (place + 1) (s ++ more)) reach
+            positions-failed (place + m) place b (s ++ more) (subst NoFrame (sym stands) tt)
+            ∙ ap (λ (k : ℕ). positionsIn k (place + 1) (s ++ more)) reach
             ∙ h .same
             ∙ (λ i.
             map (λ p. position p (from i) (c .began)) (c .out .frames)
-            ++ standingBehind (c .follows) (from i) (from i - length (c .held)) (c .held ++ drop (next i) ((b ∷ s) ++ more)));
+            ++ positionsBehind (c .follows) (from i) (from i - length (c .held)) (c .held ++ drop (next i) ((b ∷ s) ++ more)));
       }
 
   -- One place.
@@ -181,7 +181,7 @@ module _ (f : Format) where
   leads [] zero more place l =
       let reach : place + 0 ≡ place + (0 + 0) = omega arith in
       let here : place ≡ place + (0 + 0) - 0 + 0 = omega arith in
-      record { few = zero-le; same = λ i. standing (reach i) (here i) more }
+      record { few = zero-le; same = λ i. positionsIn (reach i) (here i) more }
   leads [] (suc m) more place l = absurd (not-suc-le-zero l)
   leads (b ∷ s) m more place l = leads-at b m s more place (judge f (b ∷ s)) refl l (λ k at h. leads s k more at h)
 
@@ -191,9 +191,9 @@ module _ (f : Format) where
       let c : Called = lineOn f h chunk in
       let from : ℕ = place + (length h + c .taken) in
       (length (c .held) ≤ length h + c .taken)
-      × (standing (place + length h) place (h ++ (chunk ++ more))
+      × (positionsIn (place + length h) place (h ++ (chunk ++ more))
       ≡ map (λ p. position p from (c .began)) (c .out .frames)
-      ++ standingBehind (c .follows) from (from - length (c .held)) (c .held ++ drop (c .taken) (chunk ++ more)))
+      ++ positionsBehind (c .follows) from (from - length (c .held)) (c .held ++ drop (c .taken) (chunk ++ more)))
   on-leads h chunk more place =
       let c : Called = lineOn f h chunk in
       let from : ℕ = place + (length h + c .taken) in
@@ -201,10 +201,10 @@ module _ (f : Format) where
       let rest : drop (length h + c .taken) ((h ++ chunk) ++ more) ≡ drop (c .taken) (chunk ++ more) =
       ap (drop (length h + c .taken)) (append-assoc h chunk more) ∙ drop-append-add h (chunk ++ more) (c .taken) in (
         k .few,
-        ap (standing (place + length h) place) (sym (append-assoc h chunk more))
+        ap (positionsIn (place + length h) place) (sym (append-assoc h chunk more))
             ∙ k .same
             ∙ ap (λ (t : List ℕ). map (λ p. position p from (c .began)) (c .out .frames)
-            ++ standingBehind (c .follows) from (from - length (c .held)) (c .held ++ t)) rest,
+            ++ positionsBehind (c .follows) from (from - length (c .held)) (c .held ++ t)) rest,
       )
 
   -- A call c with the bytes todo before it leads what the rule gives behind a mark, where `count` bytes were held, the first at the index `place`.
@@ -214,16 +214,16 @@ module _ (f : Format) where
         let from : ℕ = place + count + c .taken in
         given
         ≡ map (λ p. position p from (c .began)) (c .out .frames)
-        ++ standingBehind (c .follows) from (from - length (c .held)) (c .held ++ drop (c .taken) todo)
+        ++ positionsBehind (c .follows) from (from - length (c .held)) (c .held ++ drop (c .taken) todo)
 
   -- A line call, by the mark.
   pub line-leads :
       (follows : Bool) (h chunk more : List ℕ) (place : ℕ) →
-      LeadsBehind (length h) (chunk ++ more) place (lineBehind f follows h chunk) (standingBehind follows (place + length h) place (h ++ (chunk ++ more)))
+      LeadsBehind (length h) (chunk ++ more) place (lineBehind f follows h chunk) (positionsBehind follows (place + length h) place (h ++ (chunk ++ more)))
   line-leads follows [] [] more place =
       let reach : place + 0 ≡ place + 0 + 0 = omega arith in
       let here : place ≡ place + 0 + 0 - 0 = omega arith in
-      record { few = zero-le; same = λ i. standingBehind follows (reach i) (here i) more }
+      record { few = zero-le; same = λ i. positionsBehind follows (reach i) (here i) more }
   line-leads follows [] (b ∷ chunk) more place =
       let n : ℕ = absorbed f follows (b ∷ chunk) in
       let c : Called = lineOn f [] (drop n (b ∷ chunk)) in
@@ -236,13 +236,13 @@ module _ (f : Format) where
       record {
         few = omega (arith, k .0);
         same =
-            ap (λ (i : ℕ). standing (place + 0) (place + i) (drop i ((b ∷ chunk) ++ more))) (absorbed-front f follows b (chunk ++ more) chunk)
-            ∙ ap (standing (place + 0) (place + n)) split
-            ∙ standing-reach (place + 0) (place + n + 0) (place + n) (drop n (b ∷ chunk) ++ more) (omega arith) (λ some. omega arith)
+            ap (λ (i : ℕ). positionsIn (place + 0) (place + i) (drop i ((b ∷ chunk) ++ more))) (absorbed-front f follows b (chunk ++ more) chunk)
+            ∙ ap (positionsIn (place + 0) (place + n)) split
+            ∙ positions-reach (place + 0) (place + n + 0) (place + n) (drop n (b ∷ chunk) ++ more) (omega arith) (λ some. omega arith)
             ∙ k .1
             ∙ (λ i.
             map (λ p. position p (from i) (c .began)) (c .out .frames)
-            ++ standingBehind (c .follows) (from i) (from i - length (c .held)) (c .held ++ rest i));
+            ++ positionsBehind (c .follows) (from i) (from i - length (c .held)) (c .held ++ rest i));
       }
   line-leads follows (b ∷ h) chunk more place =
       let n : ℕ = absorbed f follows (b ∷ h) in
@@ -255,12 +255,12 @@ module _ (f : Format) where
       record {
         few = omega (arith, k .0, count);
         same =
-            ap (λ (i : ℕ). standing (place + length (b ∷ h)) (place + i) (drop i ((b ∷ h) ++ (chunk ++ more)))) (absorbed-front f follows b (h ++ (chunk ++ more)) h)
-            ∙ ap₂ (λ (r : ℕ) (t : List ℕ). standing r (place + n) t) reach (drop-append-le n (b ∷ h) (chunk ++ more) there)
+            ap (λ (i : ℕ). positionsIn (place + length (b ∷ h)) (place + i) (drop i ((b ∷ h) ++ (chunk ++ more)))) (absorbed-front f follows b (h ++ (chunk ++ more)) h)
+            ∙ ap₂ (λ (r : ℕ) (t : List ℕ). positionsIn r (place + n) t) reach (drop-append-le n (b ∷ h) (chunk ++ more) there)
             ∙ k .1
             ∙ (λ i.
             map (λ p. position p (from i) (c .began)) (c .out .frames)
-            ++ standingBehind (c .follows) (from i) (from i - length (c .held)) (c .held ++ drop (c .taken) (chunk ++ more)));
+            ++ positionsBehind (c .follows) (from i) (from i - length (c .held)) (c .held ++ drop (c .taken) (chunk ++ more)));
       }
 
   -- Settled bytes that end a segment, the first of which has the index `place`: all of them were taken.
@@ -268,9 +268,9 @@ module _ (f : Format) where
     few : length (st .rest) ≤ length h
     same :
         let from : ℕ = place + length h in
-        standing from place h
+        positionsIn from place h
         ≡ map (λ p. position p from (st .began)) (st .out .frames)
-        ++ standingBehind (st .follows) from (from - length (st .rest)) (st .rest ++ [])
+        ++ positionsBehind (st .follows) from (from - length (st .rest)) (st .rest ++ [])
 
   -- Where no frame stands, the bytes behind the first are settled.
   ended-failed :
@@ -283,12 +283,12 @@ module _ (f : Format) where
       record {
         few = omega (arith, k .few);
         same =
-            standing-failed (place + length (b ∷ h)) place b h none
-            ∙ ap (λ (r : ℕ). standing r (place + 1) h) reach
+            positions-failed (place + length (b ∷ h)) place b h none
+            ∙ ap (λ (r : ℕ). positionsIn r (place + 1) h) reach
             ∙ k .same
             ∙ (λ i.
             map (λ p. position p (from i) (later .began)) (later .out .frames)
-            ++ standingBehind (later .follows) (from i) (from i - length (later .rest)) (later .rest ++ []));
+            ++ positionsBehind (later .follows) (from i) (from i - length (later .rest)) (later .rest ++ []));
       }
 
   -- One place.
@@ -306,8 +306,8 @@ module _ (f : Format) where
       record {
         few = omega (arith, length-drop used s);
         same =
-            standing-frame (place + length s) place used p s q
-            ∙ (λ i. position p (from i) (began i) ∷ standingBehind (isOpen f used s) (from i) (next i) (sym (append-nil (drop used s)) i));
+            positions-frame (place + length s) place used p s q
+            ∙ (λ i. position p (from i) (began i) ∷ positionsBehind (isOpen f used s) (from i) (next i) (sym (append-nil (drop used s)) i));
       }
 
   -- All places.
@@ -315,13 +315,13 @@ module _ (f : Format) where
   unfolding settle
   ended-leads [] place =
       let here : place ≡ place + 0 - 0 + 0 = omega arith in
-      record { few = zero-le; same = λ i. standing (place + 0) (here i) [] }
+      record { few = zero-le; same = λ i. positionsIn (place + 0) (here i) [] }
   ended-leads (b ∷ h) place = ended-at b h place (settle f (λ x. ended (judge f x)) h) (judge f (b ∷ h)) refl (ended-leads h (place + 1))
 
   -- A quiet call, by the mark.
   pub quiet-leads :
       (follows : Bool) (h : List ℕ) (place : ℕ) →
-      LeadsBehind (length h) [] place (quietHeld f (behindOptional f follows h)) (standingBehind follows (place + length h) place (h ++ []))
+      LeadsBehind (length h) [] place (quietHeld f (behindOptional f follows h)) (positionsBehind follows (place + length h) place (h ++ []))
   unfolding quietHeld
   quiet-leads follows h place =
       let n : ℕ = absorbed f follows h in
@@ -334,10 +334,10 @@ module _ (f : Format) where
       record {
         few = omega (arith, k .few, count);
         same =
-            ap (λ (t : List ℕ). standingBehind follows (place + length h) place t) (append-nil h)
-            ∙ ap (λ (r : ℕ). standing r (place + n) (drop n h)) reach
+            ap (λ (t : List ℕ). positionsBehind follows (place + length h) place t) (append-nil h)
+            ∙ ap (λ (r : ℕ). positionsIn r (place + n) (drop n h)) reach
             ∙ k .same
             ∙ (λ i.
             map (λ p. position p (from i) (st .began)) (st .out .frames)
-            ++ standingBehind (st .follows) (from i) (from i - length (st .rest)) (st .rest ++ []));
+            ++ positionsBehind (st .follows) (from i) (from i - length (st .rest)) (st .rest ++ []));
       }

@@ -7,7 +7,7 @@ use native.Mathlib.Omega.{arith}
 use mathlib.Core.Path.{_≡_, refl, sym, ap, ap₂, _∙_, subst}
 use mathlib.Core.List.{List, [], _∷_, _++_, append-nil}
 use mathlib.Core.Bool.{Bool, true, false, cond}
-use lib.ListN.{length, getD, take, drop, length-append, take-append-drop}
+use lib.ListN.{length, getD, take, drop, length-append, length-drop, take-append-drop}
 use lib.Seq.{drop-append-le, drop-cons, drop-length, drop-drop, length-take-le, take-suc, take-length, take-append-seam, drop-append-seam}
 use Rattle.frame.specs.Checks.{Verdict, cut, refused, frame}
 use Rattle.frame.specs.Framing.{checks, judge, isOptional, isOpen, absorbed}
@@ -143,13 +143,15 @@ module _ (f : Format) where
 
   -- What a call over s hands out and leaves, where the first m bytes of s are held: what all of s gives when it is judged at once.
   abbrev pub Whole : List ℕ → ℕ → Settled → Type 0
-  Whole s m st = (lineAt s m .out ≡ st .out) × (remaining (lineAt s m) (drop m s) ≡ st .rest) × (lineAt s m .follows ≡ st .follows)
+  Whole s m st =
+      (lineAt s m .out ≡ st .out) × (remaining (lineAt s m) (drop m s) ≡ st .rest) × (lineAt s m .follows ≡ st .follows)
+      × (m + lineAt s m .taken + st .began ≡ length s + lineAt s m .began)
 
   -- Undecided bytes.
   whole-cut : (s : List ℕ) (m : ℕ) → m ≤ length s → judge f s ≡ cut → Whole s m (settled nothing 0 s false)
   whole-cut s m l q =
       let all : m + (length s - m) ≡ length s = omega arith in
-      rw (line-cut s m l q) (refl, rw (drop-drop, all, drop-length) (append-nil s), refl)
+      rw (line-cut s m l q) (refl, rw (drop-drop, all, drop-length) (append-nil s), refl, omega arith)
 
   -- A frame.
   whole-frame :
@@ -158,7 +160,7 @@ module _ (f : Format) where
   whole-frame s m used p l q =
       let far : ℕ = max m used in
       let there : m + (far - m) ≡ used + (far - used) = omega arith in
-      rw (line-found s m used p l q) (refl, rw (drop-drop, there) (rw drop-drop at (take-append-drop (far - used) (drop used s))), refl)
+      rw (line-found s m used p l q) (refl, rw (drop-drop, there) (rw drop-drop at (take-append-drop (far - used) (drop used s))), refl, omega arith)
 
   -- A failed start, and what the bytes behind it give.
   whole-refused :
@@ -174,8 +176,12 @@ module _ (f : Format) where
       rw q at (line-decided (b ∷ s) m l) ∙ ap (tookFirst (far - m)) (line-failed (b ∷ s) far judged n q (omega arith)) in
       let rest = w k (omega (arith, size .there)) in
       let place : m + (far - m + c .taken) ≡ suc (k + c .taken) = omega (arith, size .some) in
-      rw step
-      (ap (join noiseByte) (rest .0), rw (drop-drop, place) (ap (λ (t : List ℕ). c .held ++ t) (sym (drop-drop (c .taken) k s)) ∙ rest .1), rest .2)
+      rw step (
+        ap (join noiseByte) (rest .0),
+        rw (drop-drop, place) (ap (λ (t : List ℕ). c .held ++ t) (sym (drop-drop (c .taken) k s)) ∙ rest .1),
+        rest .2,
+        omega (arith, rest .3, place),
+      )
 
   -- One place.
   whole-at :
@@ -188,7 +194,7 @@ module _ (f : Format) where
   -- All places.
   pub whole : (s : List ℕ) (m : ℕ) → m ≤ length s → Whole s m (settle f (judge f) s)
   unfolding lineOn lineFrom settle
-  whole [] zero l = (refl, refl, refl)
+  whole [] zero l = (refl, refl, refl, refl)
   whole [] (suc m) l = absurd (not-suc-le-zero l)
   whole (b ∷ s) m l = whole-at b m s (judge f (b ∷ s)) refl l (whole s)
 
@@ -198,12 +204,13 @@ on-held-then-chunk :
     let c : Called = lineOn f held chunk in
     let all : Called = lineOn f [] (held ++ chunk) in
     (c .out ≡ all .out) × (remaining c chunk ≡ remaining all (held ++ chunk)) × (c .follows ≡ all .follows)
+    × (length held + c .taken + all .began ≡ all .taken + c .began)
 on-held-then-chunk f held chunk =
     let s : List ℕ = held ++ chunk in
     let here : Whole f s (length held) (settle f (judge f) s) = whole f s (length held) (rw length-append (omega arith)) in
     let front : Whole f s 0 (settle f (judge f) s) = whole f s 0 zero-le in
     let split = rw (take-append-seam held chunk, drop-append-seam held chunk) at here in
-    (split .0 ∙ sym (front .0), split .1 ∙ sym (front .1), split .2 ∙ sym (front .2))
+    (split .0 ∙ sym (front .0), split .1 ∙ sym (front .1), split .2 ∙ sym (front .2), omega (arith, split .3, front .3))
 
 -- And behind a mark.
 then-chunk :
@@ -211,7 +218,8 @@ then-chunk :
     let c : Called = lineBehind f follows held chunk in
     let all : Called = lineBehind f follows [] (held ++ chunk) in
     (c .out ≡ all .out) × (remaining c chunk ≡ remaining all (held ++ chunk)) × (c .follows ≡ all .follows)
-then-chunk f follows [] chunk = (refl, refl, refl)
+    × (length held + c .taken + all .began ≡ all .taken + c .began)
+then-chunk f follows [] chunk = (refl, refl, refl, omega arith)
 then-chunk f follows (b ∷ h) chunk =
     let n : ℕ = absorbed f follows (b ∷ h) in
     let c : Called = lineOn f (drop n (b ∷ h)) chunk in
@@ -222,9 +230,16 @@ then-chunk f follows (b ∷ h) chunk =
     let is : whole ≡ lineBehind f follows [] ((b ∷ h) ++ chunk) = ap (λ (k : ℕ). tookFirst k (lineOn f [] (drop k ((b ∷ h) ++ chunk)))) same in
     let k = on-held-then-chunk f (drop n (b ∷ h)) chunk in
     subst
-    (λ (x : Called). (c .out ≡ x .out) × (remaining c chunk ≡ remaining x ((b ∷ h) ++ chunk)) × (c .follows ≡ x .follows))
+    (λ (x : Called).
+    (c .out ≡ x .out) × (remaining c chunk ≡ remaining x ((b ∷ h) ++ chunk)) × (c .follows ≡ x .follows)
+    × (length (b ∷ h) + c .taken + x .began ≡ x .taken + c .began))
     is
-    (rw split (k .0, k .1 ∙ ap (λ (t : List ℕ). all .held ++ t) (ap (drop (all .taken)) (sym split) ∙ drop-drop (all .taken) n ((b ∷ h) ++ chunk)), k .2))
+    (rw split (
+      k .0,
+      k .1 ∙ ap (λ (t : List ℕ). all .held ++ t) (ap (drop (all .taken)) (sym split) ∙ drop-drop (all .taken) n ((b ∷ h) ++ chunk)),
+      k .2,
+      omega (arith, k .3, length-drop n (b ∷ h), absorbed-there f follows (b ∷ h)),
+    ))
 
 pub held-then-chunk : HeldThenChunk
 held-then-chunk s chunk = then-chunk (s .format) (s .follows) (s .held) chunk

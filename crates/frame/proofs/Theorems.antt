@@ -12,7 +12,7 @@ use Rattle.frame.specs.Draining.{FeedReports, QuietReports, ViewReports,
 use Rattle.frame.specs.Driving.{CanDrive, DrivesAreShort, StateNeverRefused, FeedStaysSound, QuietStaysSound, EndsFresh}
 use Rattle.frame.specs.Counts.{CallsCount, CallsCountFrom, RuleBound, CallsBound, StateBound, ColonsCount, NestedStartsCount, LineCounts, QuietCounts}
 use Rattle.frame.specs.Counts.{DrainCounts, DrainSums, FrameCounts, AbsorbedNotJudged, Unfinished, OptionalNotJudged, HandMadeCounts}
-use Rattle.frame.specs.Positions.{CallsStand, CutsAgree, CallsStandFrom, CallsGivePlaces, NoneIsZero, StoodExamples}
+use Rattle.frame.specs.Positions.{AllIsTaken, CallsGivePositions, CutsAgree, CallsGivePlaces, CallsGiveAfter, NoneIsZero, PositionExamples, PositionsAfterExamples}
 use Rattle.frame.specs.MarkExamples.{NextCallTakesIt, OtherFormats, HeldBehindTheFrame, QuietEndsIt, AnyEnding}
 use Rattle.frame.specs.RecoveryExamples.{LostAndBack, ProvisoNeeded, MixedFooters, FooterRequired, AsciiBack, MixedLines, StrictLines, LfJudges}
 use Rattle.frame.specs.declared.framing.Footer.{Footer}
@@ -248,20 +248,26 @@ optional-not-judged = count-examples.optional-not-judged
 pub hand-made-counts : HandMadeCounts
 hand-made-counts = count-examples.hand-made-counts
 
-pub calls-stand : (f : Format) → CallsStand f
-calls-stand = call-positions.calls-stand
+pub all-is-taken : AllIsTaken
+all-is-taken = call-positions.all-is-taken
+
+pub calls-give-positions : (f : Format) → CallsGivePositions f
+calls-give-positions = call-positions.calls-give-positions
 
 pub cuts-agree : (f : Format) → CutsAgree f
 cuts-agree = call-positions.cuts-agree
 
-pub calls-stand-from : CallsStandFrom
-calls-stand-from = call-positions.calls-stand-from
-
 pub calls-give-places : (f : Format) → CallsGivePlaces f
 calls-give-places = call-positions.calls-give-places
+
+pub calls-give-after : CallsGiveAfter
+calls-give-after = call-positions.calls-give-after
 
 pub none-is-zero : NoneIsZero
 none-is-zero = call-positions.none-is-zero
 
-pub stood-examples : StoodExamples
-stood-examples = call-positions.stood-examples
+pub position-examples : PositionExamples
+position-examples = call-positions.position-examples
+
+pub positions-after-examples : PositionsAfterExamples
+positions-after-examples = call-positions.positions-after-examples

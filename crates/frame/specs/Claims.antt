@@ -1,5 +1,5 @@
 -- What is claimed of single frames, of the leftmost rule, of line calls and of lists of calls, in that order; the claims on damage stand in Recovery.antt,
--- those on judged bytes in Counts.antt. proofs/Theorems.antt proves each claim, one that takes a format for every format.
+-- those on judged bytes in Counts.antt, those on where frames began in Positions.antt. proofs/Theorems.antt proves each claim, one that takes a format for every format.
 use Prim.Native.Nat.{ℕ, _+_, _≤_, _<_}
 use mathlib.Core.Path.{_≡_}
 use mathlib.Core.List.{List, [], _∷_, _++_, map, List·Memᴰ}
@@ -122,14 +122,16 @@ NeedsMoreIsTrue =
 abbrev pub remaining : Called → List ℕ → List ℕ
 remaining c chunk = c .held ++ drop (c .taken) chunk
 
--- A line call's answer, but for the count of judged bytes, is that of the held bytes followed by the chunk: it hands out, noise too, and leaves, the mark too,
--- what a call does that has the same mark, holds nothing and is offered both.
+-- A line call's answer, but for the bytes taken and judged, is that of the held bytes followed by the chunk: it hands out, noise too, and leaves, the mark too,
+-- what a call does that has the same mark, holds nothing and is offered both. And the frame begins at the same index of both: the held bytes and those taken,
+-- less how far back it began, are as many.
 abbrev pub HeldThenChunk : Type 0
 HeldThenChunk =
     (s : State) (chunk : List ℕ) →
     let c : Called = line s chunk in
     let whole : Called = line (holding (s .format) [] (s .follows) 0) (s .held ++ chunk) in
     (c .out ≡ whole .out) × (remaining c chunk ≡ remaining whole (s .held ++ chunk)) × (c .follows ≡ whole .follows)
+    × (length (s .held) + c .taken + whole .began ≡ whole .taken + c .began)
 
 -- Two calls that give the same, but for the mark afterwards.
 pub record SameButMark (a b : Called) : Type 0 where

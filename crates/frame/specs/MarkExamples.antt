@@ -18,7 +18,11 @@ marked h = holding (Binary Optional) h true 0
 abbrev pub plain : List ℕ → State
 plain h = holding (Binary Optional) h false 0
 
--- A frame with its 04, in one chunk or two: the call stops at the checksum, and the next one takes the 04, once.
+-- A frame of six bytes, without its 04.
+abbrev pub firstFrame : List ℕ
+firstFrame = 0xA5 ∷ 0x5A ∷ 0x80 ∷ 0x01 ∷ 0x11 ∷ 0x11 ∷ []
+
+-- A frame with its 04, in one chunk or two: the call stops at the checksum, and the next one takes the 04, once; a frame behind it begins behind the 04.
 pub record NextCallTakesIt : Type 0 where
   pub stops : line (plain []) response ≡ called 9 (output (success ∷ []) 0) 9 [] true
   pub cut : line (plain []) (bare response) ≡ called 9 (output (success ∷ []) 0) 9 [] true
@@ -26,6 +30,7 @@ pub record NextCallTakesIt : Type 0 where
   pub taken : line (marked []) (0x04 ∷ []) ≡ called 1 nothing 0 [] false
   pub once : line (marked []) (0x04 ∷ 0x04 ∷ []) ≡ called 2 (output [] 1) 0 [] false
   pub other : line (marked []) (0x05 ∷ 0x04 ∷ []) ≡ called 2 (output [] 2) 0 [] false
+  pub behind : line (marked []) (0x04 ∷ firstFrame) ≡ called 7 (output ((0x11 ∷ []) ∷ []) 0) 6 [] true
 
 -- In a format without an optional byte a frame sets no mark. One that was set by hand stays where no byte is held or offered, and is gone behind other calls;
 -- what these give besides is the same with it and without (MarkMeansNothing).

@@ -31,8 +31,8 @@ pub record State : Type 0 where
 abbrev pub holding : Format → List ℕ → Bool → ℕ → State
 holding m h follows judged = record { format = m; held = h; follows = follows; judged = judged }
 
--- Bytes after judging: what they gave; how far before the first untaken byte the frame began that they gave (document 02, CR 14), 0 where they gave none;
--- those that are still held; and the mark.
+-- Bytes after judging: what they gave; how far before the first untaken byte the frame that came out began (document 02, CR 14), 0 where none did; those that
+-- are still held; and the mark.
 pub record Settled : Type 0 where
   pub out : Output (List ℕ)
   pub began : ℕ
@@ -53,7 +53,8 @@ unfoldable pub settle : Format → (List ℕ → Verdict) → List ℕ → Settl
 settle m judgement [] = settled nothing 0 [] false
 settle m judgement (b ∷ h) = let later : Settled = settle m judgement h in settleAs m (judgement (b ∷ h)) (b ∷ h) later
 
--- What a call gives: bytes taken, what came out, how far before the first untaken byte the frame began that came out, the bytes held afterwards, and the mark.
+-- What a call gives: bytes taken; what came out; how far before the first untaken byte the frame that came out began, 0 where none did; the bytes held
+-- afterwards; and the mark.
 pub record Called : Type 0 where
   pub taken : ℕ
   pub out : Output (List ℕ)
@@ -104,13 +105,14 @@ lineBehind m follows (b ∷ h) chunk = lineOn m (behindOptional m follows (b ∷
 abbrev pub line : State → List ℕ → Called
 line s chunk = lineBehind (s .format) (s .follows) (s .held) chunk
 
--- At a quiet the held bytes end the segment, so that where a frame began is counted from the segment's end, and an unfinished frame fails like any other. (The
--- 0 is of no use here: how many bytes are judged at a place is `judgedAt`.)
+-- At a quiet the held bytes end the segment: an unfinished frame fails like any other. (The 0 is of no use here: how many bytes are judged at a place is
+-- `judgedAt`.)
 abbrev pub ended : Verdict → Verdict
 ended cut = refused 0 2
 ended (refused judged n) = refused judged n
 ended (frame used p) = frame used p
 
+-- All bytes of the segment were taken, so that where a frame began is counted from the segment's end.
 unfoldable pub quietHeld : Format → List ℕ → Called
 quietHeld m h = stopped (settle m (λ h. ended (judge m h)) h)
 
@@ -172,7 +174,7 @@ abbrev pub newReader : Format → Reader
 newReader m = record { format = m; held = replicate 517 0; count = 0; follows = false; judged = 0 }
 
 -- An answer as document 01 has it: the refusal's number, 0 for none, bytes taken, noise, the payload's length, and whether there is one; and as document 02,
--- CR 7 and 14, has it: bytes judged, and how far back the frame began.
+-- CR 7 and 14, has it: bytes judged, and how far before the first untaken byte, at a quiet before the segment's end, the frame began.
 pub record Values : Type 0 where
   pub number : ℕ
   pub taken : ℕ

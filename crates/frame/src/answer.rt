@@ -32,7 +32,7 @@ pub enum FeedAnswer {
 }
 
 pub enum QuietAnswer {
-    // A frame among the held bytes, with the same numbers; it began `began` bytes before their end, which is the segment's.
+    // A frame among the held bytes, with the same numbers but for `taken`, which is 0; it began `began` bytes before their end, which is the segment's.
     Frame {
         noise: usize,
         judged: usize,
@@ -142,8 +142,8 @@ pub(crate) fn answer(
     match end {
         ScanEnd::Frame { used, len } => {
             let taken = far - before.base;
-            let began = far - place;
             let next = place + used;
+            let began = far - place;
             Kept {
                 answer: FeedAnswer::Frame {
                     taken,

@@ -7,8 +7,14 @@ use Rattle.boundary.proofs.line.fed_numbers.Tie as tie
 enum-known-answer : tie.Need-enum-known-answer
 enum-known-answer c = search needs
 
+with-frame-requires : tie.Need-with-frame-requires
+with-frame-requires c κs = search needs
+
 enum-known-answer-2 : tie.Need-enum-known-answer-2
 enum-known-answer-2 c = search needs
+
+without-frame-requires : tie.Need-without-frame-requires
+without-frame-requires c κs = search needs
 
 enum-known-answer-3 : tie.Need-enum-known-answer-3
 enum-known-answer-3 c = search needs
@@ -20,10 +26,10 @@ refused-requires : tie.Need-refused-requires
 refused-requires c κs = search needs
 
 returns : tie.Need-returns
-returns c = rw (c .before .answer .given .1)
+returns c = rw (c .before .before .answer .given .1, c .with-frame .ensures)
 
 returns-2 : tie.Need-returns-2
-returns-2 c = rw (c .before .answer2 .given .1)
+returns-2 c = rw (c .before .before .answer2 .given .1, c .without-frame .ensures)
 
 returns-3 : tie.Need-returns-3
 returns-3 c = rw (c .before .before .before .answer3 .given .1, c .refused .ensures, c .before .number .ensures)
@@ -33,7 +39,9 @@ fed-numbers-spec =
     tie.close
     (tie.spec
     enum-known-answer
+    with-frame-requires
     enum-known-answer-2
+    without-frame-requires
     enum-known-answer-3
     number-requires
     refused-requires

@@ -46,11 +46,11 @@ enum-known-end c = search needs
 sub-taken : tie.Need-sub-taken
 sub-taken c = search needs
 
-sub-began : tie.Need-sub-began
-sub-began c = omega (arith, at-frame (c .before) .1)
-
 add-next : tie.Need-add-next
 add-next c = omega (arith, at-frame (c .before) .1)
+
+sub-began : tie.Need-sub-began
+sub-began c = omega (arith, at-frame (c .before) .1)
 
 may-follow-requires : tie.Need-may-follow-requires
 may-follow-requires c κs =
@@ -109,8 +109,8 @@ answer-spec =
     add-noise
     enum-known-end
     sub-taken
-    sub-began
     add-next
+    sub-began
     may-follow-requires
     enum-told
     more-needed-requires
