@@ -3,21 +3,23 @@
 use Prim.Native.Nat.{ℕ, _+_, _-_, _≤_, max, zero-le}
 use native.Mathlib.Nat.{zero-add, le-refl}
 use native.Mathlib.Omega.{arith}
-use mathlib.Core.Bool.{false, true≢false}
-use mathlib.Core.List.{List, [], _∷_, _++_, map}
+use mathlib.Core.Bool.{Bool, false, true≢false}
+use mathlib.Core.List.{List, [], _∷_, _++_, map, cons≢nil}
 use mathlib.Core.Path.{_≡_, refl, sym, ap, ap₂, _∙_, subst}
 use lib.ListN.{length, drop, length-append, length-drop}
 use Rattle.frame.specs.Checks.{Verdict, cut, refused, frame, byte, test, word, bytes}
 use Rattle.frame.specs.Binary.{binary, body, footer}
 use Rattle.frame.specs.Digit.{isDigit, digitValue}
 use Rattle.frame.specs.Ascii.{ascii, hexDigits, lineEnding, lineEnd, afterDigits}
-use Rattle.frame.specs.Framing.{judgedAt, read}
+use Rattle.frame.specs.Framing.{judge, judgedAt, read, absorbed, behindOptional}
 use Rattle.frame.specs.Rule.{Output, Found, join, onBy, places, outAt, outFrom, rule}
+use Rattle.frame.specs.Reader.{Settled, settleAs, settle, stopped, oneMore, ifFrame, lineFrom, lineOn, lineBehind, ended}
 use Rattle.frame.specs.Reader.{State, Called, line, quietHeld, quiet, lineJudged, quietJudged, after, stateOf, Values, feedValuesOf, quietValuesOf}
 use Rattle.frame.specs.Reader.{calledValues, refusalValues, Feeds, Quiets}
+use Rattle.frame.specs.Elements.{All}
 use Rattle.frame.specs.Calls.{Answered, WithFrame, WithoutFrame, outOf, Phase, offering, ending, over}
 use Rattle.frame.specs.Calls.{Calls, fed, taken, quieted, emptied, feedRefused, quietRefused, done}
-use Rattle.frame.specs.Positions.{Position, position, positionAt, positionsFrom, positionOf, positionsBy, takenBy, AllIsTaken, CallsGivePositions}
+use Rattle.frame.specs.Positions.{Position, position, positionAt, positionsFrom, positionOf, positionsBy, takenAtQuiets, QuietsAtEnd, CallsGivePositions}
 use Rattle.frame.specs.Positions.{CutsAgree, GivesPlaces, CallsGivePlaces, firstAfter, placesAfter, positionsAfter, CallsGiveAfter, NoneIsZero}
 use Rattle.frame.specs.Positions.{PositionExamples, PositionsAfterExamples}
 use Rattle.frame.specs.declared.framing.Format.{Format}
@@ -117,50 +119,50 @@ fed-says {r} {todo} chunk more buf buf′ a at later p z e l k =
     ∙ sym (line-said s at chunk more l .1)
     ∙ ap (ahead s at) (sym e)
 
--- The bytes taken by it, and those that its state holds, are as many as the segment's list says.
-record Keeps (r : Reader) (todo : List ℕ) (at size : ℕ) : Type 0 where
-  all : at + length todo ≡ size
-  few : length (stateOf r .held) ≤ at
-
-fed-keeps :
-    {r : Reader} {todo : List ℕ} {at size : ℕ} (chunk more buf buf′ : List ℕ) (a : Fed) → Feeds r chunk buf a buf′ →
-    Answered (feedValuesOf (a .answer)) → todo ≡ chunk ++ more → Keeps r todo at size →
-    let v : Values = feedValuesOf (a .answer) in Keeps (a .reader) (drop (v .taken) todo) (at + v .taken) size
-fed-keeps {r} {todo} {at} {size} chunk more buf buf′ a p z e k =
+-- The state that follows holds no more bytes than were taken.
+fed-few :
+    {r : Reader} {at : ℕ} (chunk more buf buf′ : List ℕ) (a : Fed) → Feeds r chunk buf a buf′ → Answered (feedValuesOf (a .answer)) →
+    length (stateOf r .held) ≤ at → length (stateOf (a .reader) .held) ≤ at + feedValuesOf (a .answer) .taken
+fed-few {r} {at} chunk more buf buf′ a p z l =
     let s : State = stateOf r in
     let c : Called = line s chunk in
     let j : ℕ = lineJudged s chunk in
-    let v : Values = feedValuesOf (a .answer) in
-    let t : v .taken ≡ c .taken = takes c j p z in
     let held : length (stateOf (a .reader) .held) ≡ length (c .held) = ap (λ (x : State). length (x .held)) (answered c j p z .1 .state) in
-    let there : length todo ≡ length chunk + length more = ap length e ∙ length-append chunk more in
-    record {
-      all = omega (arith, k .all, length-drop (v .taken) todo, t, line-taken s chunk, there);
-      few = omega (arith, held, t, line-said s at chunk more (k .few) .0);
-    }
+    omega (arith, held, takes c j p z, line-said s at chunk more l .0)
+
+-- An answered quiet call takes no byte.
+quiet-takes :
+    {r : Reader} (buf buf′ : List ℕ) (a : Quieted) (at : ℕ) → Quiets r buf a buf′ → Answered (quietValuesOf (a .answer)) →
+    at + quietValuesOf (a .answer) .taken ≡ at
+unfolding quietHeld
+quiet-takes {r} buf buf′ a at p z = omega (arith, takes (quiet (stateOf r)) (quietJudged (stateOf r)) p z)
+
+-- Nor does a refused call.
+none-taken : {v : Values} {n : ℕ} (at : ℕ) → v ≡ refusalValues n → at + v .taken ≡ at
+none-taken at e = omega (arith, ap (λ (v : Values). v .taken) e)
 
 -- A quiet call with a frame.
 quieted-says :
-    {r : Reader} (buf buf′ : List ℕ) (a : Quieted) (at size : ℕ) (later : List Position) → Quiets r buf a buf′ →
-    WithFrame (quietValuesOf (a .answer)) → Keeps r [] at size → later ≡ ahead (stateOf (a .reader)) at [] →
-    positionOf (quietValuesOf (a .answer)) buf′ size ++ later ≡ ahead (stateOf r) at []
-quieted-says {r} buf buf′ a at size later p n k e =
+    {r : Reader} (buf buf′ : List ℕ) (a : Quieted) (at : ℕ) (later : List Position) → Quiets r buf a buf′ → WithFrame (quietValuesOf (a .answer)) →
+    length (stateOf r .held) ≤ at →
+    let v : Values = quietValuesOf (a .answer) in
+    later ≡ ahead (stateOf (a .reader)) (at + v .taken) [] → positionOf v buf′ (at + v .taken) ++ later ≡ ahead (stateOf r) at []
+quieted-says {r} buf buf′ a at later p n l e =
     let s : State = stateOf r in
     let c : Called = quiet s in
     let j : ℕ = quietJudged s in
     let v : Values = quietValuesOf (a .answer) in
-    let end : size ≡ at = omega (arith, k .all) in
-    ap₂ _++_ (said-is c j size at v buf′ (answered c j p (n .answered) .0) (hands-out c j p (quiet-one s) (n .answered)) end)
-    (e ∙ ap (λ (x : State). ahead x at []) (frame-holds {r = r} buf buf′ a p n .state))
-    ∙ sym (quiet-said s at (k .few) .1)
+    let none : at + v .taken ≡ at = quiet-takes {r = r} buf buf′ a at p (n .answered) in
+    ap₂ _++_ (said-is c j (at + v .taken) at v buf′ (answered c j p (n .answered) .0) (hands-out c j p (quiet-one s) (n .answered)) none)
+    (e ∙ ap₂ (λ (x : State) (k : ℕ). ahead x k []) (frame-holds {r = r} buf buf′ a p n .state) none)
+    ∙ sym (quiet-said s at l .1)
 
-quieted-keeps :
-    {r : Reader} {at size : ℕ} (buf buf′ : List ℕ) (a : Quieted) → Quiets r buf a buf′ → WithFrame (quietValuesOf (a .answer)) → Keeps r [] at size →
-    Keeps (a .reader) [] at size
-quieted-keeps {r} {at} buf buf′ a p n k =
-    let s : State = stateOf r in
+quieted-few :
+    {r : Reader} {at : ℕ} (buf buf′ : List ℕ) (a : Quieted) → Quiets r buf a buf′ → WithFrame (quietValuesOf (a .answer)) →
+    length (stateOf r .held) ≤ at → length (stateOf (a .reader) .held) ≤ at + quietValuesOf (a .answer) .taken
+quieted-few {r} {at} buf buf′ a p n l =
     let held = ap (λ (x : State). length (x .held)) (frame-holds {r = r} buf buf′ a p n .state) in
-    record { all = k .all; few = omega (arith, held, quiet-said s at (k .few) .0) }
+    omega (arith, held, quiet-said (stateOf r) at l .0)
 
 -- Where a quiet call is empty, nothing is left.
 emptied-says :
@@ -180,30 +182,38 @@ emptied-says {r} buf buf′ a at p n l =
     (quiet-left s none)
     ∙ ap (λ (k : ℕ). positionsIn f at (at - 0 + k) (drop k [])) (absorbed-nil f (c .follows)))
 
+-- A refused call changes nothing.
+refused-says :
+    {r x : Reader} {n : ℕ} {said : ℕ → List Position} (v : Values) (at : ℕ) (phase : Phase) (todo : List ℕ) → v ≡ refusalValues n → x ≡ r →
+    ((k : ℕ) → length (stateOf x .held) ≤ k → said k ≡ left phase x k todo) → length (stateOf r .held) ≤ at → said (at + v .taken) ≡ left phase r at todo
+refused-says {r} {x} {said = said} v at phase todo e same later l =
+    let few : length (stateOf x .held) ≤ at = subst (λ (y : Reader). length (stateOf y .held) ≤ at) (sym same) l in
+    ap said (none-taken at e) ∙ later at few ∙ ap (λ (y : Reader). left phase y at todo) same
+
 -- Whatever the calls, they say what the rule gives from the state on.
 calls-say :
-    {phase : Phase} {r : Reader} {todo : List ℕ} {out : Output (List ℕ)} (calls : Calls phase r todo out) (size at : ℕ) → Keeps r todo at size →
-    positionsBy size at calls ≡ left phase r at todo
-calls-say (fed {r} chunk more buf buf′ a p n e later) size at k =
-    fed-says {r = r} chunk more buf buf′ a at _ p n e (k .few) (calls-say later size _ (fed-keeps {r = r} chunk more buf buf′ a p n e k))
-calls-say (taken later) size at k = calls-say later size at k
-calls-say (quieted {r} buf buf′ a p n later) size at k =
-    quieted-says {r = r} buf buf′ a at size _ p n k (calls-say later size at (quieted-keeps {r = r} buf buf′ a p n k))
-calls-say (emptied {r} buf buf′ a p n later) size at k =
-    let fresh : Keeps (a .reader) [] at size =
-    subst (λ (x : Reader). Keeps x [] at size) (sym (emptied-fresh {r = r} buf buf′ a p n)) (record { all = k .all; few = zero-le }) in
-    calls-say later size at fresh ∙ emptied-says {r = r} buf buf′ a at p n (k .few)
-calls-say (feedRefused {phase} {r} {todo} chunk buf buf′ a p n later) size at k =
-    let same : a .reader ≡ r = refusing (line (stateOf r) chunk) (lineJudged (stateOf r) chunk) p n .1 in
-    calls-say later size at (subst (λ (x : Reader). Keeps x todo at size) (sym same) k) ∙ ap (λ (x : Reader). left phase x at todo) same
-calls-say (quietRefused {phase} {r} {todo} buf buf′ a p n later) size at k =
-    let same : a .reader ≡ r = refusing (quiet (stateOf r)) (quietJudged (stateOf r)) p n .1 in
-    calls-say later size at (subst (λ (x : Reader). Keeps x todo at size) (sym same) k) ∙ ap (λ (x : Reader). left phase x at todo) same
-calls-say done size at k = refl
+    {phase : Phase} {r : Reader} {todo : List ℕ} {out : Output (List ℕ)} (calls : Calls phase r todo out) (at : ℕ) → length (stateOf r .held) ≤ at →
+    positionsBy at calls ≡ left phase r at todo
+calls-say (fed {r} chunk more buf buf′ a p n e later) at l =
+    fed-says {r = r} chunk more buf buf′ a at _ p n e l (calls-say later _ (fed-few {r = r} chunk more buf buf′ a p n l))
+calls-say (taken later) at l = calls-say later at l
+calls-say (quieted {r} buf buf′ a p n later) at l =
+    quieted-says {r = r} buf buf′ a at _ p n l (calls-say later _ (quieted-few {r = r} buf buf′ a p n l))
+calls-say (emptied {r} buf buf′ a p n later) at l =
+    let few : length (stateOf (a .reader) .held) ≤ at + quietValuesOf (a .answer) .taken =
+    subst (λ (x : Reader). length (stateOf x .held) ≤ at + quietValuesOf (a .answer) .taken) (sym (emptied-fresh {r = r} buf buf′ a p n)) zero-le in
+    calls-say later _ few ∙ emptied-says {r = r} buf buf′ a at p n l
+calls-say (feedRefused {phase} {r} {todo} chunk buf buf′ a p n later) at l =
+    let h = refusing (line (stateOf r) chunk) (lineJudged (stateOf r) chunk) p n in
+    refused-says {r = r} {x = a .reader} (feedValuesOf (a .answer)) at phase todo (h .0) (h .1) (λ k m. calls-say later k m) l
+calls-say (quietRefused {phase} {r} {todo} buf buf′ a p n later) at l =
+    let h = refusing (quiet (stateOf r)) (quietJudged (stateOf r)) p n in
+    refused-says {r = r} {x = a .reader} (quietValuesOf (a .answer)) at phase todo (h .0) (h .1) (λ k m. calls-say later k m) l
+calls-say done at l = refl
 
 -- From a new reader, over a whole segment.
 pub calls-give-positions : (f : Format) → CallsGivePositions f
-calls-give-positions f segment out calls = calls-say calls (length segment) 0 (record { all = zero-add (length segment); few = zero-le })
+calls-give-positions f segment out calls = calls-say calls 0 zero-le
 
 -- So it is for two lists of calls.
 pub cuts-agree : (f : Format) → CutsAgree f
@@ -249,8 +259,8 @@ calls-give-after r todo out calls =
     let count : ℕ = length (s .held) in
     let n : ℕ = firstAfter s todo in
     let first : count - count + n ≡ n = omega arith in
-    let same : positionsBy (count + length todo) count calls ≡ positionsAfter s todo =
-    calls-say calls (count + length todo) count (record { all = refl; few = le-refl count })
+    let same : positionsBy count calls ≡ positionsAfter s todo =
+    calls-say calls count (le-refl count)
     ∙ ap (λ (k : ℕ). positionsIn f count k (drop n (s .held ++ todo))) first in
     record {
       positions = same;
@@ -258,37 +268,85 @@ calls-give-after r todo out calls =
           (place-from f count n (placesAfter s todo));
     }
 
--- An answered quiet call takes no byte.
-quiet-takes : {r : Reader} (buf buf′ : List ℕ) (a : Quieted) → Quiets r buf a buf′ → Answered (quietValuesOf (a .answer)) → quietValuesOf (a .answer) .taken ≡ 0
-unfolding quietHeld
-quiet-takes {r} buf buf′ a p z = takes (quiet (stateOf r)) (quietJudged (stateOf r)) p z
-
--- Nor does a refused call.
-none-taken : {v : Values} {n : ℕ} → v ≡ refusalValues n → (later : ℕ) → v .taken + later ≡ later
-none-taken e later = ap (λ (v : Values). v .taken + later) e ∙ zero-add later
-
--- Whatever the calls, all that was to be taken is taken.
-taken-is : {phase : Phase} {r : Reader} {todo : List ℕ} {out : Output (List ℕ)} (calls : Calls phase r todo out) → takenBy calls ≡ length todo
-taken-is (fed {r} {todo} chunk more buf buf′ a p n e later) =
+-- Whatever the calls, all that was to be taken is taken at the quiet calls.
+at-end :
+    {phase : Phase} {r : Reader} {todo : List ℕ} {out : Output (List ℕ)} (calls : Calls phase r todo out) (at size : ℕ) → at + length todo ≡ size →
+    All (λ n. n ≡ size) (takenAtQuiets at calls)
+at-end (fed {r} {todo} chunk more buf buf′ a p n e later) at size all =
     let s : State = stateOf r in
     let v : Values = feedValuesOf (a .answer) in
     let there : length todo ≡ length chunk + length more = ap length e ∙ length-append chunk more in
-    omega (arith, taken-is later, length-drop (v .taken) todo, takes (line s chunk) (lineJudged s chunk) p n, line-taken s chunk, there)
-taken-is (taken later) = taken-is later
-taken-is (quieted {r} buf buf′ a p n later) = ap₂ _+_ (quiet-takes {r = r} buf buf′ a p (n .answered)) (taken-is later)
-taken-is (emptied {r} buf buf′ a p n later) = ap₂ _+_ (quiet-takes {r = r} buf buf′ a p (n .answered)) (taken-is later)
-taken-is (feedRefused {r = r} chunk buf buf′ a p n later) =
-    none-taken (refusing (line (stateOf r) chunk) (lineJudged (stateOf r) chunk) p n .0) (takenBy later) ∙ taken-is later
-taken-is (quietRefused {r = r} buf buf′ a p n later) =
-    none-taken (refusing (quiet (stateOf r)) (quietJudged (stateOf r)) p n .0) (takenBy later) ∙ taken-is later
-taken-is done = refl
+    at-end later (at + v .taken) size
+    (omega (arith, all, length-drop (v .taken) todo, takes (line s chunk) (lineJudged s chunk) p n, line-taken s chunk, there))
+at-end (taken later) at size all = at-end later at size all
+at-end (quieted {r} buf buf′ a p n later) at size all =
+    let same : at + quietValuesOf (a .answer) .taken ≡ size = quiet-takes {r = r} buf buf′ a at p (n .answered) ∙ omega (arith, all) in
+    (same, at-end later _ size (omega (arith, same)))
+at-end (emptied {r} buf buf′ a p n later) at size all =
+    let same : at + quietValuesOf (a .answer) .taken ≡ size = quiet-takes {r = r} buf buf′ a at p (n .answered) ∙ omega (arith, all) in
+    (same, at-end later _ size (omega (arith, same)))
+at-end (feedRefused {r = r} chunk buf buf′ a p n later) at size all =
+    at-end later _ size (omega (arith, all, none-taken at (refusing (line (stateOf r) chunk) (lineJudged (stateOf r) chunk) p n .0)))
+at-end (quietRefused {r = r} buf buf′ a p n later) at size all =
+    at-end later _ size (omega (arith, all, none-taken at (refusing (quiet (stateOf r)) (quietJudged (stateOf r)) p n .0)))
+at-end done at size all = tt
 
-pub all-is-taken : AllIsTaken
-all-is-taken r todo out calls = taken-is calls
+pub quiets-at-end : QuietsAtEnd
+quiets-at-end r segment out calls = at-end calls 0 (length segment) (zero-add (length segment))
+
+-- Settled bytes that gave no frame.
+none-at :
+    (f : Format) (h : List ℕ) (later : Settled) (v : Verdict) → (later .out .frames ≡ [] → later .began ≡ 0) →
+    settleAs f v h later .out .frames ≡ [] → settleAs f v h later .began ≡ 0
+unfolding join
+none-at f h later cut k e = refl
+none-at f h later (refused judged n) k e = k e
+none-at f h later (frame used p) k e = absurd (cons≢nil e)
+
+none-settled : (f : Format) (judgement : List ℕ → Verdict) (h : List ℕ) → settle f judgement h .out .frames ≡ [] → settle f judgement h .began ≡ 0
+unfolding settle
+none-settled f judgement [] e = refl
+none-settled f judgement (b ∷ h) e = none-at f (b ∷ h) (settle f judgement h) (judgement (b ∷ h)) (none-settled f judgement h) e
+
+-- A call that gave none.
+none-step :
+    (st : Settled) (c : Called) (fs : List (List ℕ)) → st .out .frames ≡ fs → (c .out .frames ≡ [] → c .began ≡ 0) →
+    ifFrame fs (stopped st) (oneMore (st .out) c) .out .frames ≡ [] → ifFrame fs (stopped st) (oneMore (st .out) c) .began ≡ 0
+unfolding join
+none-step st c [] e k n = k (ap (λ (fs : List (List ℕ)). fs ++ c .out .frames) (sym e) ∙ n)
+none-step st c (p ∷ ps) e k n = absurd (cons≢nil (sym e ∙ n))
+
+none-from :
+    (f : Format) (st : Settled) (chunk : List ℕ) → (st .out .frames ≡ [] → st .began ≡ 0) → lineFrom f st chunk .out .frames ≡ [] →
+    lineFrom f st chunk .began ≡ 0
+unfolding lineFrom
+none-from f st [] k n = k n
+none-from f st (b ∷ chunk) k n =
+    let st′ : Settled = settle f (judge f) (st .rest ++ (b ∷ [])) in
+    none-step st (lineFrom f st′ chunk) (st .out .frames) refl (none-from f st′ chunk (none-settled f (judge f) (st .rest ++ (b ∷ [])))) n
+
+none-on : (f : Format) (h chunk : List ℕ) → lineOn f h chunk .out .frames ≡ [] → lineOn f h chunk .began ≡ 0
+unfolding lineOn
+none-on f h chunk n = none-from f (settle f (judge f) h) chunk (none-settled f (judge f) h) n
+
+none-behind : (f : Format) (follows : Bool) (h chunk : List ℕ) → lineBehind f follows h chunk .out .frames ≡ [] → lineBehind f follows h chunk .began ≡ 0
+none-behind f follows [] [] n = refl
+none-behind f follows [] (b ∷ chunk) n = none-on f [] (drop (absorbed f follows (b ∷ chunk)) (b ∷ chunk)) n
+none-behind f follows (b ∷ h) chunk n = none-on f (drop (absorbed f follows (b ∷ h)) (b ∷ h)) chunk n
+
+none-quiet : (f : Format) (h : List ℕ) → quietHeld f h .out .frames ≡ [] → quietHeld f h .began ≡ 0
+unfolding quietHeld
+none-quiet f h n = none-settled f (λ x. ended (judge f x)) h n
 
 -- Without a frame the number is 0.
 pub none-is-zero : NoneIsZero
-none-is-zero = record { atLine = at-line; atQuiet = at-quiet }
+none-is-zero =
+    record {
+      lineCall = λ s chunk. none-behind (s .format) (s .follows) (s .held) chunk;
+      quietCall = λ s. none-quiet (s .format) (behindOptional (s .format) (s .follows) (s .held));
+      lineAnswer = at-line;
+      quietAnswer = at-quiet;
+    }
   where
     at-line : (a : FeedAnswer) → feedValuesOf a .isFrame ≡ false → feedValuesOf a .began ≡ 0
     at-line (FeedFrame size noise judged len began) e = absurd (true≢false e)

@@ -7,7 +7,7 @@ use Rattle.frame.specs.Digit.{isDigit, digitValue}
 use Rattle.frame.specs.Ascii.{hexDigits, lineEnding, lineEnd, afterDigits, ascii}
 use Rattle.frame.specs.Rule.{join, places, outFrom, rule}
 use Rattle.frame.specs.Reader.{settle, lineFrom, lineOn, quietHeld}
-use Rattle.frame.specs.MarkExamples.{NextCallTakesIt, OtherFormats, HeldBehindTheFrame, QuietEndsIt, AnyEnding}
+use Rattle.frame.specs.MarkExamples.{NextCallTakesIt, OtherFormats, HeldBehindTheFrame, BeganEarlier, QuietEndsIt, AnyEnding}
 
 pub next-call-takes-it : NextCallTakesIt
 unfolding lineOn lineFrom settle join binary body footer byte test word bytes
@@ -21,6 +21,10 @@ other-formats = record { required = refl; ascii = refl; stays = refl; unset = re
 pub held-behind-the-frame : HeldBehindTheFrame
 unfolding lineOn lineFrom settle quietHeld join rule places outFrom binary body footer byte test word bytes
 held-behind-the-frame = record { first = refl; next = refl; atQuiet = refl; all = refl }
+
+pub began-earlier : BeganEarlier
+unfolding lineOn lineFrom settle join binary body byte test word bytes
+began-earlier = record { cut = refl; held = refl }
 
 pub quiet-ends-it : QuietEndsIt
 unfolding lineOn lineFrom settle quietHeld join binary body footer byte test word bytes

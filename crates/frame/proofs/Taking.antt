@@ -14,7 +14,7 @@ use Rattle.frame.specs.Framing.{checks, judge, isOptional, isOpen, absor
 use Rattle.frame.specs.Rule.{output, nothing, noiseByte, handed, join}
 use Rattle.frame.specs.Reader.{Settled, settled, settleAs, settle, Called, called, stopped, oneMore, ifFrame, lineFrom, lineOn}
 use Rattle.frame.specs.Reader.{tookFirst, lineBehind, quietHeld, holding, ended, judgedTo, leftOut, countFrom}
-use Rattle.frame.specs.Claims.{remaining, TakenIsNeeded, HeldThenChunk, SameButMark, MarkMeansNothing}
+use Rattle.frame.specs.Claims.{remaining, TakenIsNeeded, AsOffered, HeldThenChunk, SameButMark, MarkMeansNothing}
 use Rattle.frame.specs.Scan.{judgedBytes}
 use Rattle.frame.specs.declared.framing.Format.{Format}
 use Rattle.frame.proofs.Lists.{drop-take}
@@ -202,24 +202,25 @@ module _ (f : Format) where
 on-held-then-chunk :
     (f : Format) (held chunk : List ℕ) →
     let c : Called = lineOn f held chunk in
-    let all : Called = lineOn f [] (held ++ chunk) in
-    (c .out ≡ all .out) × (remaining c chunk ≡ remaining all (held ++ chunk)) × (c .follows ≡ all .follows)
-    × (length held + c .taken + all .began ≡ all .taken + c .began)
+    let all : Called = lineOn f [] (held ++ chunk) in AsOffered (length held) c chunk all (held ++ chunk)
 on-held-then-chunk f held chunk =
     let s : List ℕ = held ++ chunk in
     let here : Whole f s (length held) (settle f (judge f) s) = whole f s (length held) (rw length-append (omega arith)) in
     let front : Whole f s 0 (settle f (judge f) s) = whole f s 0 zero-le in
     let split = rw (take-append-seam held chunk, drop-append-seam held chunk) at here in
-    (split .0 ∙ sym (front .0), split .1 ∙ sym (front .1), split .2 ∙ sym (front .2), omega (arith, split .3, front .3))
+    record {
+      out = split .0 ∙ sym (front .0);
+      rest = split .1 ∙ sym (front .1);
+      follows = split .2 ∙ sym (front .2);
+      index = omega (arith, split .3, front .3);
+    }
 
 -- And behind a mark.
 then-chunk :
     (f : Format) (follows : Bool) (held chunk : List ℕ) →
     let c : Called = lineBehind f follows held chunk in
-    let all : Called = lineBehind f follows [] (held ++ chunk) in
-    (c .out ≡ all .out) × (remaining c chunk ≡ remaining all (held ++ chunk)) × (c .follows ≡ all .follows)
-    × (length held + c .taken + all .began ≡ all .taken + c .began)
-then-chunk f follows [] chunk = (refl, refl, refl, omega arith)
+    let all : Called = lineBehind f follows [] (held ++ chunk) in AsOffered (length held) c chunk all (held ++ chunk)
+then-chunk f follows [] chunk = record { out = refl; rest = refl; follows = refl; index = omega arith }
 then-chunk f follows (b ∷ h) chunk =
     let n : ℕ = absorbed f follows (b ∷ h) in
     let c : Called = lineOn f (drop n (b ∷ h)) chunk in
@@ -230,16 +231,14 @@ then-chunk f follows (b ∷ h) chunk =
     let is : whole ≡ lineBehind f follows [] ((b ∷ h) ++ chunk) = ap (λ (k : ℕ). tookFirst k (lineOn f [] (drop k ((b ∷ h) ++ chunk)))) same in
     let k = on-held-then-chunk f (drop n (b ∷ h)) chunk in
     subst
-    (λ (x : Called).
-    (c .out ≡ x .out) × (remaining c chunk ≡ remaining x ((b ∷ h) ++ chunk)) × (c .follows ≡ x .follows)
-    × (length (b ∷ h) + c .taken + x .began ≡ x .taken + c .began))
+    (λ (x : Called). AsOffered (length (b ∷ h)) c chunk x ((b ∷ h) ++ chunk))
     is
-    (rw split (
-      k .0,
-      k .1 ∙ ap (λ (t : List ℕ). all .held ++ t) (ap (drop (all .taken)) (sym split) ∙ drop-drop (all .taken) n ((b ∷ h) ++ chunk)),
-      k .2,
-      omega (arith, k .3, length-drop n (b ∷ h), absorbed-there f follows (b ∷ h)),
-    ))
+    (rw split (record {
+      out = k .out;
+      rest = k .rest ∙ ap (λ (t : List ℕ). all .held ++ t) (ap (drop (all .taken)) (sym split) ∙ drop-drop (all .taken) n ((b ∷ h) ++ chunk));
+      follows = k .follows;
+      index = omega (arith, k .index, length-drop n (b ∷ h), absorbed-there f follows (b ∷ h));
+    }))
 
 pub held-then-chunk : HeldThenChunk
 held-then-chunk s chunk = then-chunk (s .format) (s .follows) (s .held) chunk

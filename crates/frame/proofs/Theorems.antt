@@ -12,8 +12,8 @@ use Rattle.frame.specs.Draining.{FeedReports, QuietReports, ViewReports,
 use Rattle.frame.specs.Driving.{CanDrive, DrivesAreShort, StateNeverRefused, FeedStaysSound, QuietStaysSound, EndsFresh}
 use Rattle.frame.specs.Counts.{CallsCount, CallsCountFrom, RuleBound, CallsBound, StateBound, ColonsCount, NestedStartsCount, LineCounts, QuietCounts}
 use Rattle.frame.specs.Counts.{DrainCounts, DrainSums, FrameCounts, AbsorbedNotJudged, Unfinished, OptionalNotJudged, HandMadeCounts}
-use Rattle.frame.specs.Positions.{AllIsTaken, CallsGivePositions, CutsAgree, CallsGivePlaces, CallsGiveAfter, NoneIsZero, PositionExamples, PositionsAfterExamples}
-use Rattle.frame.specs.MarkExamples.{NextCallTakesIt, OtherFormats, HeldBehindTheFrame, QuietEndsIt, AnyEnding}
+use Rattle.frame.specs.Positions.{QuietsAtEnd, CallsGivePositions, CutsAgree, CallsGivePlaces, CallsGiveAfter, NoneIsZero, PositionExamples, PositionsAfterExamples}
+use Rattle.frame.specs.MarkExamples.{NextCallTakesIt, OtherFormats, HeldBehindTheFrame, BeganEarlier, QuietEndsIt, AnyEnding}
 use Rattle.frame.specs.RecoveryExamples.{LostAndBack, ProvisoNeeded, MixedFooters, FooterRequired, AsciiBack, MixedLines, StrictLines, LfJudges}
 use Rattle.frame.specs.declared.framing.Footer.{Footer}
 use Rattle.frame.specs.declared.framing.Ending.{Ending}
@@ -182,6 +182,9 @@ other-formats = mark-examples.other-formats
 pub held-behind-the-frame : HeldBehindTheFrame
 held-behind-the-frame = mark-examples.held-behind-the-frame
 
+pub began-earlier : BeganEarlier
+began-earlier = mark-examples.began-earlier
+
 pub quiet-ends-it : QuietEndsIt
 quiet-ends-it = mark-examples.quiet-ends-it
 
@@ -248,8 +251,8 @@ optional-not-judged = count-examples.optional-not-judged
 pub hand-made-counts : HandMadeCounts
 hand-made-counts = count-examples.hand-made-counts
 
-pub all-is-taken : AllIsTaken
-all-is-taken = call-positions.all-is-taken
+pub quiets-at-end : QuietsAtEnd
+quiets-at-end = call-positions.quiets-at-end
 
 pub calls-give-positions : (f : Format) → CallsGivePositions f
 calls-give-positions = call-positions.calls-give-positions

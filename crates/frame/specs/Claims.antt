@@ -1,5 +1,6 @@
 -- What is claimed of single frames, of the leftmost rule, of line calls and of lists of calls, in that order; the claims on damage stand in Recovery.antt,
--- those on judged bytes in Counts.antt, those on where frames began in Positions.antt. proofs/Theorems.antt proves each claim, one that takes a format for every format.
+-- those on judged bytes in Counts.antt, those on where frames began in Positions.antt. proofs/Theorems.antt proves each claim, one that takes a format for
+-- every format.
 use Prim.Native.Nat.{ℕ, _+_, _≤_, _<_}
 use mathlib.Core.Path.{_≡_}
 use mathlib.Core.List.{List, [], _∷_, _++_, map, List·Memᴰ}
@@ -122,16 +123,22 @@ NeedsMoreIsTrue =
 abbrev pub remaining : Called → List ℕ → List ℕ
 remaining c chunk = c .held ++ drop (c .taken) chunk
 
--- A line call's answer, but for the bytes taken and judged, is that of the held bytes followed by the chunk: it hands out, noise too, and leaves, the mark too,
--- what a call does that has the same mark, holds nothing and is offered both. And the frame begins at the same index of both: the held bytes and those taken,
--- less how far back it began, are as many.
+-- The call c over a chunk, where `count` bytes were held, gives what another gives that is offered `all`, held bytes too: what comes out, noise too, what is left
+-- and the mark. And the frame begins at the same index of `all`: the bytes held and taken, less how far back it began, are the same number; it is written
+-- without subtraction.
+pub record AsOffered (count : ℕ) (c : Called) (chunk : List ℕ) (whole : Called) (all : List ℕ) : Type 0 where
+  pub out : c .out ≡ whole .out
+  pub rest : remaining c chunk ≡ remaining whole all
+  pub follows : c .follows ≡ whole .follows
+  pub index : count + c .taken + whole .began ≡ whole .taken + c .began
+
+-- A line call's answer, but for the bytes taken, those judged and how far back the frame began, is that of the held bytes followed by the chunk: of a call that
+-- has the same mark, holds nothing and is offered both.
 abbrev pub HeldThenChunk : Type 0
 HeldThenChunk =
     (s : State) (chunk : List ℕ) →
-    let c : Called = line s chunk in
-    let whole : Called = line (holding (s .format) [] (s .follows) 0) (s .held ++ chunk) in
-    (c .out ≡ whole .out) × (remaining c chunk ≡ remaining whole (s .held ++ chunk)) × (c .follows ≡ whole .follows)
-    × (length (s .held) + c .taken + whole .began ≡ whole .taken + c .began)
+    let all : List ℕ = s .held ++ chunk in
+    AsOffered (length (s .held)) (line s chunk) chunk (line (holding (s .format) [] (s .follows) 0) all) all
 
 -- Two calls that give the same, but for the mark afterwards.
 pub record SameButMark (a b : Called) : Type 0 where

@@ -50,7 +50,7 @@ EmptyIsDrained = (s : State) → quiet s .out .frames ≡ [] → quiet s .held �
 
 -- What the answer of a call that gives c and judges so many bytes says. Not refused: what it hands out, the bytes that it takes and judges and the state that
 -- follows are those of the call; refused: the number, and state and buffer stay. A payload is within the buffer as it then is, and no more is taken than the
--- call takes.
+-- call takes. (Where a frame began is not said here.)
 pub record Reports {S : Type 0} (number : ℕ) (c : Called) (judged : ℕ) (Next : S → Type 0) (s : S) (buf : List ℕ) (v : Values) (s′ : S) (buf′ : List ℕ)
     : Type 0 where
   pub inside : v .len ≤ length buf′

@@ -1,5 +1,5 @@
--- Examples of the mark, call by call: in binary framing with the footer optional and in ASCII framing under any ending, where it means something, and in other
--- formats. Document 02, CR 2 and 9.
+-- Examples of the mark, and of where frames began, call by call: in binary framing with the footer optional and in ASCII framing under any ending, where the mark
+-- means something, and in other formats. Document 02, CR 2, 9 and 14.
 use mathlib.Core.Path.{_≡_}
 use mathlib.Core.List.{List, [], _∷_, _++_}
 use mathlib.Core.Bool.{true, false}
@@ -51,6 +51,11 @@ pub record HeldBehindTheFrame : Type 0 where
   pub next : line (marked (0x04 ∷ 0x00 ∷ 0x55 ∷ [])) [] ≡ called 0 (output [] 2) 0 [] false
   pub atQuiet : quiet (marked (0x04 ∷ 0x00 ∷ 0x55 ∷ [])) ≡ called 0 (output [] 2) 0 [] false
   pub all : rule (Binary Optional) failsLate ≡ output (foundAt 4 7 (0x11 ∷ []) ∷ []) 6
+
+-- A frame that began in an earlier call, and one that is held whole, with a byte behind it.
+pub record BeganEarlier : Type 0 where
+  pub cut : line (plain (0xA5 ∷ 0x5A ∷ 0x80 ∷ [])) (0x01 ∷ 0x11 ∷ 0x11 ∷ 0x04 ∷ []) ≡ called 3 (output ((0x11 ∷ []) ∷ []) 0) 6 [] true
+  pub held : line (marked (firstFrame ++ (0x01 ∷ []))) [] ≡ called 0 (output ((0x11 ∷ []) ∷ []) 0) 7 (0x01 ∷ []) true
 
 -- A start that claims more than comes before the quiet.
 abbrev pub unfinished : List ℕ

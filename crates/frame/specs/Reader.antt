@@ -112,7 +112,7 @@ ended cut = refused 0 2
 ended (refused judged n) = refused judged n
 ended (frame used p) = frame used p
 
--- All bytes of the segment were taken, so that where a frame began is counted from the segment's end.
+-- Where a frame began is so counted from the segment's end.
 unfoldable pub quietHeld : Format → List ℕ → Called
 quietHeld m h = stopped (settle m (λ h. ended (judge m h)) h)
 
