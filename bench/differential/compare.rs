@@ -95,6 +95,7 @@ pub fn single_read(r: &mut Random, tally: &mut Tally) -> Outcome {
     };
     let mut buf = before;
     let got = library::read_frame(number, &s, &mut buf);
+    tally.case_read(f);
     tally.refusal(got.refusal);
     tally.single_read(f, &s, got);
     let input = || format!("read_frame format {number} room {room} bytes {}", hex(&s));
@@ -132,6 +133,7 @@ pub fn single_write(r: &mut Random, tally: &mut Tally) -> Outcome {
     let expected = f.map_or(Err(messages::UNKNOWN), |f| frames::write_frame(f, &p, room));
     let mut buf = before.clone();
     let got = library::write_frame(number, &p, &mut buf);
+    tally.case_written(f);
     written(&format!("write_frame framing {number} room {room} payload {}", hex(&p)), tally, &before, expected, got, &buf)
 }
 
@@ -144,6 +146,7 @@ pub fn payload(r: &mut Random, tally: &mut Tally) -> Outcome {
     let input = || format!("payload {}", hex(&p));
     let to = library::read_to_module(&p);
     let from = library::read_from_module(&p);
+    tally.case_read(None);
     tally.refusal(to.refusal);
     tally.refusal(from.refusal);
     tally.to_kinds[to.kind as usize % 8] += 1;
@@ -202,6 +205,7 @@ pub fn message_write(r: &mut Random, tally: &mut Tally) -> Outcome {
     let mut text = String::new();
     let which = r.below(5);
     let (payload, got) = write_with(which, r, number, &mut buf, &mut text);
+    tally.case_written(f);
     let expected = match f {
         None => Err(messages::UNKNOWN),
         Some(f) => payload.clone().and_then(|p| frames::write_frame(f, &p, room)),
@@ -228,6 +232,7 @@ pub fn walk(r: &mut Random, tally: &mut Tally) -> Outcome {
         0 => random::data(r),
         _ => random::settings_list(r),
     };
+    tally.case_read(None);
     let mut index = 0;
     loop {
         let input = || format!("setting_at index {index} list {}", hex(&list));
@@ -244,12 +249,14 @@ pub fn walk(r: &mut Random, tally: &mut Tally) -> Outcome {
     same("setting", &|| format!("setting_at index {far} list {}", hex(&list)), library::setting_at(&list, far), messages::setting_at(&list, far))
 }
 
-/// A reader of the library beside the model's state, how many bytes of the segment were taken, held ones of a state made by hand among them, and what the
-/// library's answers make up together.
+/// A reader of the library beside the model's state, whether that is as it was made by hand, how many bytes of the segment were taken, held ones of a state
+/// made by hand among them, and what the library's answers make up together.
+#[derive(Clone)]
 struct Pair {
     format: Format,
     reader: Reader,
     state: State,
+    is_made: bool,
     taken: usize,
     given: Output,
 }
@@ -263,7 +270,7 @@ fn told(name: &str, r: &Reader, chunk: &[u8], room: usize) -> String {
 impl Pair {
     fn new(format: Format) -> Pair {
         let reader = library::new_reader(format_number(format));
-        Pair { format, reader, state: State::default(), taken: 0, given: Output::default() }
+        Pair { format, reader, state: State::default(), is_made: false, taken: 0, given: Output::default() }
     }
 
     fn over_limit(&self) -> bool {
@@ -277,6 +284,11 @@ impl Pair {
 
     fn has_unknown_mark(&self) -> bool {
         self.reader.follows > 1
+    }
+
+    /// The state, if it is as it was made by hand.
+    fn made(&self) -> Option<&Reader> {
+        self.is_made.then_some(&self.reader)
     }
 
     /// A refused call: its number, zeros, state and buffer as they were.
@@ -307,6 +319,7 @@ impl Pair {
         }
         self.reader = got.reader;
         self.state = call.state;
+        self.is_made = false;
         self.taken += got.answer.taken;
         self.given.noise += got.answer.noise;
         self.given.judged += got.answer.judged;
@@ -324,7 +337,7 @@ impl Pair {
         let mut buf = before.clone();
         let got = library::feed(self.reader, chunk, &mut buf);
         tally.refusal(got.answer.refusal);
-        tally.add("line calls", true);
+        tally.call("line calls", self.format, self.made(), got.answer.refusal);
         let was = self.reader;
         let input = || told("feed", &was, chunk, room);
         let refusal = match () {
@@ -354,7 +367,7 @@ impl Pair {
         let mut buf = before.clone();
         let got = library::quiet(self.reader, &mut buf);
         tally.refusal(got.answer.refusal);
-        tally.add("quiet calls", true);
+        tally.call("quiet calls", self.format, self.made(), got.answer.refusal);
         let was = self.reader;
         let input = || told("quiet", &was, &[], room);
         let refusal = match () {
@@ -374,6 +387,13 @@ impl Pair {
         tally.optional_in_quiet(self.format, &self.state, &call);
         self.answered(call, !is_frame, &input, got, &buf, &before)?;
         Ok(is_frame)
+    }
+
+    /// A line call and a quiet call, each on this state.
+    fn each_call(&self, r: &mut Random, tally: &mut Tally, chunk: &[u8]) -> Outcome {
+        let room = r.pick(&[0, 255, 256, 257, 300, 600]);
+        self.clone().feed(r, tally, chunk, room)?;
+        self.clone().quiet(r, tally, room).map(drop)
     }
 
     /// Now and then a call that is refused, with any chunk.
@@ -488,6 +508,7 @@ fn drive(pair: &mut Pair, r: &mut Random, tally: &mut Tally, segment: &[u8]) -> 
 /// One or two segments through one reader, in random cuts.
 pub fn segment(r: &mut Random, tally: &mut Tally) -> Outcome {
     let mut pair = Pair::new(random::format(r));
+    tally.case_read(Some(pair.format));
     let mut was_marked = false;
     for _ in 0..r.within(1, 2) {
         let s = random::next_segment(r, pair.format.framing());
@@ -510,14 +531,28 @@ fn judged_number(r: &mut Random, count: usize) -> usize {
     }
 }
 
-/// A state made by hand: any bytes up to the limit and above it, with and without the mark, and any number of judged bytes, then chunks and the quiet. One
-/// whose mark is neither 0 nor 1, whose bytes are over the limit, or whose number of judged bytes is over theirs, gets a call of each kind, which is refused.
+/// What comes behind the held bytes of a state made by hand: nothing, a segment, or the bytes that stood behind them before they were cut off, so that what
+/// they begin goes on.
+fn behind(r: &mut Random, f: Framing, cut_off: &[u8]) -> Vec<u8> {
+    match r.below(3) {
+        0 => Vec::new(),
+        1 => random::next_segment(r, f),
+        _ => cut_off.to_vec(),
+    }
+}
+
+/// A state made by hand: any bytes up to the limit and above it, with and without the mark, and any number of judged bytes. It gets a call of each kind by
+/// itself, and then chunks and the quiet. One whose mark is neither 0 nor 1, whose bytes are over the limit, or whose number of judged bytes is over theirs,
+/// gets the call of each kind alone, which is refused.
 pub fn made_state(r: &mut Random, tally: &mut Tally) -> Outcome {
     let mut pair = Pair::new(random::format(r));
+    tally.case_read(Some(pair.format));
     let limit = pair.format.limit();
+    pair.is_made = true;
     pair.reader.held.copy_from_slice(&random::held(r, pair.format.framing()));
+    let over = r.within(limit + 1, 600);
     pair.reader.count = match r.below(8) {
-        0 => r.pick(&[limit + 1, 517, 518, 65536, usize::MAX]),
+        0 => r.pick(&[limit + 1, 517, 518, over, 65536, usize::MAX]),
         1 => r.pick(&[limit - 1, limit]),
         2 | 3 => r.below(3),
         _ => r.below(limit + 1),
@@ -532,16 +567,17 @@ pub fn made_state(r: &mut Random, tally: &mut Tally) -> Outcome {
     tally.add("states that say of more bytes than they hold that they were judged", pair.overstates() && !pair.over_limit());
     if pair.has_unknown_mark() || pair.over_limit() || pair.overstates() {
         let n = if r.once_in(50) { 65537 } else { r.below(30) };
-        let (chunk, room) = (r.bytes(n), r.pick(&[0, 255, 256, 300]));
-        pair.feed(r, tally, &chunk, room)?;
-        return pair.quiet(r, tally, room).map(drop);
+        let chunk = r.bytes(n);
+        return pair.each_call(r, tally, &chunk);
     }
-    let held = pair.reader.held[..pair.reader.count].to_vec();
-    let start = State { held, follows: pair.reader.follows == 1, judged: pair.reader.judged, place: 0 };
+    let (held, cut_off) = pair.reader.held.split_at(pair.reader.count);
+    let rest = behind(r, pair.format.framing(), cut_off);
+    let start = State { held: held.to_vec(), follows: pair.reader.follows == 1, judged: pair.reader.judged, place: 0 };
     tally.judged_in_state(pair.format, &start);
+    tally.held_in_state(pair.format, &start, &rest);
     pair.state = start.clone();
     pair.taken = start.held.len();
-    let rest = if r.once_in(3) { Vec::new() } else { random::next_segment(r, pair.format.framing()) };
+    pair.each_call(r, tally, &rest)?;
     drive(&mut pair, r, tally, &rest)?;
     pair.by_rule(&start, &rest, tally)
 }
@@ -549,6 +585,7 @@ pub fn made_state(r: &mut Random, tally: &mut Tally) -> Outcome {
 /// A state whose format number stands for none, with any mark and any number of judged bytes.
 pub fn unknown_format(r: &mut Random, tally: &mut Tally) -> Outcome {
     let number = unknown_number(r, 4);
+    tally.case_read(None);
     let mut reader = library::new_reader(number);
     same("new reader", &|| format!("format {number}"), reader, Reader { format: number, held: [0; 517], count: 0, follows: 0, judged: 0 })?;
     let bytes = r.bytes(517);
@@ -573,6 +610,7 @@ pub fn unknown_format(r: &mut Random, tally: &mut Tally) -> Outcome {
 /// Chunks at the limit of 65,536 bytes and over it, with storms of stray starts in them.
 pub fn long_chunk(r: &mut Random, tally: &mut Tally) -> Outcome {
     let mut pair = Pair::new(random::format(r));
+    tally.case_read(Some(pair.format));
     let size = r.pick(&[65535, 65536, 65537, 65600]);
     let s = random::storm(r, pair.format.framing(), size);
     if size <= 65536 {

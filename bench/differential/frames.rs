@@ -222,7 +222,7 @@ pub fn write_frame(framing: Framing, payload: &[u8], room: usize) -> Result<Vec<
 
 /// What the leftmost rule makes of a segment: the payloads, the places of their frames, how far before the first untaken byte each of these began, the noise,
 /// and the rule's own count of judged bytes.
-#[derive(Default)]
+#[derive(Clone, Default)]
 pub struct Output {
     pub frames: Vec<Vec<u8>>,
     pub places: Vec<usize>,

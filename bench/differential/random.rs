@@ -6,10 +6,11 @@ use crate::messages::{width, WIDTHS};
 pub struct Random(u64);
 
 impl Random {
+    /// The numbers are mixed one after the other: the state moves on by a fixed step, and states of two cases that are a few steps apart would give the same
+    /// numbers.
     pub fn new(seed: u64, family: u64, index: u64) -> Random {
-        let mut r = Random(seed ^ family.wrapping_mul(0xD1B5_4A32_D192_ED03) ^ index.wrapping_mul(0x9E37_79B9_7F4A_7C15));
-        r.next();
-        r
+        let of_family = Random(seed).next() ^ family;
+        Random(Random(of_family).next() ^ index)
     }
 
     /// The next 64 bits (splitmix64).

@@ -12,12 +12,12 @@ use borrow.Author.Tests.{le-leb, leb-true, eq-eqb, ne-eqb, eqb-true}
 use lib.Dec.{leb, eqb}
 use lib.ListN.{length, getD, take, drop, length-append, length-map}
 use lib.Seq.{take-at}
-use Rattle.frame.specs.Checks.{Checks, fails, whole, Verdict, cut, refused, frame, behind, run}
+use Rattle.frame.specs.Checks.{Checks, fails, whole, Verdict, cut, refused, frame, behind, run, lastByte}
 use Rattle.frame.specs.Framing.{layout}
 use Rattle.frame.specs.Digit.{isDigit, digitValue}
 use Rattle.frame.specs.Hex.{hex, pairs, sumOf}
 use Rattle.frame.specs.Ascii.{colon, carriageReturn, lineFeed, checksumOf, asciiFront, asciiEnding}
-use Rattle.frame.specs.Ascii.{hexDigits, digitCount, afterDigits, ascii, endsDigits, lineEnd, behindDigits, lineEnding}
+use Rattle.frame.specs.Ascii.{hexDigits, digitCount, afterDigits, ascii, endsDigits, behindDigits, lineEnding}
 use Rattle.frame.specs.Elements.{Bytes}
 use Rattle.frame.specs.declared.framing.Framing.the-variants.{Ascii as AsciiFraming}
 use Rattle.frame.specs.declared.framing.Ending.{Ending}
@@ -279,7 +279,7 @@ module _ (ending : Ending) (ds : List ℕ) (c : ℕ) where
 
 -- What stands behind that character takes one byte at most.
 behind-within : (ending : Ending) (p : List ℕ) → Within 1 (behindDigits ending p)
-unfolding lineEnd
+unfolding lastByte
 behind-within CrLf p = within-byte 0 lineFeed 5 (whole p) (within-whole 0 p)
 behind-within Any p = within-whole 1 p
 
@@ -289,7 +289,7 @@ line-within ending ds c = within-test 1 6 _ _ (λ _. after-within ds (behindDigi
 
 -- It hands on the payload.
 pub behind-keeps : (ending : Ending) → Keeps (behindDigits ending)
-unfolding lineEnd
+unfolding lastByte
 behind-keeps CrLf q s p used e = keeps-byte lineFeed 5 q s p used e
 behind-keeps Any q s p used e = took-whole q s p used e .1
 
@@ -330,19 +330,19 @@ took-line ending s p used e =
 -- What the layout gives is read as that frame.
 pub ascii-layout-reads : (p more : List ℕ) → Payload p
     → run (ascii (lineEnding CrLf)) (layout AsciiFraming p ++ more) ≡ frame (length (layout AsciiFraming p)) p
-unfolding isDigit lineEnd
+unfolding isDigit lastByte
 ascii-layout-reads p more h =
     let n : ℕ = length (asciiFront p) in
     ap (run (ascii (lineEnding CrLf))) (append-assoc (asciiFront p) asciiEnding more)
     ∙ ascii-front-reads (lineEnding CrLf) p (lineFeed ∷ more) carriageReturn h refl
-    ∙ ap (λ (t : Checks). behind (n + 1) (run t (lineFeed ∷ more))) (ending-judges CrLf (digitsOf p) carriageReturn refl ∙ after-payload p lineEnd h)
+    ∙ ap (λ (t : Checks). behind (n + 1) (run t (lineFeed ∷ more))) (ending-judges CrLf (digitsOf p) carriageReturn refl ∙ after-payload p (lastByte lineFeed) h)
     ∙ ap (behind (n + 1)) (run-byte lineFeed 5 (whole p) more)
     ∙ ap (λ (k : ℕ). frame k p) (omega (arith, length-append (asciiFront p) asciiEnding))
 
 -- What is judged a frame is the layout of its payload.
 pub ascii-is-layout : (s p : List ℕ) (used : ℕ) → run (ascii (lineEnding CrLf)) s ≡ frame used p
     → (take used s ≡ layout AsciiFraming p) × (used ≡ length (layout AsciiFraming p)) × Payload p
-unfolding lineEnd
+unfolding lastByte
 ascii-is-layout s p used e =
     let (c, ends, h, payload) = took-line CrLf s p used e in
     let l = used-last lineFeed 5 p (asciiFront p ++ (c ∷ [])) s used h in

@@ -9,7 +9,8 @@ use Rattle.frame.specs.Checks.{cut}
 use Rattle.frame.specs.Ascii.{colon}
 use Rattle.frame.specs.Framing.{judge}
 use Rattle.frame.specs.Rule.{join}
-use Rattle.frame.specs.Recovery.{Stretch, none, another, AsciiRecovers}
+use Rattle.frame.specs.Recovery.{Stretch, none, another}
+use Rattle.frame.specs.Further.{AsciiRecovers}
 use Rattle.frame.specs.declared.framing.Ending.{Ending}
 use Rattle.frame.specs.declared.framing.Format.{Format}
 use Rattle.frame.specs.declared.framing.Format.the-variants.{Ascii}

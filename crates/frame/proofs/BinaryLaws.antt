@@ -11,9 +11,9 @@ use lib.Arith.{digits-div, digits-mod}
 use lib.Dec.{leb}
 use lib.ListN.{length, getD, take, drop, length-append, drop-of-length-le}
 use lib.Bits.{bitXor}
-use Rattle.frame.specs.Checks.{Checks, whole, byte, test, word, bytes, frame, behind, run}
+use Rattle.frame.specs.Checks.{Checks, whole, byte, test, word, bytes, frame, behind, run, lastByte}
 use Rattle.frame.specs.Framing.{layout}
-use Rattle.frame.specs.Binary.{xorFrom, xorOf, bigEndian, binaryFront, binaryEnding, footerByte, footer, behindChecksum, lengthWord, body, binary}
+use Rattle.frame.specs.Binary.{xorFrom, xorOf, binaryFront, binaryEnding, footerByte, behindChecksum, lengthWord, body, binary}
 use Rattle.frame.specs.Elements.{Bytes}
 use Rattle.frame.specs.declared.framing.Framing.the-variants.{Binary as BinaryFraming}
 use Rattle.frame.specs.declared.framing.Footer.{Footer}
@@ -59,6 +59,10 @@ afterWord end w = test (lengthWord w) 3 (body end (w - 0x8000))
 pub length-binary-front : (p : List ℕ) → length (binaryFront p) ≡ length p + 5
 unfolding binaryFront
 length-binary-front p = simp length-append (omega arith)
+
+-- A 16-bit number as two bytes.
+abbrev bigEndian : ℕ → List ℕ
+bigEndian n = n / 256 ∷ n % 256 ∷ []
 
 -- A word below 0x10000 is the two bytes it was made of.
 big-endian : (high low n : ℕ) → low < 256 → 0x8000 + n ≡ high * 256 + low → bigEndian (0x8000 + n) ≡ high ∷ low ∷ []
@@ -184,13 +188,13 @@ module _ (end : List ℕ → Checks) where
 
 -- An ending takes one byte at most.
 pub ending-within : (footer : Footer) (p : List ℕ) → Within 1 (behindChecksum footer p)
-unfolding footer
+unfolding lastByte
 ending-within Optional p = within-whole 1 p
 ending-within Required p = within-byte 0 footerByte 5 (whole p) (within-whole 0 p)
 
 -- It hands on the payload.
 pub ending-keeps : (footer : Footer) → Keeps (behindChecksum footer)
-unfolding footer
+unfolding lastByte
 ending-keeps Optional q s p used e = took-whole q s p used e .1
 ending-keeps Required q s p used e = keeps-byte footerByte 5 q s p used e
 
@@ -199,11 +203,11 @@ pub optional-front : (p more : List ℕ) → Payload p → run (binary whole) (b
 optional-front p more h = binary-front-reads whole p more h ∙ ap (λ (k : ℕ). frame k p) (add-zero (length (binaryFront p)))
 
 -- Where it is required, the layout is.
-pub required-layout : (p more : List ℕ) → Payload p → run (binary footer) (layout BinaryFraming p ++ more) ≡ frame (length (layout BinaryFraming p)) p
-unfolding footer
+pub required-layout : (p more : List ℕ) → Payload p → run (binary (lastByte footerByte)) (layout BinaryFraming p ++ more) ≡ frame (length (layout BinaryFraming p)) p
+unfolding lastByte
 required-layout p more h =
-    ap (run (binary footer)) (append-assoc (binaryFront p) binaryEnding more)
-    ∙ binary-front-reads footer p (footerByte ∷ more) h
+    ap (run (binary (lastByte footerByte))) (append-assoc (binaryFront p) binaryEnding more)
+    ∙ binary-front-reads (lastByte footerByte) p (footerByte ∷ more) h
     ∙ ap (behind (length (binaryFront p))) (run-byte footerByte 5 (whole p) more)
     ∙ ap (λ (k : ℕ). frame k p) (sym (length-append (binaryFront p) binaryEnding))
 
@@ -216,11 +220,11 @@ optional-is-layout s p used b e =
     (h .rest, h .split, omega (arith, h .count, w .0), payload)
 
 -- Where it is required, it is the layout.
-pub required-is-layout : (s p : List ℕ) (used : ℕ) → Bytes s → run (binary footer) s ≡ frame used p
+pub required-is-layout : (s p : List ℕ) (used : ℕ) → Bytes s → run (binary (lastByte footerByte)) s ≡ frame used p
     → (take used s ≡ layout BinaryFraming p) × (used ≡ length (layout BinaryFraming p)) × Payload p
-unfolding footer
+unfolding lastByte
 required-is-layout s p used b e =
-    let (h, payload) = binary-is-layout footer (ending-keeps Required) s p used b e in
+    let (h, payload) = binary-is-layout (lastByte footerByte) (ending-keeps Required) s p used b e in
     let l = used-last footerByte 5 p (binaryFront p) s used h in
     (l .0, l .1, payload)
 
@@ -230,13 +234,13 @@ binaryJudged Optional n = n + 5
 binaryJudged Required n = n + 6
 
 pub binary-used : (footer : Footer) (s p : List ℕ) (used : ℕ) → run (binary (behindChecksum footer)) s ≡ frame used p → used ≡ binaryJudged footer (length p)
-unfolding footer
+unfolding lastByte
 binary-used Optional s p used e =
     let h = took-binary whole (ending-keeps Optional) s p used e in
     let w = took-whole p (h .ends .rest) p (h .ends .left) (h .ends .goes) in
     h .ends .count ∙ simp length-append (omega (arith, w .0))
 binary-used Required s p used e =
-    let h = took-binary footer (ending-keeps Required) s p used e in
+    let h = took-binary (lastByte footerByte) (ending-keeps Required) s p used e in
     let l = used-last footerByte 5 p _ s used (h .ends) in
     l .1 ∙ simp length-append (omega arith)
 

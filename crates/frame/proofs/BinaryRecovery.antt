@@ -12,12 +12,14 @@ use borrow.Author.Tests.{le-leb, lt-leb, le-ltb, lt-ltb}
 use lib.Dec.{leb, ltb}
 use lib.ListN.{length, getD, drop, length-append, length-drop}
 use lib.Seq.{drop-append-le, drop-append-add, getD-append-add, getD-drop}
-use Rattle.frame.specs.Checks.{Verdict, cut, refused, frame}
+use Rattle.frame.specs.Checks.{Verdict, cut, refused, frame, payloadIn}
 use Rattle.frame.specs.Framing.{read}
-use Rattle.frame.specs.Rule.{Output, join, passAfter, Found, foundAt, outAt, rule}
+use Rattle.frame.specs.Rule.{Output, join, Found, foundAt, outAt, rule}
 use Rattle.frame.specs.Elements.{select, All}
-use Rattle.frame.specs.Recovery.{Stretch, none, another, payloadIn, foundsFrom, starts, PairsBegin, reaches}
-use Rattle.frame.specs.Recovery.{inNone, clearOf, earlyOf, Recovered, BinaryRecovers, LateFramesComeBack}
+use Rattle.frame.specs.Recovery.{Stretch, none, another, foundsFrom, starts, PairsBegin, reaches}
+use Rattle.frame.specs.Recovery.{inNone, clearOf, earlyOf, Recovered}
+use Rattle.frame.specs.Further.{BinaryRecovers, LateFramesComeBack}
+use Rattle.frame.specs.Drain.{passAfter}
 use Rattle.frame.specs.declared.framing.Footer.{Footer}
 use Rattle.frame.specs.declared.framing.Format.{Format}
 use Rattle.frame.specs.declared.framing.Format.the-variants.{Binary}

@@ -9,15 +9,18 @@ use mathlib.Core.Path.{_≡_, refl, sym, ap, ap₂, _∙_, subst}
 use borrow.Author.Tests.{eqb-true, eqb-false, ne-eqb}
 use lib.Dec.{eqb}
 use lib.ListN.{length, take, replicate, length-append, length-drop}
-use Rattle.frame.specs.Checks.{Checks, byte, test, word, bytes, Verdict, cut, refused, frame, run}
-use Rattle.frame.specs.Binary.{body, binary, footer as footerChecks}
+use Rattle.frame.specs.Checks.{Checks, byte, test, word, bytes, Verdict, cut, refused, frame, run, lastByte}
+use Rattle.frame.specs.Binary.{body, binary}
 use Rattle.frame.specs.Hex.{sumOf}
 use Rattle.frame.specs.Ascii.{ascii, colon, hexDigits, lineEnding}
 use Rattle.frame.specs.Framing.{judge, judgedAs, judgedAt, read, behindOptional}
-use Rattle.frame.specs.Rule.{passAfter, places, ruleJudged}
+use Rattle.frame.specs.Rule.{places, ruleJudged}
 use Rattle.frame.specs.DigitRuns.{allPass}
 use Rattle.frame.specs.Scan.{other}
-use Rattle.frame.specs.Counts.{mostJudged, RuleBound, CallsBound, StateBound, ColonsCount, nestedStarts, NestedStartsCount}
+use Rattle.frame.specs.Counts.{mostJudged, CallsBound}
+use Rattle.frame.specs.Further.{StateBound, RuleBound}
+use Rattle.frame.specs.CountExamples.{ColonsCount, nestedStarts, NestedStartsCount}
+use Rattle.frame.specs.Drain.{passAfter}
 use Rattle.frame.specs.declared.framing.Footer.{Footer}
 use Rattle.frame.specs.declared.framing.Footer.the-variants.{Optional, Required}
 use Rattle.frame.specs.declared.framing.Ending.{Ending}
@@ -144,12 +147,12 @@ module _ (ending : Ending) where
 
 -- Of 66 starts the first fails at its checksum, of 65 none does.
 late-fails : (footer : Footer) → judge (Binary footer) (nestedStarts 66) ≡ refused 261 4
-unfolding binary byte word test bytes body footerChecks
+unfolding binary byte word test bytes body lastByte
 late-fails Optional = refl
 late-fails Required = refl
 
 last-starts : (footer : Footer) → ruleJudged (Binary footer) (nestedStarts 65) ≡ 8775
-unfolding places binary byte word test bytes body footerChecks
+unfolding places binary byte word test bytes body lastByte
 last-starts Optional = refl
 last-starts Required = refl
 

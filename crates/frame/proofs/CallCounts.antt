@@ -13,13 +13,15 @@ use Rattle.frame.specs.Binary.{binary}
 use Rattle.frame.specs.Ascii.{ascii}
 use Rattle.frame.specs.Framing.{judge, judgedAt, absorbed}
 use Rattle.frame.specs.Rule.{Output, nothing, join, places, ruleJudged}
-use Rattle.frame.specs.Reader.{State, holding, Settled, settle, Called, lineOn, lineBehind, line, ended, quietHeld, quiet}
+use Rattle.frame.specs.Reader.{State, holding, Called, settle, lineOn, lineBehind, line, ended, quietHeld, quiet}
 use Rattle.frame.specs.Reader.{judgedTo, leftOut, countFrom, lineJudged, quietJudged, judgedHeld, after, stateOf, Holds, Values, feedValuesOf}
 use Rattle.frame.specs.Reader.{Feeds, refusalValues}
 use Rattle.frame.specs.Drain.{Drained, drained, before, drain, afterDrain, judgedAfter, drainJudged}
-use Rattle.frame.specs.Calls.{Answered, Phase, offering, ending, over}
+use Rattle.frame.specs.Calls.{Answered, Phase, offering, quieting, over}
 use Rattle.frame.specs.Calls.{Calls, fed, taken, quieted, emptied, feedRefused, quietRefused, done}
-use Rattle.frame.specs.Counts.{LineCounts, QuietCounts, DrainCounts, DrainSums, AbsorbedNotJudged, judgedBy, CallsCount, CallsCountFrom}
+use Rattle.frame.specs.Counts.{judgedBy, CallsCount}
+use Rattle.frame.specs.Further.{LineCounts, QuietCounts, AbsorbedNotJudged, CallsCountFrom}
+use Rattle.frame.specs.Draining.{DrainCounts, DrainSums}
 use Rattle.frame.specs.declared.framing.Format.{Format}
 use Rattle.frame.specs.declared.framing.Format.the-variants.{Binary, Ascii}
 use Rattle.frame.specs.declared.reader.Reader.{Reader}
@@ -50,15 +52,15 @@ module _ (f : Format) where
   on-counts h chunk more =
       let w : List ℕ = h ++ chunk in
       let c : Called = lineOn f h chunk in
-      let st : Settled = settle f (judge f) w in
+      let st : Called = settle f (judge f) w in
       let k = rw (take-append-seam h chunk, drop-append-seam h chunk) at (whole f w (length h) (rw length-append (omega arith))) in
-      let rest : c .held ++ drop (c .taken) chunk ≡ st .rest = k .1 in
+      let rest : c .held ++ drop (c .taken) chunk ≡ st .held = k .1 in
       let none : c .out .frames ≡ [] → drop (c .taken) chunk ≡ [] =
       λ e. ap (λ (n : ℕ). drop n chunk) (on-all f h chunk e) ∙ drop-length chunk in
-      let judged : judgedHeld (c .out .frames) (c .held) ≡ judgedHeld (st .out .frames) (st .rest) =
-      same-judged (c .out .frames) (c .held) (st .rest) (drop (c .taken) chunk) rest none
-      ∙ ap (λ (o : Output (List ℕ)). judgedHeld (o .frames) (st .rest)) (k .0) in
-      let bytes : c .held ++ drop (c .taken) (chunk ++ more) ≡ st .rest ++ more =
+      let judged : judgedHeld (c .out .frames) (c .held) ≡ judgedHeld (st .out .frames) (st .held) =
+      same-judged (c .out .frames) (c .held) (st .held) (drop (c .taken) chunk) rest none
+      ∙ ap (λ (o : Output (List ℕ)). judgedHeld (o .frames) (st .held)) (k .0) in
+      let bytes : c .held ++ drop (c .taken) (chunk ++ more) ≡ st .held ++ more =
       ap (λ (t : List ℕ). c .held ++ t) (drop-append-le (c .taken) chunk more (on-taken f h chunk))
       ∙ sym (append-assoc (c .held) (drop (c .taken) chunk) more)
       ∙ ap (λ (t : List ℕ). t ++ more) rest in
@@ -266,7 +268,7 @@ nothing-left f follows = none-left f follows [] [] (ruleJudged f) ∙ ap (λ (n 
 -- What is left to be judged by a list of calls from the reader r with todo still to be taken.
 abbrev left : Phase → Reader → List ℕ → ℕ
 left offering r todo = judgedAfter (stateOf r) todo
-left ending r todo = judgedAfter (stateOf r) todo
+left quieting r todo = judgedAfter (stateOf r) todo
 left over r todo = 0
 
 -- A state says of no more bytes than it holds that they were judged.

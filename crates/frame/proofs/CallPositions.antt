@@ -3,25 +3,26 @@
 use Prim.Native.Nat.{ℕ, _+_, _-_, _≤_, max, zero-le}
 use native.Mathlib.Nat.{zero-add, le-refl}
 use native.Mathlib.Omega.{arith}
-use mathlib.Core.Bool.{Bool, false, true≢false}
-use mathlib.Core.List.{List, [], _∷_, _++_, map, cons≢nil}
+use mathlib.Core.Bool.{Bool, true, false, cond, true≢false}
+use mathlib.Core.List.{List, [], _∷_, _++_, map, flatten, cons≢nil}
 use mathlib.Core.Path.{_≡_, refl, sym, ap, ap₂, _∙_, subst}
-use lib.ListN.{length, drop, length-append, length-drop}
-use Rattle.frame.specs.Checks.{Verdict, cut, refused, frame, byte, test, word, bytes}
-use Rattle.frame.specs.Binary.{binary, body, footer}
+use lib.ListN.{length, take, drop, length-append, length-drop}
+use Rattle.frame.specs.Checks.{Verdict, cut, refused, frame, byte, test, word, bytes, lastByte}
+use Rattle.frame.specs.Binary.{binary, body}
 use Rattle.frame.specs.Digit.{isDigit, digitValue}
-use Rattle.frame.specs.Ascii.{ascii, hexDigits, lineEnding, lineEnd, afterDigits}
+use Rattle.frame.specs.Ascii.{ascii, hexDigits, lineEnding, afterDigits}
 use Rattle.frame.specs.Framing.{judge, judgedAt, read, absorbed, behindOptional}
 use Rattle.frame.specs.Rule.{Output, Found, join, onBy, places, outAt, outFrom, rule}
-use Rattle.frame.specs.Reader.{Settled, settleAs, settle, stopped, oneMore, ifFrame, lineFrom, lineOn, lineBehind, ended}
+use Rattle.frame.specs.Reader.{Called, settleAs, settle, stopped, oneMore, ifFrame, lineFrom, lineOn, lineBehind, ended}
 use Rattle.frame.specs.Reader.{State, Called, line, quietHeld, quiet, lineJudged, quietJudged, after, stateOf, Values, feedValuesOf, quietValuesOf}
 use Rattle.frame.specs.Reader.{calledValues, refusalValues, Feeds, Quiets}
 use Rattle.frame.specs.Elements.{All}
-use Rattle.frame.specs.Calls.{Answered, WithFrame, WithoutFrame, outOf, Phase, offering, ending, over}
-use Rattle.frame.specs.Calls.{Calls, fed, taken, quieted, emptied, feedRefused, quietRefused, done}
-use Rattle.frame.specs.Positions.{Position, position, positionAt, positionsFrom, positionOf, positionsBy, takenAtQuiets, QuietsAtEnd, CallsGivePositions}
-use Rattle.frame.specs.Positions.{CutsAgree, GivesPlaces, CallsGivePlaces, firstAfter, placesAfter, positionsAfter, CallsGiveAfter, NoneIsZero}
-use Rattle.frame.specs.Positions.{PositionExamples, PositionsAfterExamples}
+use Rattle.frame.specs.Calls.{Answered, Gave, outOf, Phase, offering, quieting, over}
+use Rattle.frame.specs.Calls.{Calls, fed, taken, quieted, emptied, feedRefused, quietRefused, done, Reply, reply, repliesOf}
+use Rattle.frame.specs.Positions.{Position, position, positionAt, positionsFrom, positionOf, reached, positionsBy, QuietsAtEnd, CallsGivePositions}
+use Rattle.frame.specs.Positions.{GivesPlaces, CallsGivePlaces}
+use Rattle.frame.specs.Further.{CutsAgree, firstAfter, placesAfter, positionsAfter, CallsGiveAfter, NoneIsZero}
+use Rattle.frame.specs.PositionExamples.{PositionExamples, PositionsAfterExamples}
 use Rattle.frame.specs.declared.framing.Format.{Format}
 use Rattle.frame.specs.declared.reader.Reader.{Reader}
 use Rattle.frame.specs.declared.reader.Fed.{Fed}
@@ -46,9 +47,13 @@ said-alike c j from (p ∷ ps) = refl
 -- An answer says of its frame what the call gives.
 said-is :
     (c : Called) (j from from′ : ℕ) (v : Values) (buf : List ℕ) → v ≡ calledValues c j (c .out .frames) → outOf v buf ≡ c .out → from ≡ from′ →
-    positionOf v buf from ≡ map (λ p. position p from′ (c .began)) (c .out .frames)
+    positionOf (reply true v buf) from ≡ map (λ p. position p from′ (c .began)) (c .out .frames)
 said-is c j from from′ v buf e o same =
     (λ i. map (λ p. position p (same i) (e i .began)) (o i .frames)) ∙ said-alike c j from′ (c .out .frames)
+
+-- Without a frame it says nothing.
+none-said : (v : Values) (buf : List ℕ) (at : ℕ) → v .isFrame ≡ false → positionOf (reply true v buf) at ≡ []
+none-said v buf at e = ap (λ (q : Bool). map (λ p. position p at (v .began)) (cond q (take (v .len) buf ∷ []) [])) e
 
 -- What the rule gives from a state on, where `at` bytes were taken, the held ones the last of them.
 abbrev ahead : State → ℕ → List ℕ → List Position
@@ -57,7 +62,7 @@ ahead s at todo = positionsBehind (s .format) (s .follows) at (at - length (s .h
 -- What is left to be said by a list of calls from the reader r with todo still to be taken.
 abbrev left : Phase → Reader → ℕ → List ℕ → List Position
 left offering r at todo = ahead (stateOf r) at todo
-left ending r at todo = ahead (stateOf r) at todo
+left quieting r at todo = ahead (stateOf r) at todo
 left over r at todo = []
 
 -- A call says the first part, where `at` bytes were taken before it.
@@ -105,7 +110,7 @@ fed-says :
     {r : Reader} {todo : List ℕ} (chunk more buf buf′ : List ℕ) (a : Fed) (at : ℕ) (later : List Position) → Feeds r chunk buf a buf′ →
     Answered (feedValuesOf (a .answer)) → todo ≡ chunk ++ more → length (stateOf r .held) ≤ at →
     let v : Values = feedValuesOf (a .answer) in
-    later ≡ ahead (stateOf (a .reader)) (at + v .taken) (drop (v .taken) todo) → positionOf v buf′ (at + v .taken) ++ later ≡ ahead (stateOf r) at todo
+    later ≡ ahead (stateOf (a .reader)) (at + v .taken) (drop (v .taken) todo) → positionOf (reply false v buf′) (at + v .taken) ++ later ≡ ahead (stateOf r) at todo
 fed-says {r} {todo} chunk more buf buf′ a at later p z e l k =
     let s : State = stateOf r in
     let c : Called = line s chunk in
@@ -143,10 +148,10 @@ none-taken at e = omega (arith, ap (λ (v : Values). v .taken) e)
 
 -- A quiet call with a frame.
 quieted-says :
-    {r : Reader} (buf buf′ : List ℕ) (a : Quieted) (at : ℕ) (later : List Position) → Quiets r buf a buf′ → WithFrame (quietValuesOf (a .answer)) →
+    {r : Reader} (buf buf′ : List ℕ) (a : Quieted) (at : ℕ) (later : List Position) → Quiets r buf a buf′ → Gave true (quietValuesOf (a .answer)) →
     length (stateOf r .held) ≤ at →
     let v : Values = quietValuesOf (a .answer) in
-    later ≡ ahead (stateOf (a .reader)) (at + v .taken) [] → positionOf v buf′ (at + v .taken) ++ later ≡ ahead (stateOf r) at []
+    later ≡ ahead (stateOf (a .reader)) (at + v .taken) [] → positionOf (reply true v buf′) (at + v .taken) ++ later ≡ ahead (stateOf r) at []
 quieted-says {r} buf buf′ a at later p n l e =
     let s : State = stateOf r in
     let c : Called = quiet s in
@@ -158,7 +163,7 @@ quieted-says {r} buf buf′ a at later p n l e =
     ∙ sym (quiet-said s at l .1)
 
 quieted-few :
-    {r : Reader} {at : ℕ} (buf buf′ : List ℕ) (a : Quieted) → Quiets r buf a buf′ → WithFrame (quietValuesOf (a .answer)) →
+    {r : Reader} {at : ℕ} (buf buf′ : List ℕ) (a : Quieted) → Quiets r buf a buf′ → Gave true (quietValuesOf (a .answer)) →
     length (stateOf r .held) ≤ at → length (stateOf (a .reader) .held) ≤ at + quietValuesOf (a .answer) .taken
 quieted-few {r} {at} buf buf′ a p n l =
     let held = ap (λ (x : State). length (x .held)) (frame-holds {r = r} buf buf′ a p n .state) in
@@ -166,7 +171,7 @@ quieted-few {r} {at} buf buf′ a p n l =
 
 -- Where a quiet call is empty, nothing is left.
 emptied-says :
-    {r : Reader} (buf buf′ : List ℕ) (a : Quieted) (at : ℕ) → Quiets r buf a buf′ → WithoutFrame (quietValuesOf (a .answer)) →
+    {r : Reader} (buf buf′ : List ℕ) (a : Quieted) (at : ℕ) → Quiets r buf a buf′ → Gave false (quietValuesOf (a .answer)) →
     length (stateOf r .held) ≤ at → [] ≡ ahead (stateOf r) at []
 unfolding places positionsFrom
 emptied-says {r} buf buf′ a at p n l =
@@ -182,18 +187,23 @@ emptied-says {r} buf buf′ a at p n l =
     (quiet-left s none)
     ∙ ap (λ (k : ℕ). positionsIn f at (at - 0 + k) (drop k [])) (absorbed-nil f (c .follows)))
 
--- A refused call changes nothing.
+-- A refused call says nothing, and changes nothing.
 refused-says :
-    {r x : Reader} {n : ℕ} {said : ℕ → List Position} (v : Values) (at : ℕ) (phase : Phase) (todo : List ℕ) → v ≡ refusalValues n → x ≡ r →
-    ((k : ℕ) → length (stateOf x .held) ≤ k → said k ≡ left phase x k todo) → length (stateOf r .held) ≤ at → said (at + v .taken) ≡ left phase r at todo
-refused-says {r} {x} {said = said} v at phase todo e same later l =
+    {r x : Reader} {n : ℕ} {said : ℕ → List Position} (v : Values) (buf : List ℕ) (at : ℕ) (phase : Phase) (todo : List ℕ) → v ≡ refusalValues n → x ≡ r →
+    ((k : ℕ) → length (stateOf x .held) ≤ k → said k ≡ left phase x k todo) → length (stateOf r .held) ≤ at →
+    positionOf (reply true v buf) (at + v .taken) ++ said (at + v .taken) ≡ left phase r at todo
+refused-says {r} {x} {said = said} v buf at phase todo e same later l =
     let few : length (stateOf x .held) ≤ at = subst (λ (y : Reader). length (stateOf y .held) ≤ at) (sym same) l in
-    ap said (none-taken at e) ∙ later at few ∙ ap (λ (y : Reader). left phase y at todo) same
+    ap (λ (ps : List Position). ps ++ said (at + v .taken)) (none-said v buf (at + v .taken) (ap (λ (x : Values). x .isFrame) e))
+    ∙ ap said (none-taken at e)
+    ∙ later at few
+    ∙ ap (λ (y : Reader). left phase y at todo) same
 
 -- Whatever the calls, they say what the rule gives from the state on.
 calls-say :
     {phase : Phase} {r : Reader} {todo : List ℕ} {out : Output (List ℕ)} (calls : Calls phase r todo out) (at : ℕ) → length (stateOf r .held) ≤ at →
     positionsBy at calls ≡ left phase r at todo
+unfolding flatten
 calls-say (fed {r} chunk more buf buf′ a p n e later) at l =
     fed-says {r = r} chunk more buf buf′ a at _ p n e l (calls-say later _ (fed-few {r = r} chunk more buf buf′ a p n l))
 calls-say (taken later) at l = calls-say later at l
@@ -202,13 +212,16 @@ calls-say (quieted {r} buf buf′ a p n later) at l =
 calls-say (emptied {r} buf buf′ a p n later) at l =
     let few : length (stateOf (a .reader) .held) ≤ at + quietValuesOf (a .answer) .taken =
     subst (λ (x : Reader). length (stateOf x .held) ≤ at + quietValuesOf (a .answer) .taken) (sym (emptied-fresh {r = r} buf buf′ a p n)) zero-le in
-    calls-say later _ few ∙ emptied-says {r = r} buf buf′ a at p n l
+    let v : Values = quietValuesOf (a .answer) in
+    ap (λ (ps : List Position). ps ++ positionsBy (at + v .taken) later) (none-said v buf′ (at + v .taken) (n .frame))
+    ∙ calls-say later _ few
+    ∙ emptied-says {r = r} buf buf′ a at p n l
 calls-say (feedRefused {phase} {r} {todo} chunk buf buf′ a p n later) at l =
     let h = refusing (line (stateOf r) chunk) (lineJudged (stateOf r) chunk) p n in
-    refused-says {r = r} {x = a .reader} (feedValuesOf (a .answer)) at phase todo (h .0) (h .1) (λ k m. calls-say later k m) l
+    refused-says {r = r} {x = a .reader} (feedValuesOf (a .answer)) buf′ at phase todo (h .0) (h .1) (λ k m. calls-say later k m) l
 calls-say (quietRefused {phase} {r} {todo} buf buf′ a p n later) at l =
     let h = refusing (quiet (stateOf r)) (quietJudged (stateOf r)) p n in
-    refused-says {r = r} {x = a .reader} (quietValuesOf (a .answer)) at phase todo (h .0) (h .1) (λ k m. calls-say later k m) l
+    refused-says {r = r} {x = a .reader} (quietValuesOf (a .answer)) buf′ at phase todo (h .0) (h .1) (λ k m. calls-say later k m) l
 calls-say done at l = refl
 
 -- From a new reader, over a whole segment.
@@ -268,27 +281,36 @@ calls-give-after r todo out calls =
           (place-from f count n (placesAfter s todo));
     }
 
--- Whatever the calls, all that was to be taken is taken at the quiet calls.
+-- Whatever the calls, all that was to be taken is taken at the quiet calls that are answered.
+abbrev AtEnd : ℕ → Reply × ℕ → Type 0
+AtEnd size x = x .0 .isQuiet ≡ true → Answered (x .0 .values) → x .1 ≡ size
+
 at-end :
     {phase : Phase} {r : Reader} {todo : List ℕ} {out : Output (List ℕ)} (calls : Calls phase r todo out) (at size : ℕ) → at + length todo ≡ size →
-    All (λ n. n ≡ size) (takenAtQuiets at calls)
+    All (AtEnd size) (reached at (repliesOf calls))
 at-end (fed {r} {todo} chunk more buf buf′ a p n e later) at size all =
     let s : State = stateOf r in
     let v : Values = feedValuesOf (a .answer) in
-    let there : length todo ≡ length chunk + length more = ap length e ∙ length-append chunk more in
-    at-end later (at + v .taken) size
-    (omega (arith, all, length-drop (v .taken) todo, takes (line s chunk) (lineJudged s chunk) p n, line-taken s chunk, there))
+    let there : length todo ≡ length chunk + length more = ap length e ∙ length-append chunk more in (
+      λ q z. absurd (true≢false (sym q)),
+      at-end later (at + v .taken) size
+          (omega (arith, all, length-drop (v .taken) todo, takes (line s chunk) (lineJudged s chunk) p n, line-taken s chunk, there)),
+    )
 at-end (taken later) at size all = at-end later at size all
 at-end (quieted {r} buf buf′ a p n later) at size all =
     let same : at + quietValuesOf (a .answer) .taken ≡ size = quiet-takes {r = r} buf buf′ a at p (n .answered) ∙ omega (arith, all) in
-    (same, at-end later _ size (omega (arith, same)))
+    (λ q z. same, at-end later _ size (omega (arith, same)))
 at-end (emptied {r} buf buf′ a p n later) at size all =
     let same : at + quietValuesOf (a .answer) .taken ≡ size = quiet-takes {r = r} buf buf′ a at p (n .answered) ∙ omega (arith, all) in
-    (same, at-end later _ size (omega (arith, same)))
-at-end (feedRefused {r = r} chunk buf buf′ a p n later) at size all =
-    at-end later _ size (omega (arith, all, none-taken at (refusing (line (stateOf r) chunk) (lineJudged (stateOf r) chunk) p n .0)))
-at-end (quietRefused {r = r} buf buf′ a p n later) at size all =
-    at-end later _ size (omega (arith, all, none-taken at (refusing (quiet (stateOf r)) (quietJudged (stateOf r)) p n .0)))
+    (λ q z. same, at-end later _ size (omega (arith, same)))
+at-end (feedRefused {r = r} chunk buf buf′ a p n later) at size all = (
+  λ q z. absurd (true≢false (sym q)),
+  at-end later _ size (omega (arith, all, none-taken at (refusing (line (stateOf r) chunk) (lineJudged (stateOf r) chunk) p n .0))),
+)
+at-end (quietRefused {r = r} buf buf′ a p n later) at size all = (
+  λ q z. absurd (true≢false (sym z ∙ n)),
+  at-end later _ size (omega (arith, all, none-taken at (refusing (quiet (stateOf r)) (quietJudged (stateOf r)) p n .0))),
+)
 at-end done at size all = tt
 
 pub quiets-at-end : QuietsAtEnd
@@ -296,7 +318,7 @@ quiets-at-end r segment out calls = at-end calls 0 (length segment) (zero-add (l
 
 -- Settled bytes that gave no frame.
 none-at :
-    (f : Format) (h : List ℕ) (later : Settled) (v : Verdict) → (later .out .frames ≡ [] → later .began ≡ 0) →
+    (f : Format) (h : List ℕ) (later : Called) (v : Verdict) → (later .out .frames ≡ [] → later .began ≡ 0) →
     settleAs f v h later .out .frames ≡ [] → settleAs f v h later .began ≡ 0
 unfolding join
 none-at f h later cut k e = refl
@@ -310,20 +332,20 @@ none-settled f judgement (b ∷ h) e = none-at f (b ∷ h) (settle f judgement h
 
 -- A call that gave none.
 none-step :
-    (st : Settled) (c : Called) (fs : List (List ℕ)) → st .out .frames ≡ fs → (c .out .frames ≡ [] → c .began ≡ 0) →
+    (st : Called) (c : Called) (fs : List (List ℕ)) → st .out .frames ≡ fs → (c .out .frames ≡ [] → c .began ≡ 0) →
     ifFrame fs (stopped st) (oneMore (st .out) c) .out .frames ≡ [] → ifFrame fs (stopped st) (oneMore (st .out) c) .began ≡ 0
 unfolding join
 none-step st c [] e k n = k (ap (λ (fs : List (List ℕ)). fs ++ c .out .frames) (sym e) ∙ n)
 none-step st c (p ∷ ps) e k n = absurd (cons≢nil (sym e ∙ n))
 
 none-from :
-    (f : Format) (st : Settled) (chunk : List ℕ) → (st .out .frames ≡ [] → st .began ≡ 0) → lineFrom f st chunk .out .frames ≡ [] →
+    (f : Format) (st : Called) (chunk : List ℕ) → (st .out .frames ≡ [] → st .began ≡ 0) → lineFrom f st chunk .out .frames ≡ [] →
     lineFrom f st chunk .began ≡ 0
 unfolding lineFrom
 none-from f st [] k n = k n
 none-from f st (b ∷ chunk) k n =
-    let st′ : Settled = settle f (judge f) (st .rest ++ (b ∷ [])) in
-    none-step st (lineFrom f st′ chunk) (st .out .frames) refl (none-from f st′ chunk (none-settled f (judge f) (st .rest ++ (b ∷ [])))) n
+    let st′ : Called = settle f (judge f) (st .held ++ (b ∷ [])) in
+    none-step st (lineFrom f st′ chunk) (st .out .frames) refl (none-from f st′ chunk (none-settled f (judge f) (st .held ++ (b ∷ [])))) n
 
 none-on : (f : Format) (h chunk : List ℕ) → lineOn f h chunk .out .frames ≡ [] → lineOn f h chunk .began ≡ 0
 unfolding lineOn
@@ -359,7 +381,7 @@ none-is-zero =
     at-quiet (QuietRefused r) e = refl
 
 pub position-examples : PositionExamples
-unfolding places positionsFrom binary body footer ascii hexDigits isDigit digitValue lineEnding lineEnd afterDigits byte test word bytes
+unfolding places positionsFrom binary body lastByte ascii hexDigits isDigit digitValue lineEnding afterDigits byte test word bytes
 position-examples =
     record {
       clean = refl;
@@ -375,5 +397,5 @@ position-examples =
     }
 
 pub positions-after-examples : PositionsAfterExamples
-unfolding places positionsFrom binary body footer ascii hexDigits isDigit digitValue lineEnding lineEnd afterDigits byte test word bytes
+unfolding places positionsFrom binary body lastByte ascii hexDigits isDigit digitValue lineEnding afterDigits byte test word bytes
 positions-after-examples = record { twoHeld = refl; optionalHeld = refl }

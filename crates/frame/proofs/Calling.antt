@@ -3,17 +3,17 @@
 use Prim.Native.Nat.{ℕ}
 use mathlib.Core.Path.{_≡_, refl, sym, ap, ap₂, _∙_, subst}
 use mathlib.Core.List.{List, [], _∷_, _++_}
-use mathlib.Core.Bool.{true, false≢true}
+use mathlib.Core.Bool.{true, false, false≢true}
 use lib.ListN.{drop}
 use Rattle.frame.specs.Rule.{Output, nothing, join}
 use Rattle.frame.specs.Reader.{State, holding, Called, line, quiet, after, stateOf, Holds, Values, feedValuesOf, quietValuesOf, calledValues}
 use Rattle.frame.specs.Reader.{lineJudged, quietJudged, judgedHeld, Feeds, AfterQuiet, Quiets, newReader}
 use Rattle.frame.specs.Drain.{ruleAfter}
-use Rattle.frame.specs.Calls.{Answered, WithFrame, WithoutFrame, outOf, Phase, offering, ending, over}
+use Rattle.frame.specs.Calls.{Answered, Gave, outOf, Phase, offering, quieting, over}
 use Rattle.frame.specs.Calls.{Calls, fed, taken, quieted, emptied, feedRefused, quietRefused, done}
 use Rattle.frame.specs.Claims.{CallsFollowRule}
 use Rattle.frame.specs.Draining.{FeedReports, QuietReports}
-use Rattle.frame.specs.Driving.{lastState, EndsFresh}
+use Rattle.frame.specs.Further.{lastState, EndsFresh}
 use Rattle.frame.specs.declared.framing.Format.{Format}
 use Rattle.frame.specs.declared.reader.Reader.{Reader}
 use Rattle.frame.specs.declared.reader.Fed.{Fed}
@@ -33,7 +33,7 @@ quiet-reports r buf a buf′ p = says (quiet (stateOf r)) (quietJudged (stateOf 
 -- What is left to hand out by a list of calls from the reader r with todo still to be taken.
 abbrev Leaves : Phase → Reader → List ℕ → Output (List ℕ) → Type 0
 Leaves offering r todo out = out ≡ ruleAfter (stateOf r) todo
-Leaves ending r todo out = out ≡ ruleAfter (stateOf r) todo
+Leaves quieting r todo out = out ≡ ruleAfter (stateOf r) todo
 Leaves over r todo out = out ≡ nothing
 
 -- An answered line call hands out the first part of what is left.
@@ -61,11 +61,11 @@ module _ {r : Reader} (buf buf′ : List ℕ) (a : Quieted) (p : Quiets r buf a 
   -- What came out of a quiet call is the first part of what is left.
   quiet-out :
       {out : Output (List ℕ)} → Answered (quietValuesOf (a .answer)) → out ≡ ruleAfter (after (stateOf r) (quiet (stateOf r))) [] →
-      Leaves ending r [] (join (outOf (quietValuesOf (a .answer)) buf′) out)
+      Leaves quieting r [] (join (outOf (quietValuesOf (a .answer)) buf′) out)
   quiet-out z later = ap₂ join (hands-out (quiet (stateOf r)) (quietJudged (stateOf r)) p (quiet-one (stateOf r)) z) later ∙ sym (quiet-rule (stateOf r))
 
   -- The state that a quiet call with a frame gives back.
-  pub frame-holds : WithFrame (quietValuesOf (a .answer)) → Holds (after (stateOf r) (quiet (stateOf r))) (a .reader)
+  pub frame-holds : Gave true (quietValuesOf (a .answer)) → Holds (after (stateOf r) (quiet (stateOf r))) (a .reader)
   frame-holds n =
       let c : Called = quiet (stateOf r) in
       let h = answered c (quietJudged (stateOf r)) p (n .answered) in
@@ -73,18 +73,18 @@ module _ {r : Reader} (buf buf′ : List ℕ) (a : Quieted) (p : Quiets r buf a 
 
   -- A quiet call with a frame hands out the first part of what is left.
   quieted-gives :
-      {out : Output (List ℕ)} → WithFrame (quietValuesOf (a .answer)) → Leaves ending (a .reader) [] out →
-      Leaves ending r [] (join (outOf (quietValuesOf (a .answer)) buf′) out)
+      {out : Output (List ℕ)} → Gave true (quietValuesOf (a .answer)) → Leaves quieting (a .reader) [] out →
+      Leaves quieting r [] (join (outOf (quietValuesOf (a .answer)) buf′) out)
   quieted-gives n g = quiet-out (n .answered) (g ∙ ap (λ (s : State). ruleAfter s []) (frame-holds n .state))
 
   -- A quiet call that answers "empty" hands out no payload.
-  pub empty-none : WithoutFrame (quietValuesOf (a .answer)) → quiet (stateOf r) .out .frames ≡ []
-  empty-none n = none-out (quiet (stateOf r)) (quietJudged (stateOf r)) p (n .answered) (n .none)
+  pub empty-none : Gave false (quietValuesOf (a .answer)) → quiet (stateOf r) .out .frames ≡ []
+  empty-none n = none-out (quiet (stateOf r)) (quietJudged (stateOf r)) p (n .answered) (n .frame)
 
   -- It hands out the rest, which is noise.
   emptied-gives :
-      {out : Output (List ℕ)} → WithoutFrame (quietValuesOf (a .answer)) → Leaves over (a .reader) [] out →
-      Leaves ending r [] (join (outOf (quietValuesOf (a .answer)) buf′) out)
+      {out : Output (List ℕ)} → Gave false (quietValuesOf (a .answer)) → Leaves over (a .reader) [] out →
+      Leaves quieting r [] (join (outOf (quietValuesOf (a .answer)) buf′) out)
   emptied-gives n g =
       let f : Format = r .format in
       let c : Called = quiet (stateOf r) in
@@ -94,7 +94,7 @@ module _ {r : Reader} (buf buf′ : List ℕ) (a : Quieted) (p : Quiets r buf a 
       ∙ ap (λ (h : List ℕ). ruleAfter (holding f h (c .follows) 0) []) (sym (quiet-left (stateOf r) (empty-none n))))
 
   -- Behind "empty" stands a new reader.
-  pub emptied-fresh : WithoutFrame (quietValuesOf (a .answer)) → a .reader ≡ newReader (r .format)
+  pub emptied-fresh : Gave false (quietValuesOf (a .answer)) → a .reader ≡ newReader (r .format)
   emptied-fresh n =
       subst
       (λ (fs : List (List ℕ)). AfterQuiet (r .format) (quiet (stateOf r)) fs (a .reader))
@@ -120,7 +120,7 @@ calls-follow-rule f segment out k = calls-give k
 -- The state in which a list of calls from r ends: a new reader's; behind "empty" the same.
 abbrev endOf : Phase → Reader → Reader
 endOf offering r = newReader (r .format)
-endOf ending r = newReader (r .format)
+endOf quieting r = newReader (r .format)
 endOf over r = r
 
 -- Readers with the same state have the same format.

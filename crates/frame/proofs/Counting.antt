@@ -15,10 +15,10 @@ use lib.Seq.{drop-drop, length-take-le}
 use Rattle.frame.specs.Checks.{Verdict, cut, refused, frame}
 use Rattle.frame.specs.Framing.{checks, judge, judgedAs, judgedAt, limit}
 use Rattle.frame.specs.Reader.{ifFails, judgedTo}
-use Rattle.frame.specs.Claims.{Decided}
 use Rattle.frame.specs.DigitRuns.{allPass}
 use Rattle.frame.specs.Judged.{startOf, passedBy}
 use Rattle.frame.specs.Scan.{judging, judgedBytes, Stop, passed, Scanned, scanAs, scanFrom, scanJudged, other, Skips, stopBuffer}
+use Rattle.frame.specs.Further.{Decided}
 use Rattle.frame.specs.declared.framing.Format.{Format}
 use Rattle.frame.proofs.Numbers.{both-true, le-or-lt}
 use Rattle.frame.proofs.Lists.{drop-next}

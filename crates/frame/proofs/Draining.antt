@@ -11,9 +11,9 @@ use lib.ListN.{length, drop, length-append}
 use lib.Seq.{drop-append-le}
 use Rattle.frame.specs.Checks.{Verdict, cut, refused, frame}
 use Rattle.frame.specs.Framing.{judge, read, isOpen, isOptional, behindOptional}
-use Rattle.frame.specs.Rule.{Output, nothing, noiseByte, handed, join, passAfter, outAt, payloads}
+use Rattle.frame.specs.Rule.{Output, nothing, join, outAt, payloads}
 use Rattle.frame.specs.Reader.{Called, line}
-use Rattle.frame.specs.Drain.{Drained, drained, before, drainAs, followsAfter, drainFrom}
+use Rattle.frame.specs.Drain.{Drained, drained, before, drainAs, followsAfter, drainFrom, passAfter, noiseByte, handed}
 use Rattle.frame.specs.Draining.{LineDrains, NeedsMoreIsDrained, DrainFollowsRule, DrainIsSized}
 use Rattle.frame.specs.Draining.{overhead, sizeOf, RuleIsSized}
 use Rattle.frame.specs.declared.framing.Footer.the-variants.{Optional, Required}
@@ -28,11 +28,11 @@ use Rattle.frame.proofs.Shapes.{NoFrame, IsRefused, judge-stands}
 
 -- Nothing before what was drained adds nothing.
 before-nothing : (st : Drained) → before nothing st ≡ st
-before-nothing st = ap (λ (o : Output (List ℕ)). drained o (st .rest) (st .follows)) (join-nothing (st .out))
+before-nothing st = ap (λ (o : Output (List ℕ)). drained o (st .held) (st .follows)) (join-nothing (st .out))
 
 -- Outputs are put before it in any grouping.
 before-join : (x y : Output (List ℕ)) (st : Drained) → before (join x y) st ≡ before x (before y st)
-before-join x y st = ap (λ (o : Output (List ℕ)). drained o (st .rest) (st .follows)) (join-assoc x y (st .out))
+before-join x y st = ap (λ (o : Output (List ℕ)). drained o (st .held) (st .follows)) (join-assoc x y (st .out))
 
 module _ (f : Format) where
   -- To pass over bytes is to begin behind them.
@@ -93,7 +93,7 @@ module _ (f : Format) where
 
   -- What was drained gave the first part of what the rule gives, and the bytes still held stand for the rest of it.
   abbrev Leads : Output (List ℕ) → Drained → List ℕ → Type 0
-  Leads o st more = o ≡ join (st .out) (givenBehind f (st .follows) (st .rest ++ more))
+  Leads o st more = o ≡ join (st .out) (givenBehind f (st .follows) (st .held ++ more))
 
   -- At a place with this verdict.
   drain-at :
@@ -105,7 +105,7 @@ module _ (f : Format) where
       let st : Drained = drainFrom f false 0 s in
       given-failed f b (s ++ more) (subst NoFrame (sym (judge-stands f (b ∷ s) more (refused judged n) tt e)) tt)
       ∙ ap (join noiseByte) (later false 0 zero-le)
-      ∙ sym (join-assoc noiseByte (st .out) (givenBehind f (st .follows) (st .rest ++ more)))
+      ∙ sym (join-assoc noiseByte (st .out) (givenBehind f (st .follows) (st .held ++ more)))
   drain-at b s more (frame zero p) e later = absurd (not-suc-le-zero (frame-sized f (b ∷ s) p zero e .some))
   drain-at b s more (frame (suc used) p) e later =
       let inside : used ≤ length s = omega (arith, frame-sized f (b ∷ s) p (suc used) e .there) in
@@ -116,7 +116,7 @@ module _ (f : Format) where
       (open-append f (suc used) (suc-le-suc zero-le) (b ∷ s) more (suc-le-suc inside))
       (drop-append-le used s more inside)
       ∙ ap (join (handed p)) (later q used inside)
-      ∙ sym (join-assoc (handed p) (st .out) (givenBehind f (st .follows) (st .rest ++ more)))
+      ∙ sym (join-assoc (handed p) (st .out) (givenBehind f (st .follows) (st .held ++ more)))
 
   -- At a place where an optional byte may stand.
   drain-first :
@@ -185,7 +185,7 @@ drain-follows-rule s chunk more =
 module _ (f : Format) where
   -- What was drained of n bytes, with `pass` of them passed over, takes no more than there are.
   abbrev Covers : Drained → ℕ → ℕ → Type 0
-  Covers st pass n = sizeOf f (st .out) + length (st .rest) + pass ≤ n
+  Covers st pass n = sizeOf f (st .out) + length (st .held) + pass ≤ n
 
   -- One place of what is drained.
   drained-at :

@@ -16,8 +16,8 @@ use Rattle.frame.specs.Reader.{State, holding, Called, line, quietHeld, 
 use Rattle.frame.specs.Reader.{Values, feedValuesOf, quietValuesOf, calledValues, bufferAt, quietRefusal, feedRefusal, Gives, Feeds, AfterQuiet, Quiets}
 use Rattle.frame.specs.Drain.{ruleAfter}
 use Rattle.frame.specs.Elements.{All}
-use Rattle.frame.specs.Calls.{WithFrame, outOf, Phase, offering, ending, over, Calls, fed, taken, quieted, emptied, feedRefused, quietRefused, done}
-use Rattle.frame.specs.Driving.{countOf, chunksAfter, Offers, CanDrive, DrivesAreShort}
+use Rattle.frame.specs.Calls.{Gave, outOf, Phase, offering, quieting, over, Calls, fed, taken, quieted, emptied, feedRefused, quietRefused, done, repliesOf}
+use Rattle.frame.specs.Driving.{chunksAfter, Offers, CanDrive, DrivesAreShort}
 use Rattle.frame.specs.declared.framing.Format.{Format}
 use Rattle.frame.specs.declared.reader.Reader.{Reader}
 use Rattle.frame.specs.declared.reader.Fed.{Fed}
@@ -89,9 +89,9 @@ join-count o a b e = ap (λ (x : Output (List ℕ)). length (x .frames)) e ∙ l
 -- The quiet calls from r on: one for each payload still to come, and one that says "empty".
 record Ends (r : Reader) (n : ℕ) : Type 0 where
   out : Output (List ℕ)
-  calls : Calls ending r [] out
+  calls : Calls quieting r [] out
   offers : Offers calls []
-  count : countOf calls ≡ suc n
+  count : length (repliesOf calls) ≡ suc n
 
 module _ (r : Reader) (l : StateFits r) where
   abbrev quietCall : Called
@@ -117,7 +117,7 @@ module _ (r : Reader) (l : StateFits r) where
       let z : n ≡ 0 = sym e ∙ quiet-count ∙ ap₂ _+_ (ap length h) left in
       record {
         out = join (outOf (quietValuesOf (a .answer)) buffer) nothing;
-        calls = emptied buffer buffer a p (record { answered = refl; none = refl }) done;
+        calls = emptied buffer buffer a p (record { answered = refl; frame = refl }) done;
         offers = refl;
         count = ap suc (sym z);
       }
@@ -146,7 +146,7 @@ module _ (r : Reader) (l : StateFits r) where
         out = join (outOf (quietValuesOf (a .answer)) (inFront p buffer)) (k .out);
         calls = quieted buffer (inFront p buffer) a q (record { answered = refl; frame = refl }) (k .calls);
         offers = k .offers;
-        count = ap suc {x = countOf (k .calls)} (k .count);
+        count = ap suc {x = length (repliesOf (k .calls))} (k .count);
       }
 
   -- The first quiet call of several, whatever comes out of it.
@@ -177,7 +177,7 @@ record Goes (r : Reader) (todo : List ℕ) (chunks : List (List ℕ)) (n : ℕ) 
   out : Output (List ℕ)
   calls : Calls offering r todo out
   offers : Offers calls chunks
-  count : countOf calls ≡ suc n
+  count : length (repliesOf calls) ≡ suc n
 
 -- How many payloads and chunks are still to come.
 abbrev Left : Reader → List ℕ → List (List ℕ) → ℕ → Type 0
@@ -242,7 +242,7 @@ module _
           out = join (outOf (feedValuesOf (a .answer)) buffer) (k .out);
           calls = fed chunk (flatten chunks) buffer buffer a q refl e (k .calls);
           offers = (refl, k .offers);
-          count = ap suc {x = countOf (k .calls)} (k .count);
+          count = ap suc {x = length (repliesOf (k .calls))} (k .count);
         }
     goes-on (p ∷ ps) h =
         let a : Fed =
@@ -260,7 +260,7 @@ module _
           out = join (outOf (feedValuesOf (a .answer)) (inFront p buffer)) (k .out);
           calls = fed chunk (flatten chunks) buffer (inFront p buffer) a q refl e (k .calls);
           offers = (refl, k .offers);
-          count = ap suc {x = countOf (k .calls)} (k .count);
+          count = ap suc {x = length (repliesOf (k .calls))} (k .count);
         }
 
 -- All of the calls.
@@ -284,12 +284,12 @@ pub can-drive : (f : Format) → CanDrive f
 can-drive f chunks short =
     let n : ℕ = payloadsIn (holding f [] false 0) (flatten chunks) + length chunks in
     let k : Goes (newReader f) (flatten chunks) chunks n = goes n (newReader f) (flatten chunks) chunks (new-fits f) refl short refl in
-    record { out = k .out; calls = k .calls; offers = k .offers; few = omega (arith, k .count, payloads-few f (flatten chunks)) }
+    record { out = k .out; calls = k .calls; offers = k .offers }
 
 -- The call that says "empty" is still to come, or not.
 abbrev lastCalls : Phase → ℕ
 lastCalls offering = 1
-lastCalls ending = 1
+lastCalls quieting = 1
 lastCalls over = 0
 
 -- A line call hands out a payload, or is done with the chunk.
@@ -308,7 +308,7 @@ fed-uses v buf chunk chunks out = by-frame (v .isFrame)
 
 -- A quiet call with a frame hands out a payload.
 quieted-uses :
-    (v : Values) (buf : List ℕ) (out : Output (List ℕ)) → WithFrame v → length (join (outOf v buf) out .frames) ≡ suc (length (out .frames))
+    (v : Values) (buf : List ℕ) (out : Output (List ℕ)) → Gave true v → length (join (outOf v buf) out .frames) ≡ suc (length (out .frames))
 unfolding join
 quieted-uses v buf out n = rw (n .frame)
 
@@ -319,7 +319,7 @@ joined-more a out = rw (join-count (join a out) a out refl) (omega arith)
 -- Calls that offer these chunks are no more than the payloads that they hand out and the chunks, and one.
 few-calls :
     {phase : Phase} {r : Reader} {todo : List ℕ} {out : Output (List ℕ)} (calls : Calls phase r todo out) (chunks : List (List ℕ)) →
-    Offers calls chunks → countOf calls ≤ length (out .frames) + length chunks + lastCalls phase
+    Offers calls chunks → length (repliesOf calls) ≤ length (out .frames) + length chunks + lastCalls phase
 few-calls (fed offered more buf buf′ a p n e later) [] o = absurd o
 few-calls (fed {out = out} offered more buf buf′ a p n e later) (chunk ∷ chunks) o =
     let v : Values = feedValuesOf (a .answer) in

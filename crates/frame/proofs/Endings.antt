@@ -10,7 +10,7 @@ use mathlib.Core.Path.{_≡_, sym, ap, _∙_}
 use borrow.Author.Tests.{eqb-true, eqb-false}
 use lib.Dec.{eqb}
 use lib.ListN.{length, getD, take, drop}
-use Rattle.frame.specs.Checks.{Checks, whole, byte, test, Verdict, cut, refused, frame, behind, run}
+use Rattle.frame.specs.Checks.{Checks, whole, lastByte, test, Verdict, cut, refused, frame, behind, run}
 use Rattle.frame.specs.Binary.{xorOf, body}
 use Rattle.frame.specs.Ascii.{hexDigits, behindDigits, lineEnding}
 use Rattle.frame.specs.Judged.{endChecks}
@@ -19,10 +19,6 @@ use Rattle.frame.specs.declared.framing.Ending.{Ending}
 use Rattle.frame.proofs.Trees.{behind-behind, pass-byte, fail-byte, cut-byte}
 use Rattle.frame.proofs.BinaryJudge.{body-checksum, body-passed}
 use Rattle.frame.proofs.AsciiJudge.{JudgesAt, Summed, line-checksum, line-ends}
-
--- The rest of a frame that ends with one byte behind its checksum.
-abbrev pub lastByte : ℕ → List ℕ → Checks
-lastByte last p = byte last 5 (whole p)
 
 -- What the checks of the ending decide, where the checksum is complete with the byte at `end`.
 module _ (rest : List ℕ → Checks) (p s : List ℕ) (end : ℕ) where
@@ -41,17 +37,17 @@ ending-complete p s end = ap (λ (k : ℕ). frame k p) (add-zero (end + 1))
 -- Where one byte is left.
 module _ (last : ℕ) (p s : List ℕ) (end : ℕ) where
   pub ending-cut : length s ≤ end + 1 → endingAt (lastByte last) p s end true ≡ cut
-  unfolding test
+  unfolding test lastByte
   ending-cut l = ap (behind (end + 1)) (cut-byte last 5 (whole p) s (end + 1) l)
 
   pub ending-other : end + 1 < length s → (getD s (end + 1) 0 ≡ last → ⊥) → endingAt (lastByte last) p s end true ≡ refused (end + 2) 5
-  unfolding test
+  unfolding test lastByte
   ending-other l f =
       let size : end + 1 + 1 ≡ end + 2 = omega arith in
       ap (behind (end + 1)) (fail-byte last 5 (whole p) s (end + 1) l f) ∙ ap (λ (k : ℕ). refused k 5) size
 
   pub ending-frame : end + 1 < length s → getD s (end + 1) 0 ≡ last → endingAt (lastByte last) p s end true ≡ frame (end + 2) p
-  unfolding test
+  unfolding test lastByte
   ending-frame l f =
       let size : end + 1 + 1 ≡ end + 2 = omega arith in
       ap (behind (end + 1)) (pass-byte last 5 (whole p) s (end + 1) l f) ∙ ap (λ (k : ℕ). frame k p) size

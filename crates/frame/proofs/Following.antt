@@ -10,9 +10,9 @@ use lib.ListN.{length, take, drop, length-drop}
 use lib.Seq.{drop-drop}
 use Rattle.frame.specs.Framing.{absorbed, behindOptional}
 use Rattle.frame.specs.Reader.{holding, Called, called, lineOn, tookFirst, lineBehind, judgedTo, lineJudged}
-use Rattle.frame.specs.Reader.{Values, noFrameValues, feedValuesOf, valuesAt}
+use Rattle.frame.specs.Reader.{Values, noFrameValues, feedValuesOf}
 use Rattle.frame.specs.View.{part}
-use Rattle.frame.specs.Answer.{TookFirst, scanWhole}
+use Rattle.frame.specs.Answer.{TookFirst, scanWhole, valuesAt}
 use Rattle.frame.specs.Feeding.{Leaves, judgedIn, KeepsCall}
 use Rattle.frame.specs.declared.framing.Format.{Format}
 use Rattle.frame.specs.declared.reader.Left.{Left}

@@ -6,14 +6,14 @@ use mathlib.Core.Path.{_≡_, refl, sym, ap, _∙_, subst}
 use mathlib.Core.List.{List}
 use lib.Dec.{lit≤}
 use lib.ListN.{length, take, drop, length-append, length-take, length-drop}
-use Rattle.frame.specs.Checks.{frame}
-use Rattle.frame.specs.Binary.{behindChecksum}
+use Rattle.frame.specs.Checks.{frame, payloadIn}
+use Rattle.frame.specs.Binary.{behindChecksum, binaryEnding}
 use Rattle.frame.specs.Hex.{hex}
-use Rattle.frame.specs.Ascii.{lineEnding}
-use Rattle.frame.specs.Framing.{checks, judge, front, endingBytes, layout, limit}
-use Rattle.frame.specs.Claims.{UndecidedIsShort, FrameIsSized}
+use Rattle.frame.specs.Ascii.{lineEnding, asciiEnding}
+use Rattle.frame.specs.Framing.{checks, judge, front, layout, limit, inFront}
 use Rattle.frame.specs.DigitRuns.{decoded, Digits}
-use Rattle.frame.specs.Judged.{payloadAt, payloadEnd, frameLength, verdictOf, handedOut, HasPayload}
+use Rattle.frame.specs.Judged.{payloadAt, payloadEnd, frameLength, verdictOf, HasPayload}
+use Rattle.frame.specs.Further.{UndecidedIsShort, FrameIsSized}
 use Rattle.frame.specs.declared.framing.Framing.{Framing}
 use Rattle.frame.specs.declared.framing.Framing.the-variants.{Binary as BinaryFraming, Ascii as AsciiFraming}
 use Rattle.frame.specs.declared.framing.Footer.the-variants.{Optional, Required}
@@ -30,8 +30,8 @@ use Rattle.frame.proofs.HexLaws.{length-decoded, hex-digits}
 
 -- The length of a layout.
 pub length-layout : (f : Framing) (p : List ℕ) → length (layout f p) ≡ frameLength f (length p)
-length-layout BinaryFraming p = omega (arith, length-append (front BinaryFraming p) (endingBytes BinaryFraming), length-binary-front p)
-length-layout AsciiFraming p = omega (arith, length-append (front AsciiFraming p) (endingBytes AsciiFraming), length-ascii-front p)
+length-layout BinaryFraming p = omega (arith, length-append (front BinaryFraming p) binaryEnding, length-binary-front p)
+length-layout AsciiFraming p = omega (arith, length-append (front AsciiFraming p) asciiEnding, length-ascii-front p)
 
 -- No way through the checks takes more bytes than the limit.
 pub within-limit : (m : Format) → Within (limit m) (checks m)
@@ -145,7 +145,7 @@ limit-most (Binary footer) = lit≤ tt
 limit-most (Ascii ending) = lit≤ tt
 
 -- A verdict that is no frame leaves the buffer.
-pub stays : (f : Format) (s buf : List ℕ) (v : Judged) → ((used len : ℕ) → v ≡ Frame used len → ⊥) → handedOut (verdictOf f s v) buf ≡ buf
+pub stays : (f : Format) (s buf : List ℕ) (v : Judged) → ((used len : ℕ) → v ≡ Frame used len → ⊥) → inFront (payloadIn (verdictOf f s v)) buf ≡ buf
 stays f s buf Undecided h = refl
 stays f s buf (Failed r judged) h = refl
 stays f s buf (Frame used len) h = absurd (h used len refl)

@@ -31,6 +31,7 @@ pub mod Taking
 pub mod Calling
 pub mod Views
 pub mod Refusals
+pub mod Agreeing
 pub mod Driving
 -- How many bytes are judged.
 pub mod RuleCounts

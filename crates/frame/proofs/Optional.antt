@@ -6,7 +6,7 @@ use native.Mathlib.Omega.{arith}
 use mathlib.Core.Path.{_≡_, refl, sym, ap, ap₂, _∙_, subst}
 use mathlib.Core.List.{List, [], _∷_, _++_, append-assoc, append-nil, List·Memᴰ, List·Memᴰ·head, List·Memᴰ·tail, List·Memᴰ·cases-cons, List·Memᴰ·not-nil}
 use mathlib.Core.Logic.{_⊎_, inl, inr, ⊎-elim}
-use mathlib.Core.Bool.{Bool, true, false, cond, false≢true}
+use mathlib.Core.Bool.{Bool, true, false, cond, false≢true, true≢false}
 use borrow.Author.Tests.{eqb-true}
 use lib.Dec.{eqb}
 use lib.ListN.{length, getD, take, drop, length-append, length-drop}
@@ -17,7 +17,8 @@ use Rattle.frame.specs.Digit.{isDigit, digitValue}
 use Rattle.frame.specs.Hex.{pairs, sumOf}
 use Rattle.frame.specs.Ascii.{colon, carriageReturn, lineFeed, asciiFront, asciiEnding, hexDigits, digitCount, afterDigits, ascii, endsDigits, lineEnding}
 use Rattle.frame.specs.Framing.{judge, read, withOptional, mayFollow, isOptional, isOpen, absorbed, front, layout, framingOf, limit}
-use Rattle.frame.specs.Claims.{Payload, LayoutReads, endings, Longest, EndingsRead, NeverFive, IsLayout, FrameIsLayout, Sized, ReadIsSized}
+use Rattle.frame.specs.Claims.{Payload, endings, EndingsRead, NeverFive, FrontAndEnding, FrameIsFrontAndEnding}
+use Rattle.frame.specs.Further.{Sized, ReadIsSized, LayoutReads}
 use Rattle.frame.specs.declared.framing.Framing.the-variants.{Binary as BinaryFraming, Ascii as AsciiFraming}
 use Rattle.frame.specs.declared.framing.Footer.the-variants.{Optional, Required}
 use Rattle.frame.specs.declared.framing.Ending.the-variants.{CrLf, Any}
@@ -220,7 +221,11 @@ layout-reads (Ascii Any) p more h =
     ∙ closed-reads p (lineFeed ∷ more) carriageReturn h refl
     ∙ ap (λ (k : ℕ). frame k p) (omega (arith, length-closed p carriageReturn, length-append (asciiFront p) asciiEnding))
 
--- Where the first byte of what follows does not make an ending longer, none is absorbed.
+-- The first byte of `more`, if there is one, does not make this ending a longer one of the format.
+abbrev Longest : Format → List ℕ → List ℕ → Type 0
+Longest m ending more = (b : ℕ) (rest : List ℕ) → more ≡ b ∷ rest → List·Memᴰ (ending ++ (b ∷ [])) (endings m) → ⊥
+
+-- Then none is absorbed behind it.
 not-longer :
     (m : Format) (b : ℕ) → ((x : ℕ) → isOptional m x ≡ true → x ≡ b) → (short more : List ℕ) → List·Memᴰ (short ++ (b ∷ [])) (endings m) →
     Longest m short more → absorbed m true more ≡ 0
@@ -279,7 +284,7 @@ endings-read (Ascii Any) p e more h k =
 -- The front and an ending stand in front of s.
 layout-with :
     (m : Format) (s p ending more : List ℕ) (used : ℕ) → Payload p → List·Memᴰ ending (endings m) →
-    s ≡ (front (framingOf m) p ++ ending) ++ more → used ≡ length (front (framingOf m) p ++ ending) → IsLayout m s used p
+    s ≡ (front (framingOf m) p ++ ending) ++ more → used ≡ length (front (framingOf m) p ++ ending) → FrontAndEnding m s used p
 layout-with m s p ending more used payload ends e size =
     record {
       ending = ending;
@@ -294,7 +299,7 @@ module _ (m : Format) (b : ℕ) (is : (x : ℕ) → isOptional m x ≡ true → 
     (ends : List·Memᴰ short (endings m)) where
   layout-open :
       (q : Bool) (rest : List ℕ) → (q ≡ true → List·Memᴰ (short ++ (b ∷ [])) (endings m)) → s ≡ (front (framingOf m) p ++ short) ++ rest →
-      used ≡ length (front (framingOf m) p ++ short) + absorbed m q rest → IsLayout m s used p
+      used ≡ length (front (framingOf m) p ++ short) + absorbed m q rest → FrontAndEnding m s used p
   layout-open false rest longer e size = layout-with m s p short rest used h ends e (size ∙ add-zero (length (front (framingOf m) p ++ short)))
   layout-open true [] longer e size = layout-with m s p short [] used h ends e (size ∙ add-zero (length (front (framingOf m) p ++ short)))
   layout-open true (x ∷ rest) longer e size = by (isOptional m x) refl
@@ -305,7 +310,7 @@ module _ (m : Format) (b : ℕ) (is : (x : ℕ) → isOptional m x ≡ true → 
       long : front (framingOf m) p ++ (short ++ (b ∷ [])) ≡ all ++ (b ∷ [])
       long = sym (append-assoc (front (framingOf m) p) short (b ∷ []))
 
-      by : (q : Bool) → isOptional m x ≡ q → IsLayout m s used p
+      by : (q : Bool) → isOptional m x ≡ q → FrontAndEnding m s used p
       by true q =
           layout-with m s p (short ++ (b ∷ [])) rest used h (longer refl)
           (e
@@ -320,7 +325,7 @@ module _ (m : Format) (b : ℕ) (is : (x : ℕ) → isOptional m x ≡ true → 
 -- Under any ending, an LF makes the ending CR longer, and no other.
 closed-layout :
     (s p rest : List ℕ) (used c : ℕ) → Payload p → (c ≡ carriageReturn) ⊎ (c ≡ lineFeed) → s ≡ closed p c ++ rest →
-    used ≡ length (closed p c) + absorbed (Ascii Any) (eqb c carriageReturn) rest → IsLayout (Ascii Any) s used p
+    used ≡ length (closed p c) + absorbed (Ascii Any) (eqb c carriageReturn) rest → FrontAndEnding (Ascii Any) s used p
 closed-layout s p rest used c h (inl k) e size =
     layout-open (Ascii Any) lineFeed (λ x q. eqb-true x lineFeed q) s p (carriageReturn ∷ []) used h (List·Memᴰ·tail (List·Memᴰ·head refl)) true rest
     (λ _. List·Memᴰ·head refl)
@@ -334,8 +339,8 @@ closed-layout s p rest used c h (inr k) e size =
     (size ∙ ap (λ (x : ℕ). length (closed p x) + absorbed (Ascii Any) (eqb x carriageReturn) rest) k)
 
 -- Of bytes, what is read as a frame is the layout of its payload, with an ending.
-pub frame-is-layout : (m : Format) → FrameIsLayout m
-frame-is-layout (Binary Optional) s p used b e =
+pub frame-is-front-and-ending : (m : Format) → FrameIsFrontAndEnding m
+frame-is-front-and-ending (Binary Optional) s p used b e =
     let (judged, is, size) = read-frame (Binary Optional) s used p e in
     let (rest, split, count, payload) = optional-is-layout s p judged b is in
     let behind : drop judged s ≡ rest = ap (drop judged) split ∙ drop-at (binaryFront p) rest judged (sym count) in
@@ -344,13 +349,13 @@ frame-is-layout (Binary Optional) s p used b e =
     (λ _. List·Memᴰ·head refl)
     (split ∙ ap (λ (t : List ℕ). t ++ rest) (sym all))
     (size ∙ (λ i. count i + absorbed (Binary Optional) true (behind i)) ∙ ap (λ (t : List ℕ). length t + absorbed (Binary Optional) true rest) (sym all))
-frame-is-layout (Binary Required) s p used b e =
+frame-is-front-and-ending (Binary Required) s p used b e =
     let (bytes, count, payload) = required-is-layout s p used b (sym (read-is-judge (Binary Required) s (λ _. refl)) ∙ e) in
     record { ending = binaryEnding; ends = List·Memᴰ·head refl; bytes = bytes; count = count; payload = payload }
-frame-is-layout (Ascii CrLf) s p used b e =
+frame-is-front-and-ending (Ascii CrLf) s p used b e =
     let (bytes, count, payload) = ascii-is-layout s p used (sym (read-is-judge (Ascii CrLf) s (λ _. refl)) ∙ e) in
     record { ending = asciiEnding; ends = List·Memᴰ·head refl; bytes = bytes; count = count; payload = payload }
-frame-is-layout (Ascii Any) s p used b e =
+frame-is-front-and-ending (Ascii Any) s p used b e =
     let (judged, is, size) = read-frame (Ascii Any) s used p e in
     let (c, rest, ends, split, count, payload) = any-is-front s p judged is in
     let long : judged ≡ length (closed p c) = count ∙ sym (length-closed p c) in
@@ -426,11 +431,10 @@ refused-from m s (refused i k) judged n e = e
 refused-from m s (frame used p) judged n e = absurd (refused≢frame judged n (used + behindFrame m s used) p (sym e))
 
 -- Where the footer is optional, and under any ending, 5 is never given.
-pub five-never : NeverFive
-five-never =
-    record {
-      optionalFooter =
-          λ s judged e. never-run 5 (binary whole) s never-five judged (refused-from (Binary Optional) s (judge (Binary Optional) s) judged 5 e);
-      anyEnding =
-          λ s judged e. never-run 5 (ascii (lineEnding Any)) s never-five-any judged (refused-from (Ascii Any) s (judge (Ascii Any) s) judged 5 e);
-    }
+pub five-never : (m : Format) → NeverFive m
+five-never (Binary Optional) b o s judged e =
+    never-run 5 (binary whole) s never-five judged (refused-from (Binary Optional) s (judge (Binary Optional) s) judged 5 e)
+five-never (Binary Required) b o s judged e = absurd (true≢false (sym o))
+five-never (Ascii CrLf) b o s judged e = absurd (true≢false (sym o))
+five-never (Ascii Any) b o s judged e =
+    never-run 5 (ascii (lineEnding Any)) s never-five-any judged (refused-from (Ascii Any) s (judge (Ascii Any) s) judged 5 e)

@@ -10,9 +10,10 @@ use lib.ListN.{length, take, drop, length-append, length-drop, take-append-drop}
 use lib.Seq.{length-take-le, take-append-seam, drop-append-le, drop-append-seam, drop-append-add, drop-drop}
 use Rattle.frame.specs.Checks.{Verdict, cut, refused, frame}
 use Rattle.frame.specs.Framing.{judge, judgedAs, judgedAt, read, isOpen, absorbed, behindOptional}
-use Rattle.frame.specs.Rule.{nothing, noiseByte, handed, join, onBy, passAfter, places}
-use Rattle.frame.specs.Reader.{Settled, settled, settleAs, settle, Called, called, lineFrom, lineOn, tookFirst, lineBehind, ended, quietHeld}
+use Rattle.frame.specs.Rule.{nothing, join, onBy, places}
+use Rattle.frame.specs.Reader.{Called, called, settleAs, settle, lineFrom, lineOn, tookFirst, lineBehind, ended, quietHeld}
 use Rattle.frame.specs.Positions.{Position, position, positionAt, positionsFrom}
+use Rattle.frame.specs.Drain.{passAfter, noiseByte, handed}
 use Rattle.frame.specs.declared.framing.Format.{Format}
 use Rattle.frame.proofs.Framings.{frame-sized}
 use Rattle.frame.proofs.Prefixes.{refused-sized}
@@ -264,18 +265,18 @@ module _ (f : Format) where
       }
 
   -- Settled bytes that end a segment, the first of which has the index `place`: all of them were taken.
-  record LeadsEnded (h : List ℕ) (place : ℕ) (st : Settled) : Type 0 where
-    few : length (st .rest) ≤ length h
+  record LeadsEnded (h : List ℕ) (place : ℕ) (st : Called) : Type 0 where
+    few : length (st .held) ≤ length h
     same :
         let from : ℕ = place + length h in
         positionsIn from place h
         ≡ map (λ p. position p from (st .began)) (st .out .frames)
-        ++ positionsBehind (st .follows) from (from - length (st .rest)) (st .rest ++ [])
+        ++ positionsBehind (st .follows) from (from - length (st .held)) (st .held ++ [])
 
   -- Where no frame stands, the bytes behind the first are settled.
   ended-failed :
-      (b : ℕ) (h : List ℕ) (place : ℕ) (later : Settled) → NoFrame (judge f (b ∷ h)) → LeadsEnded h (place + 1) later →
-      LeadsEnded (b ∷ h) place (settled (join noiseByte (later .out)) (later .began) (later .rest) (later .follows))
+      (b : ℕ) (h : List ℕ) (place : ℕ) (later : Called) → NoFrame (judge f (b ∷ h)) → LeadsEnded h (place + 1) later →
+      LeadsEnded (b ∷ h) place (called 0 (join noiseByte (later .out)) (later .began) (later .held) (later .follows))
   unfolding join
   ended-failed b h place later none k =
       let reach : max (place + length (b ∷ h)) (place + judgedAt f (b ∷ h)) ≡ place + 1 + length h = omega (arith, judged-at-there f (b ∷ h)) in
@@ -288,12 +289,12 @@ module _ (f : Format) where
             ∙ k .same
             ∙ (λ i.
             map (λ p. position p (from i) (later .began)) (later .out .frames)
-            ++ positionsBehind (later .follows) (from i) (from i - length (later .rest)) (later .rest ++ []));
+            ++ positionsBehind (later .follows) (from i) (from i - length (later .held)) (later .held ++ []));
       }
 
   -- One place.
   ended-at :
-      (b : ℕ) (h : List ℕ) (place : ℕ) (later : Settled) (v : Verdict) → judge f (b ∷ h) ≡ v → LeadsEnded h (place + 1) later →
+      (b : ℕ) (h : List ℕ) (place : ℕ) (later : Called) (v : Verdict) → judge f (b ∷ h) ≡ v → LeadsEnded h (place + 1) later →
       LeadsEnded (b ∷ h) place (settleAs f (ended v) (b ∷ h) later)
   ended-at b h place later cut q k = ended-failed b h place later (subst NoFrame (sym q) tt) k
   ended-at b h place later (refused judged n) q k = ended-failed b h place later (subst NoFrame (sym q) tt) k
@@ -325,7 +326,7 @@ module _ (f : Format) where
   unfolding quietHeld
   quiet-leads follows h place =
       let n : ℕ = absorbed f follows h in
-      let st : Settled = settle f (λ x. ended (judge f x)) (drop n h) in
+      let st : Called = settle f (λ x. ended (judge f x)) (drop n h) in
       let there : n ≤ length h = absorbed-there f follows h in
       let count : length (drop n h) ≡ length h - n = length-drop n h in
       let k = ended-leads (drop n h) (place + n) in
@@ -339,5 +340,5 @@ module _ (f : Format) where
             ∙ k .same
             ∙ (λ i.
             map (λ p. position p (from i) (st .began)) (st .out .frames)
-            ++ positionsBehind (st .follows) (from i) (from i - length (st .rest)) (st .rest ++ []));
+            ++ positionsBehind (st .follows) (from i) (from i - length (st .held)) (st .held ++ []));
       }

@@ -12,8 +12,8 @@ use Rattle.frame.specs.Checks.{Checks, next, fails, whole, byte, Verdict
 use Rattle.frame.specs.Binary.{binary}
 use Rattle.frame.specs.Ascii.{ascii, colon}
 use Rattle.frame.specs.Framing.{checks, judge, limit}
-use Rattle.frame.specs.Claims.{Decided, Sized}
 use Rattle.frame.specs.Scan.{judgedBytes}
+use Rattle.frame.specs.Further.{Decided, Sized}
 use Rattle.frame.specs.declared.framing.Format.{Format}
 use Rattle.frame.specs.declared.framing.Format.the-variants.{Binary, Ascii}
 use Rattle.frame.proofs.Trees.{decided-behind, Bounded, bounded}

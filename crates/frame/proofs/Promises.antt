@@ -11,9 +11,10 @@ use lib.Dec.{eqb}
 use lib.ListN.{length, drop, length-append}
 use lib.Seq.{take-append-seam}
 use Rattle.frame.specs.Rule.{output}
-use Rattle.frame.specs.Reader.{Called, Values, refusalValues, calledValues, valuesAt, bufferAt, Promise, Gives}
+use Rattle.frame.specs.Reader.{Called, Values, refusalValues, calledValues, bufferAt, Promise, Gives}
 use Rattle.frame.specs.Calls.{Refused, Answered, outOf}
 use Rattle.frame.specs.Draining.{Reports}
+use Rattle.frame.specs.Answer.{valuesAt}
 
 module _ {A S : Type 0} {refusal answer : A} {Next : S → Type 0} {filled : List ℕ} {s : S} {buf : List ℕ} where
   -- A refused call: the number, with the state and the buffer as they were.

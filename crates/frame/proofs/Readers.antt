@@ -12,13 +12,13 @@ use lib.Seq.{paste, take-length, take-paste, take-at, drop-at}
 use Rattle.frame.specs.Framing.{isOpen, limit}
 use Rattle.frame.specs.Judged.{payloadAt}
 use Rattle.frame.specs.Refusal.{numberOf}
-use Rattle.frame.specs.Reader.{Values, refusalValues, calledValues, valuesAt, sound, quietRefusalNumber, lineRefusalNumber}
+use Rattle.frame.specs.Reader.{Values, refusalValues, calledValues, sound, callRefusal}
 use Rattle.frame.specs.Reader.{holding, stateOf, Called, lineOn, line, lineJudged, frameValues, feedValuesOf, bufferAt, quietRefusal, feedRefusal}
 use Rattle.frame.specs.Reader.{Feeds}
 use Rattle.frame.specs.Scan.{Stop, found, undecided, passed, stopOf, judging, Scanned, scannedTo, scanFrom}
 use Rattle.frame.specs.Scan.{stopBuffer}
 use Rattle.frame.specs.View.{part}
-use Rattle.frame.specs.Answer.{HeldSo, beforeScan, calledAs, calledBy, scanWhole, keptAs, keptEnd, Usable, Answerable, Keeps}
+use Rattle.frame.specs.Answer.{HeldSo, beforeScan, calledAs, calledBy, scanWhole, keptAs, keptEnd, Usable, Answerable, Keeps, valuesAt}
 use Rattle.frame.specs.Feeding.{joined, Stores, Leaves, KeepsCall, QuietAnswered}
 use Rattle.frame.specs.declared.framing.Format.{Format}
 use Rattle.frame.specs.declared.refusal.Refusal.{Refusal}
@@ -319,26 +319,26 @@ passed-end f s Passed e = refl
 module _ (r : Reader) (room size : ℕ) where
   -- The refusals of a line call, in their order.
   pub feed-state : sound r ≡ false → feedRefusal r room size ≡ 16
-  feed-state h = ap (λ (q : Bool). lineRefusalNumber q room size) h
+  feed-state h = ap (λ (q : Bool). callRefusal q 256 room size) h
 
   pub feed-buffer : sound r ≡ true → room < 256 → feedRefusal r room size ≡ 13
-  feed-buffer h k = ap (λ (q : Bool). lineRefusalNumber q room size) h ∙ simp (lt-leb 256 room k)
+  feed-buffer h k = ap (λ (q : Bool). callRefusal q 256 room size) h ∙ simp (lt-leb 256 room k)
 
   pub feed-chunk : sound r ≡ true → 256 ≤ room → 65536 < size → feedRefusal r room size ≡ 15
-  feed-chunk h k l = ap (λ (q : Bool). lineRefusalNumber q room size) h ∙ simp (le-leb 256 room k, lt-leb size 65536 l)
+  feed-chunk h k l = ap (λ (q : Bool). callRefusal q 256 room size) h ∙ simp (le-leb 256 room k, lt-leb size 65536 l)
 
   pub feed-accepted : sound r ≡ true → 256 ≤ room → size ≤ 65536 → feedRefusal r room size ≡ 0
-  feed-accepted h k l = ap (λ (q : Bool). lineRefusalNumber q room size) h ∙ simp (le-leb 256 room k, le-leb size 65536 l)
+  feed-accepted h k l = ap (λ (q : Bool). callRefusal q 256 room size) h ∙ simp (le-leb 256 room k, le-leb size 65536 l)
 
   -- Those of a quiet call.
   pub quiet-state : sound r ≡ false → quietRefusal r room ≡ 16
-  quiet-state h = ap (λ (q : Bool). quietRefusalNumber q room) h
+  quiet-state h = ap (λ (q : Bool). callRefusal q 256 room 0) h
 
   pub quiet-buffer : sound r ≡ true → room < 256 → quietRefusal r room ≡ 13
-  quiet-buffer h k = ap (λ (q : Bool). quietRefusalNumber q room) h ∙ simp (lt-leb 256 room k)
+  quiet-buffer h k = ap (λ (q : Bool). callRefusal q 256 room 0) h ∙ simp (lt-leb 256 room k)
 
   pub quiet-accepted : sound r ≡ true → 256 ≤ room → quietRefusal r room ≡ 0
-  quiet-accepted h k = ap (λ (q : Bool). quietRefusalNumber q room) h ∙ simp (le-leb 256 room k)
+  quiet-accepted h k = ap (λ (q : Bool). callRefusal q 256 room 0) h ∙ simp (le-leb 256 room k)
 
 -- A quiet's answer is right where the call gives that.
 pub quiet-right :

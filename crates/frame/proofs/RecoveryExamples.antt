@@ -10,10 +10,10 @@ use mathlib.Core.Logic.{⊎-elim}
 use borrow.Author.Tests.{eq-eqb, eqb-true}
 use lib.Dec.{eqb}
 use lib.ListN.{length, getD, take, drop, replicate}
-use Rattle.frame.specs.Checks.{frame, byte, test, word, bytes}
-use Rattle.frame.specs.Binary.{binary, body, footer}
+use Rattle.frame.specs.Checks.{frame, byte, test, word, bytes, lastByte}
+use Rattle.frame.specs.Binary.{binary, body}
 use Rattle.frame.specs.Digit.{isDigit, digitValue}
-use Rattle.frame.specs.Ascii.{hexDigits, lineEnd, lineEnding, afterDigits, ascii}
+use Rattle.frame.specs.Ascii.{hexDigits, lineEnding, afterDigits, ascii}
 use Rattle.frame.specs.Framing.{read}
 use Rattle.frame.specs.Rule.{join, places, outFrom, Found, rule}
 use Rattle.frame.specs.Elements.{All}
@@ -84,12 +84,12 @@ pairs-begin gs t i l x y = Memᴰ·cast (sym (zero-add i)) (pairs-sound 0 (flatt
 
 -- The response is a good frame.
 response-good : (m : Footer) → Good (Binary m) response
-unfolding binary body footer byte test word bytes
+unfolding binary body lastByte byte test word bytes
 response-good = both-good response success refl refl
 
 -- The frames that the stray start overlaps are good, and those behind them.
 overlapped-good : (m : Footer) → Stretch (Binary m) overlapped
-unfolding binary body footer byte test word bytes
+unfolding binary body lastByte byte test word bytes
 overlapped-good m =
     copies 22 (response-good m)
     (another (both-good (blank 11) (replicate 11 0) refl refl m)
@@ -97,7 +97,7 @@ overlapped-good m =
 
 -- A stray start loses good frames, and later ones come back.
 pub lost-and-back : (m : Footer) → LostAndBack m
-unfolding rule places outFrom join binary body footer byte test word bytes flatten
+unfolding rule places outFrom join binary body lastByte byte test word bytes flatten
 lost-and-back Optional = record { good = overlapped-good Optional; pairs = pairs-begin overlapped refl; frames = refl }
 lost-and-back Required = record { good = overlapped-good Required; pairs = pairs-begin overlapped refl; frames = refl }
 
@@ -112,14 +112,14 @@ elsewhere x (y ∷ ys) h m =
 
 -- The frames without the proviso are good.
 unguarded-good : (m : Footer) → Stretch (Binary m) unguarded
-unfolding binary body footer byte test word bytes
+unfolding binary body lastByte byte test word bytes
 unguarded-good m =
     another (both-good holdsStart (take 256 (drop 4 holdsStart)) refl refl m)
     (another (both-good completes (lostFrame .payload) refl refl m) (another (response-good m) none))
 
 -- Without the proviso a good frame far into the stretch is lost.
 pub proviso-needed : (m : Footer) → ProvisoNeeded m
-unfolding rule places outFrom join binary body footer byte test word bytes flatten
+unfolding rule places outFrom join binary body lastByte byte test word bytes flatten
 proviso-needed Optional =
     record {
       good = unguarded-good Optional;
@@ -139,7 +139,7 @@ proviso-needed Required =
 
 -- Good frames with the footer and without it, mixed.
 pub mixed-footers : MixedFooters
-unfolding rule places outFrom join binary body footer byte test word bytes flatten
+unfolding rule places outFrom join binary body lastByte byte test word bytes flatten
 mixed-footers =
     let without : Good (Binary Optional) (bare response) = record { payload = success; reads = refl } in
     record {
@@ -155,7 +155,7 @@ mixed-footers =
 
 -- Where the footer is required, a frame without it is no good frame.
 pub footer-required : FooterRequired
-unfolding rule places outFrom join binary body footer byte test word bytes flatten
+unfolding rule places outFrom join binary body lastByte byte test word bytes flatten
 footer-required =
     record {
       notGood = λ good. cut≢frame 9 (good .payload) (good .reads);
@@ -165,13 +165,13 @@ footer-required =
     }
 
 pub ascii-back : (ending : Ending) → AsciiBack ending
-unfolding rule places outFrom join ascii hexDigits isDigit digitValue lineEnding lineEnd afterDigits byte test
+unfolding rule places outFrom join ascii hexDigits isDigit digitValue lineEnding lastByte afterDigits byte test
 ascii-back CrLf = record { good = another (record { payload = four; reads = refl }) none; frames = refl }
 ascii-back Any = record { good = another (record { payload = four; reads = refl }) none; frames = refl }
 
 -- Good frames under any ending, mixed.
 pub mixed-lines-back : MixedLines
-unfolding rule places outFrom join ascii hexDigits isDigit digitValue lineEnding lineEnd afterDigits byte test flatten
+unfolding rule places outFrom join ascii hexDigits isDigit digitValue lineEnding lastByte afterDigits byte test flatten
 mixed-lines-back =
     let cr : Good (Ascii Any) endedByCr = record { payload = four; reads = refl } in
     let lf : Good (Ascii Any) endedByLf = record { payload = four; reads = refl } in
@@ -186,7 +186,7 @@ mixed-lines-back =
 
 -- Under the strict ending they are refused.
 pub strict-lines : StrictLines
-unfolding rule places outFrom join ascii hexDigits isDigit digitValue lineEnding lineEnd afterDigits byte test
+unfolding rule places outFrom join ascii hexDigits isDigit digitValue lineEnding lastByte afterDigits byte test
 strict-lines = record { alone = refl; before = refl; atLf = refl; frames = refl }
 
 -- LF gives 3 and 4 as CR does.

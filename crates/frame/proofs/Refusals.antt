@@ -5,17 +5,18 @@ use native.Mathlib.Nat.{le-refl, le-trans}
 use native.Mathlib.Omega.{arith}
 use mathlib.Core.Path.{_≡_, refl, sym, ap, _∙_, subst}
 use mathlib.Core.List.{List, [], _∷_}
-use mathlib.Core.Bool.{Bool, true, false, cond}
+use mathlib.Core.Bool.{Bool, true, false, cond, true≢false}
 use borrow.Author.Tests.{le-leb, leb-true}
 use lib.Dec.{leb, eqb}
 use lib.ListN.{length, length-take}
 use Rattle.frame.specs.Framing.{limit}
 use Rattle.frame.specs.Rule.{Output}
-use Rattle.frame.specs.Reader.{State, Called, line, quiet, lineJudged, quietJudged, judgedHeld, stateOf, newReader, Holds, sound, Values, feedValuesOf}
-use Rattle.frame.specs.Reader.{quietValuesOf, quietRefusal, feedRefusal, quietRefusalNumber, lineRefusalNumber, Promise, AfterQuiet}
+use Rattle.frame.specs.Reader.{State, Called, line, quiet, lineJudged, quietJudged, judgedHeld, stateOf, newReader, Holds, sound, Values, feedValuesOf, callRefusal}
+use Rattle.frame.specs.Reader.{quietValuesOf, quietRefusal, feedRefusal, Promise, AfterQuiet}
 use Rattle.frame.specs.Elements.{All}
-use Rattle.frame.specs.Calls.{Phase, Calls, fed, taken, quieted, emptied, feedRefused, quietRefused, done}
-use Rattle.frame.specs.Driving.{refusalsOf, StateNeverRefused, FeedStaysSound, QuietStaysSound}
+use Rattle.frame.specs.Calls.{Answered, Phase, Calls, fed, taken, quieted, emptied, feedRefused, quietRefused, done, Reply, repliesOf}
+use Rattle.frame.specs.Driving.{StateNeverRefused}
+use Rattle.frame.specs.Further.{FeedStaysSound, QuietStaysSound}
 use Rattle.frame.specs.declared.framing.Format.{Format}
 use Rattle.frame.specs.declared.framing.Format.the-variants.{Binary, Ascii}
 use Rattle.frame.specs.declared.reader.Reader.{Reader}
@@ -71,7 +72,7 @@ feed-other r room size l e =
     other-refusal (leb 256 room) (leb size 65536)
     (sym
     (ap
-    (λ (t : Bool). lineRefusalNumber t room size)
+    (λ (t : Bool). callRefusal t 256 room size)
     l)
     ∙ e)
 
@@ -79,7 +80,7 @@ feed-other r room size l e =
 quiet-other : (r : Reader) (room : ℕ) → StateFits r → quietRefusal r room ≡ 16 → ⊥
 quiet-other r room l e =
     other-refusal (leb 256 room) true
-    (sym (ap (λ (t : Bool). quietRefusalNumber t room) l) ∙ e)
+    (sym (ap (λ (t : Bool). callRefusal t 256 room 0) l) ∙ e)
 
 -- A refused call leaves the state as it was; any other leaves one that follows.
 stays :
@@ -114,14 +115,18 @@ quiet-stays-sound r buf a buf′ p l =
     let c : Called = quiet (stateOf r) in
     stays p l (λ k. after-in-limit (r .format) c (c .out .frames) (a .reader) k (le-trans (quiet-size (stateOf r)) (fits-held r l)))
 
+-- What is answered is not refused.
+not-refused : (v : Values) → Answered v → v .number ≡ 16 → ⊥
+not-refused v a e = true≢false (sym a ∙ ap (λ (n : ℕ). eqb n 0) e)
+
 -- Whatever the calls, from a state that fits on.
 never :
     {phase : Phase} {r : Reader} {todo : List ℕ} {out : Output (List ℕ)} (calls : Calls phase r todo out) → StateFits r →
-    All (λ n. n ≡ 16 → ⊥) (refusalsOf calls)
-never (fed {r} chunk more buf buf′ a p n e later) l = never later (feed-stays-sound r chunk buf a buf′ p l .1)
+    All (λ (a : Reply). a .values .number ≡ 16 → ⊥) (repliesOf calls)
+never (fed {r} chunk more buf buf′ a p n e later) l = (not-refused (feedValuesOf (a .answer)) n, never later (feed-stays-sound r chunk buf a buf′ p l .1))
 never (taken later) l = never later l
-never (quieted {r} buf buf′ a p n later) l = never later (quiet-stays-sound r buf a buf′ p l .1)
-never (emptied {r} buf buf′ a p n later) l = never later (quiet-stays-sound r buf a buf′ p l .1)
+never (quieted {r} buf buf′ a p n later) l = (not-refused (quietValuesOf (a .answer)) (n .answered), never later (quiet-stays-sound r buf a buf′ p l .1))
+never (emptied {r} buf buf′ a p n later) l = (not-refused (quietValuesOf (a .answer)) (n .answered), never later (quiet-stays-sound r buf a buf′ p l .1))
 never (feedRefused {r = r} chunk buf buf′ a p n later) l =
     let h = refusing (line (stateOf r) chunk) (lineJudged (stateOf r) chunk) p n in
     let number : feedValuesOf (a .answer) .number ≡ feedRefusal r (length buf) (length chunk) = ap (λ (v : Values). v .number) (h .0) in

@@ -11,10 +11,10 @@ use lib.Seq.{take-append-seam, drop-append-le, drop-drop}
 use Rattle.frame.specs.Checks.{Verdict, cut, refused, frame}
 use Rattle.frame.specs.Hex.{sumOf}
 use Rattle.frame.specs.Framing.{judge, judgedAs, judgedAt, read, isOpen, absorbed, behindOptional, checks}
-use Rattle.frame.specs.Rule.{join, passAfter, places, ruleJudged}
-use Rattle.frame.specs.Reader.{holding, Settled, settleAs, settle, ended, ifFails, judgedTo, leftOut, countFrom, judgedHeld}
-use Rattle.frame.specs.Drain.{judgedAfter}
-use Rattle.frame.specs.Claims.{Decided}
+use Rattle.frame.specs.Rule.{join, places, ruleJudged}
+use Rattle.frame.specs.Reader.{holding, Called, settleAs, settle, ended, ifFails, judgedTo, leftOut, countFrom, judgedHeld}
+use Rattle.frame.specs.Drain.{judgedAfter, passAfter}
+use Rattle.frame.specs.Further.{Decided}
 use Rattle.frame.specs.declared.framing.Format.{Format}
 use Rattle.frame.proofs.Trees.{cut≢refused, cut≢frame}
 use Rattle.frame.proofs.Prefixes.{enough}
@@ -106,12 +106,12 @@ module _ (f : Format) where
           ∙ sym (ap (λ (v : Verdict). judgedAs v (s ++ more)) (judge-stands f s more (frame used p) tt e)))
 
   -- What is still to be judged behind settled bytes, where more follow.
-  abbrev pub behindSettled : Settled → List ℕ → ℕ
-  behindSettled st more = judgedAfter (holding f (st .rest) (st .follows) (judgedHeld (st .out .frames) (st .rest))) more
+  abbrev pub behindSettled : Called → List ℕ → ℕ
+  behindSettled st more = judgedAfter (holding f (st .held) (st .follows) (judgedHeld (st .out .frames) (st .held))) more
 
   -- One place of settled bytes, where the segment goes on.
   settled-at :
-      (b : ℕ) (h more : List ℕ) (later : Settled) (v : Verdict) → judge f (b ∷ h) ≡ v →
+      (b : ℕ) (h more : List ℕ) (later : Called) (v : Verdict) → judge f (b ∷ h) ≡ v →
       ruleJudged f (h ++ more) ≡ judgedTo f (judge f) h + behindSettled later more →
       ruleJudged f ((b ∷ h) ++ more) ≡ judgedAs v (b ∷ h) + ifFails v (judgedTo f (judge f) h) + behindSettled (settleAs f v (b ∷ h) later) more
   unfolding join
@@ -140,7 +140,7 @@ module _ (f : Format) where
 
   -- The same where the segment has ended.
   ended-at :
-      (b : ℕ) (h : List ℕ) (later : Settled) (v : Verdict) → judge f (b ∷ h) ≡ v →
+      (b : ℕ) (h : List ℕ) (later : Called) (v : Verdict) → judge f (b ∷ h) ≡ v →
       ruleJudged f h ≡ judgedTo f (λ x. ended (judge f x)) h + behindSettled later [] →
       ruleJudged f (b ∷ h)
       ≡ judgedAs v (b ∷ h) + ifFails (ended v) (judgedTo f (λ x. ended (judge f x)) h) + behindSettled (settleAs f (ended v) (b ∷ h) later) []

@@ -12,11 +12,11 @@ use Rattle.frame.specs.Checks.{Verdict, cut, refused, frame}
 use Rattle.frame.specs.Framing.{judge, isOpen, limit}
 use Rattle.frame.specs.Rule.{output, join}
 use Rattle.frame.specs.Reader.{settleAs, settle, Called, called, stopped, lineFrom, lineOn, tookFirst, quietHeld}
-use Rattle.frame.specs.Claims.{Sized}
 use Rattle.frame.specs.Scan.{judging, judgedBytes, Stop, found, undecided, passed, Scanned, scanAs, scanFrom}
 use Rattle.frame.specs.View.{part}
 use Rattle.frame.specs.Answer.{beforeScan, calledAs, scanWhole}
 use Rattle.frame.specs.Feeding.{joined}
+use Rattle.frame.specs.Further.{Sized}
 use Rattle.frame.specs.declared.framing.Format.{Format}
 use Rattle.frame.proofs.Lists.{drop-next, drop-take}
 use Rattle.frame.proofs.Framings.{frame-sized, undecided-short}

@@ -12,8 +12,8 @@ use lib.Seq.{drop-drop}
 use Rattle.frame.specs.Checks.{Verdict, cut, refused, frame}
 use Rattle.frame.specs.Framing.{judge, limit}
 use Rattle.frame.specs.Reader.{ended}
-use Rattle.frame.specs.Claims.{Sized}
 use Rattle.frame.specs.Scan.{judging, judgedBytes, Stop, found, undecided, passed, Scanned, scannedTo, scanAs, scanFrom}
+use Rattle.frame.specs.Further.{Sized}
 use Rattle.frame.specs.declared.framing.Format.{Format}
 use Rattle.frame.proofs.Framings.{frame-sized}
 use Rattle.frame.proofs.Prefixes.{refused-sized}

@@ -11,12 +11,13 @@ use lib.ListN.{length, drop, length-append, length-drop}
 use lib.Seq.{drop-append-le, drop-drop}
 use Rattle.frame.specs.Checks.{Verdict, cut, refused, frame}
 use Rattle.frame.specs.Framing.{judge, isOpen, absorbed, limit, behindOptional}
-use Rattle.frame.specs.Rule.{Output, nothing, noiseByte, handed, join}
-use Rattle.frame.specs.Reader.{State, Settled, settleAs, settle, Called, stopped, oneMore, ifFrame, lineFrom, lineOn, lineBehind, line}
+use Rattle.frame.specs.Rule.{Output, nothing, join}
+use Rattle.frame.specs.Reader.{State, Called, settleAs, settle, stopped, oneMore, ifFrame, lineFrom, lineOn, lineBehind, line}
 use Rattle.frame.specs.Reader.{ended, quietHeld, quiet, after}
-use Rattle.frame.specs.Drain.{ruleAfter}
-use Rattle.frame.specs.Claims.{Sized, TakenIsInside, NeedsMoreIsTrue}
+use Rattle.frame.specs.Drain.{ruleAfter, noiseByte, handed}
+use Rattle.frame.specs.Claims.{NeedsMoreIsTrue}
 use Rattle.frame.specs.Draining.{QuietFollowsRule, EmptyIsDrained}
+use Rattle.frame.specs.Further.{Sized, TakenIsInside}
 use Rattle.frame.specs.declared.framing.Format.{Format}
 use Rattle.frame.specs.declared.framing.Format.the-variants.{Binary, Ascii}
 use Rattle.frame.proofs.Shapes.{NoFrame, judge-stands}
@@ -26,7 +27,7 @@ use Rattle.frame.proofs.Rules.{join-nothing, join-assoc, given, givenBe
 
 -- Where no frame came out of settling, no mark is set.
 unmarked-at :
-    (f : Format) (h : List ℕ) (later : Settled) (v : Verdict) → (later .out .frames ≡ [] → later .follows ≡ false) →
+    (f : Format) (h : List ℕ) (later : Called) (v : Verdict) → (later .out .frames ≡ [] → later .follows ≡ false) →
     settleAs f v h later .out .frames ≡ [] → settleAs f v h later .follows ≡ false
 unfolding join
 unmarked-at f h later cut u e = refl
@@ -65,14 +66,14 @@ module _ (f : Format) {A : Type 0} (Fails : Verdict → Type 0) (over : Bool →
     (over-frame : (used : ℕ) (p s : List ℕ) → judge f s ≡ frame used p → over false s ≡ onto (handed p) (over (isOpen f used s) (drop used s))) where
   -- One step of settling.
   settle-at :
-      (more : List ℕ) (b : ℕ) (h : List ℕ) (later : Settled) (v : Verdict) → Agrees f Fails more v (b ∷ h) →
-      over false (h ++ more) ≡ onto (later .out) (over (later .follows) (later .rest ++ more)) →
-      let st : Settled = settleAs f v (b ∷ h) later in over false ((b ∷ h) ++ more) ≡ onto (st .out) (over (st .follows) (st .rest ++ more))
+      (more : List ℕ) (b : ℕ) (h : List ℕ) (later : Called) (v : Verdict) → Agrees f Fails more v (b ∷ h) →
+      over false (h ++ more) ≡ onto (later .out) (over (later .follows) (later .held ++ more)) →
+      let st : Called = settleAs f v (b ∷ h) later in over false ((b ∷ h) ++ more) ≡ onto (st .out) (over (st .follows) (st .held ++ more))
   settle-at more b h later cut a e = sym (onto-nothing (over false ((b ∷ h) ++ more)))
   settle-at more b h later (refused judged n) a e =
       over-noise b (h ++ more) a
       ∙ ap (onto noiseByte) e
-      ∙ sym (onto-join noiseByte (later .out) (over (later .follows) (later .rest ++ more)))
+      ∙ sym (onto-join noiseByte (later .out) (over (later .follows) (later .held ++ more)))
   settle-at more b h later (frame used p) a e =
       over-frame used p ((b ∷ h) ++ more) (a .0)
       ∙ ap₂ (λ (q : Bool) (s : List ℕ). onto (handed p) (over q s))
@@ -82,7 +83,7 @@ module _ (f : Format) {A : Type 0} (Fails : Verdict → Type 0) (over : Bool →
   -- Settled bytes gave what all of them give, and the bytes still held stand for the rest of it.
   settle-over :
       (more : List ℕ) (judgement : List ℕ → Verdict) → ((h : List ℕ) → Agrees f Fails more (judgement h) h) → (h : List ℕ) →
-      let st : Settled = settle f judgement h in over false (h ++ more) ≡ onto (st .out) (over (st .follows) (st .rest ++ more))
+      let st : Called = settle f judgement h in over false (h ++ more) ≡ onto (st .out) (over (st .follows) (st .held ++ more))
   unfolding settle
   settle-over more judgement a [] = sym (onto-nothing (over false more))
   settle-over more judgement a (b ∷ h) =
@@ -90,9 +91,9 @@ module _ (f : Format) {A : Type 0} (Fails : Verdict → Type 0) (over : Bool →
 
   module _ (fails : (judged n : ℕ) → Fails (refused judged n)) where
     -- The call c, begun with st and the bytes todo before it, leaves of them what they still have to give.
-    abbrev Follows : Settled → List ℕ → Called → Type 0
+    abbrev Follows : Called → List ℕ → Called → Type 0
     Follows st todo c =
-        onto (st .out) (over (st .follows) (st .rest ++ todo)) ≡ onto (c .out) (over (c .follows) (c .held ++ drop (c .taken) todo))
+        onto (st .out) (over (st .follows) (st .held ++ todo)) ≡ onto (c .out) (over (c .follows) (c .held ++ drop (c .taken) todo))
 
     -- A decision on held bytes stands.
     stays : (todo h : List ℕ) → Agrees f Fails todo (judge f h) h
@@ -100,22 +101,22 @@ module _ (f : Format) {A : Type 0} (Fails : Verdict → Type 0) (over : Bool →
 
     -- One more byte: where no frame came out, no mark is set.
     follows-step :
-        (st : Settled) (b : ℕ) (todo : List ℕ) (c : Called) (fs : List (List ℕ)) → (fs ≡ [] → st .follows ≡ false) →
-        Follows (settle f (judge f) (st .rest ++ (b ∷ []))) todo c →
+        (st : Called) (b : ℕ) (todo : List ℕ) (c : Called) (fs : List (List ℕ)) → (fs ≡ [] → st .follows ≡ false) →
+        Follows (settle f (judge f) (st .held ++ (b ∷ []))) todo c →
         Follows st (b ∷ todo) (ifFrame fs (stopped st) (oneMore (st .out) c))
     follows-step st b todo c [] u e =
-        ap (λ (q : Bool). onto (st .out) (over q (st .rest ++ (b ∷ todo)))) (u refl)
-        ∙ ap (λ (s : List ℕ). onto (st .out) (over false s)) (sym (append-assoc (st .rest) (b ∷ []) todo))
-        ∙ ap (onto (st .out)) (settle-over todo (judge f) (stays todo) (st .rest ++ (b ∷ [])) ∙ e)
+        ap (λ (q : Bool). onto (st .out) (over q (st .held ++ (b ∷ todo)))) (u refl)
+        ∙ ap (λ (s : List ℕ). onto (st .out) (over false s)) (sym (append-assoc (st .held) (b ∷ []) todo))
+        ∙ ap (onto (st .out)) (settle-over todo (judge f) (stays todo) (st .held ++ (b ∷ [])) ∙ e)
         ∙ sym (onto-join (st .out) (c .out) (over (c .follows) (c .held ++ drop (c .taken) todo)))
     follows-step st b todo c (p ∷ ps) u e = refl
 
     -- A whole chunk.
-    line-follows : (st : Settled) (chunk more : List ℕ) → (st .out .frames ≡ [] → st .follows ≡ false) → Follows st (chunk ++ more) (lineFrom f st chunk)
+    line-follows : (st : Called) (chunk more : List ℕ) → (st .out .frames ≡ [] → st .follows ≡ false) → Follows st (chunk ++ more) (lineFrom f st chunk)
     unfolding lineFrom
     line-follows st [] more u = refl
     line-follows st (b ∷ chunk) more u =
-        let h : List ℕ = st .rest ++ (b ∷ []) in
+        let h : List ℕ = st .held ++ (b ∷ []) in
         follows-step st b (chunk ++ more) (lineFrom f (settle f (judge f) h) chunk) (st .out .frames) u
         (line-follows (settle f (judge f) h) chunk more (unmarked f (judge f) h))
 
@@ -161,26 +162,26 @@ pub record Sound (judgement : List ℕ → Verdict) (out : Output (List ℕ)) (h
 
 -- One step of settling is sound.
 sound-at :
-    (f : Format) (judgement : List ℕ → Verdict) (b : ℕ) (h : List ℕ) (later : Settled) (v : Verdict) → judgement (b ∷ h) ≡ v →
-    Sound judgement (later .out) (later .rest) → Sound judgement (settleAs f v (b ∷ h) later .out) (settleAs f v (b ∷ h) later .rest)
+    (f : Format) (judgement : List ℕ → Verdict) (b : ℕ) (h : List ℕ) (later : Called) (v : Verdict) → judgement (b ∷ h) ≡ v →
+    Sound judgement (later .out) (later .held) → Sound judgement (settleAs f v (b ∷ h) later .out) (settleAs f v (b ∷ h) later .held)
 unfolding join
 sound-at f judgement b h later cut e s = record { one = zero-le; left = λ _. inr e }
 sound-at f judgement b h later (refused judged n) e s = record { one = s .one; left = s .left }
 sound-at f judgement b h later (frame used p) e s = record { one = le-refl 1; left = λ n. absurd (cons≢nil n) }
 
 -- Settling is sound.
-settle-sound : (f : Format) (judgement : List ℕ → Verdict) (h : List ℕ) → Sound judgement (settle f judgement h .out) (settle f judgement h .rest)
+settle-sound : (f : Format) (judgement : List ℕ → Verdict) (h : List ℕ) → Sound judgement (settle f judgement h .out) (settle f judgement h .held)
 unfolding settle
 settle-sound f judgement [] = record { one = zero-le; left = λ _. inl refl }
 settle-sound f judgement (b ∷ h) = sound-at f judgement b h (settle f judgement h) (judgement (b ∷ h)) refl (settle-sound f judgement h)
 
 -- Settled bytes are no more than before.
-size-at : (f : Format) (h : List ℕ) (later : Settled) (v : Verdict) → length (later .rest) ≤ length h → length (settleAs f v h later .rest) ≤ length h
+size-at : (f : Format) (h : List ℕ) (later : Called) (v : Verdict) → length (later .held) ≤ length h → length (settleAs f v h later .held) ≤ length h
 size-at f h later cut l = le-refl (length h)
 size-at f h later (refused judged n) l = l
 size-at f h later (frame used p) l = rw length-drop (omega arith)
 
-settle-size : (f : Format) (judgement : List ℕ → Verdict) (h : List ℕ) → length (settle f judgement h .rest) ≤ length h
+settle-size : (f : Format) (judgement : List ℕ → Verdict) (h : List ℕ) → length (settle f judgement h .held) ≤ length h
 unfolding settle
 settle-size f judgement [] = zero-le
 settle-size f judgement (b ∷ h) = size-at f (b ∷ h) (settle f judgement h) (judgement (b ∷ h)) (le-step (settle-size f judgement h))
@@ -226,8 +227,8 @@ unfolding quietHeld
 quiet-left s e =
     let f : Format = s .format in
     let h : List ℕ = behindOptional f (s .follows) (s .held) in
-    let st : Settled = settle f (λ h. ended (judge f h)) h in
-    ⊎-elim (λ h. h) (λ h. absurd (ended-decides (judge f (st .rest)) h)) (settle-sound f (λ h. ended (judge f h)) h .left e)
+    let st : Called = settle f (λ h. ended (judge f h)) h in
+    ⊎-elim (λ h. h) (λ h. absurd (ended-decides (judge f (st .held)) h)) (settle-sound f (λ h. ended (judge f h)) h .left e)
 
 -- Without an optional byte in front the bytes are no more.
 behind-size : (f : Format) (follows : Bool) (h : List ℕ) → length (behindOptional f follows h) ≤ length h
@@ -260,16 +261,16 @@ module _ (f : Format) where
 
   -- A call over a chunk, begun with st: sound; no more than the chunk is taken, and without a payload all of it; the held bytes stay within
   -- the limit.
-  record LineSound (st : Settled) (chunk : List ℕ) (c : Called) : Type 0 where
+  record LineSound (st : Called) (chunk : List ℕ) (c : Called) : Type 0 where
     sound : Sound (judge f) (c .out) (c .held)
     most : c .taken ≤ length chunk
     all : c .out .frames ≡ [] → c .taken ≡ length chunk
-    size : length (st .rest) ≤ limit f → length (c .held) ≤ limit f
+    size : length (st .held) ≤ limit f → length (c .held) ≤ limit f
 
   -- One more byte.
   sound-step :
-      (st : Settled) (b : ℕ) (chunk : List ℕ) (c : Called) (fs : List (List ℕ)) → st .out .frames ≡ fs →
-      Sound (judge f) (st .out) (st .rest) → LineSound (settle f (judge f) (st .rest ++ (b ∷ []))) chunk c →
+      (st : Called) (b : ℕ) (chunk : List ℕ) (c : Called) (fs : List (List ℕ)) → st .out .frames ≡ fs →
+      Sound (judge f) (st .out) (st .held) → LineSound (settle f (judge f) (st .held ++ (b ∷ []))) chunk c →
       LineSound st (b ∷ chunk) (ifFrame fs (stopped st) (oneMore (st .out) c))
   unfolding join
   sound-step st b chunk c [] e s h =
@@ -278,22 +279,22 @@ module _ (f : Format) where
         sound = record { one = rw same (h .sound .one); left = λ n. h .sound .left (sym same ∙ n) };
         most = suc-le-suc (h .most);
         all = λ n. ap suc (h .all (sym same ∙ n));
-        size = λ _. h .size (le-trans (settle-size f (judge f) (st .rest ++ (b ∷ []))) (grow (st .out) (st .rest) b s e));
+        size = λ _. h .size (le-trans (settle-size f (judge f) (st .held ++ (b ∷ []))) (grow (st .out) (st .held) b s e));
       }
   sound-step st b chunk c (p ∷ ps) e s h = record { sound = s; most = zero-le; all = λ n. absurd (cons≢nil (sym e ∙ n)); size = λ l. l }
 
   -- A whole chunk.
-  lineFrom-sound : (st : Settled) (chunk : List ℕ) → Sound (judge f) (st .out) (st .rest) → LineSound st chunk (lineFrom f st chunk)
+  lineFrom-sound : (st : Called) (chunk : List ℕ) → Sound (judge f) (st .out) (st .held) → LineSound st chunk (lineFrom f st chunk)
   unfolding lineFrom
   lineFrom-sound st [] s = record { sound = s; most = zero-le; all = λ _. refl; size = λ l. l }
   lineFrom-sound st (b ∷ chunk) s =
-      let st′ : Settled = settle f (judge f) (st .rest ++ (b ∷ [])) in
-      let later : LineSound st′ chunk (lineFrom f st′ chunk) = lineFrom-sound st′ chunk (settle-sound f (judge f) (st .rest ++ (b ∷ []))) in
+      let st′ : Called = settle f (judge f) (st .held ++ (b ∷ [])) in
+      let later : LineSound st′ chunk (lineFrom f st′ chunk) = lineFrom-sound st′ chunk (settle-sound f (judge f) (st .held ++ (b ∷ []))) in
       sound-step st b chunk (lineFrom f st′ chunk) (st .out .frames) refl s later
 
 -- Where no frame comes out of a call where no optional byte is to come, no mark is set.
 unmarked-step :
-    (st : Settled) (c : Called) (fs : List (List ℕ)) → st .out .frames ≡ fs → (st .out .frames ≡ [] → st .follows ≡ false) →
+    (st : Called) (c : Called) (fs : List (List ℕ)) → st .out .frames ≡ fs → (st .out .frames ≡ [] → st .follows ≡ false) →
     (c .out .frames ≡ [] → c .follows ≡ false) →
     let d : Called = ifFrame fs (stopped st) (oneMore (st .out) c) in d .out .frames ≡ [] → d .follows ≡ false
 unfolding join
@@ -301,12 +302,12 @@ unmarked-step st c [] e u later n = later (ap (λ (x : List (List ℕ)). x ++ c 
 unmarked-step st c (p ∷ ps) e u later n = u n
 
 lineFrom-unmarked :
-    (f : Format) (st : Settled) (chunk : List ℕ) → (st .out .frames ≡ [] → st .follows ≡ false) →
+    (f : Format) (st : Called) (chunk : List ℕ) → (st .out .frames ≡ [] → st .follows ≡ false) →
     lineFrom f st chunk .out .frames ≡ [] → lineFrom f st chunk .follows ≡ false
 unfolding lineFrom
 lineFrom-unmarked f st [] u = u
 lineFrom-unmarked f st (b ∷ chunk) u =
-    let h : List ℕ = st .rest ++ (b ∷ []) in
+    let h : List ℕ = st .held ++ (b ∷ []) in
     unmarked-step st (lineFrom f (settle f (judge f) h) chunk) (st .out .frames) refl u
     (lineFrom-unmarked f (settle f (judge f) h) chunk (unmarked f (judge f) h))
 

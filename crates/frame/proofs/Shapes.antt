@@ -6,13 +6,13 @@ use mathlib.Core.List.{List, [], _∷_, _++_, dropLast}
 use mathlib.Core.Bool.{Bool, true, false, cond}
 use lib.Dec.{eqb}
 use lib.ListN.{length}
-use Rattle.frame.specs.Checks.{Checks, next, fails, whole, byte, test, Verdict, cut, refused, frame, behind, run}
+use Rattle.frame.specs.Checks.{Checks, next, fails, whole, byte, test, Verdict, cut, refused, frame, behind, run, lastByte}
 use Rattle.frame.specs.Binary.{binary, behindChecksum}
 use Rattle.frame.specs.Digit.{isDigit, digitValue}
 use Rattle.frame.specs.Hex.{pairs, sumOf}
-use Rattle.frame.specs.Ascii.{colon, lineFeed, hexDigits, digitCount, afterDigits, ascii, endsDigits, lineEnd, behindDigits, lineEnding}
+use Rattle.frame.specs.Ascii.{colon, lineFeed, hexDigits, digitCount, afterDigits, ascii, endsDigits, behindDigits, lineEnding}
 use Rattle.frame.specs.Framing.{checks, judge}
-use Rattle.frame.specs.Claims.{Decided}
+use Rattle.frame.specs.Further.{Decided}
 use Rattle.frame.specs.declared.framing.Footer.{Footer}
 use Rattle.frame.specs.declared.framing.Ending.{Ending}
 use Rattle.frame.specs.declared.framing.Ending.the-variants.{CrLf, Any}
@@ -98,7 +98,7 @@ bars-after ds rest h =
 
 -- It is no part of an ending.
 bars-behind : (ending : Ending) (p : List ℕ) → Bars colon (behindDigits ending p)
-unfolding lineEnd byte
+unfolding lastByte byte
 bars-behind CrLf p = (tt, λ b. by-cond (Bars colon) (eqb b lineFeed) (whole p) (fails 5) (λ _. tt) tt)
 bars-behind Any p = tt
 

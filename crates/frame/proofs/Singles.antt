@@ -1,6 +1,6 @@
 -- The promises of the single-frame calls at each of their ways out.
 -- Assumes nothing.
-use Prim.Native.Nat.{ℕ, _≤_, _<_}
+use Prim.Native.Nat.{ℕ, _≤_, _<_, zero-le}
 use native.Mathlib.Omega.{arith}
 use mathlib.Core.Path.{_≡_, refl, sym, ap, _∙_}
 use mathlib.Core.List.{List}
@@ -29,11 +29,15 @@ module _ (f : Format) (s buf : List ℕ) where
   reads-by v a after e h k =
       record { answers = h ∙ ap (λ (w : Verdict). reading w (length buf)) (sym e); leaves = k ∙ ap (λ (w : Verdict). readInto w buf) (sym e) }
 
+  -- No payload has room in any buffer.
+  none-read : cond (leb 0 (length buf)) buf buf ≡ buf
+  none-read = simp (le-leb 0 (length buf) zero-le)
+
   pub reads-cut : read f s ≡ cut → Reads f s buf (ReadRefused Cut) buf
-  reads-cut e = reads-by cut (ReadRefused Cut) buf e refl refl
+  reads-cut e = reads-by cut (ReadRefused Cut) buf e refl (sym none-read)
 
   pub reads-refused : (r : Refusal) (judged : ℕ) → read f s ≡ refused judged (numberOf r) → Reads f s buf (ReadRefused r) buf
-  reads-refused r judged e = reads-by (refused judged (numberOf r)) (ReadRefused r) buf e refl refl
+  reads-refused r judged e = reads-by (refused judged (numberOf r)) (ReadRefused r) buf e refl (sym none-read)
 
   module _ (used len : ℕ) (p : List ℕ) (e : read f s ≡ frame used p) (l : length p ≡ len) where
     pub reads-short : length buf < len → Reads f s buf (ReadRefused Buffer) buf

@@ -6,11 +6,13 @@ use mathlib.Core.List.{List, _∷_, _++_, flatten}
 use mathlib.Core.Bool.{Bool, true, false}
 use lib.ListN.{length}
 use lib.Seq.{drop-append-seam}
-use Rattle.frame.specs.Checks.{frame}
+use Rattle.frame.specs.Checks.{frame, payloadIn}
 use Rattle.frame.specs.Ascii.{colon}
 use Rattle.frame.specs.Framing.{read, isOpen, absorbed}
-use Rattle.frame.specs.Rule.{output, handed, join, foundAt}
-use Rattle.frame.specs.Recovery.{Good, Stretch, none, another, payloadIn, foundsFrom, CleanLine}
+use Rattle.frame.specs.Rule.{output, join, foundAt}
+use Rattle.frame.specs.Recovery.{Good, Stretch, none, another, foundsFrom}
+use Rattle.frame.specs.Further.{CleanLine}
+use Rattle.frame.specs.Drain.{handed}
 use Rattle.frame.specs.declared.framing.Footer.{Footer}
 use Rattle.frame.specs.declared.framing.Footer.the-variants.{Optional, Required}
 use Rattle.frame.specs.declared.framing.Ending.{Ending}

@@ -11,11 +11,13 @@ use lib.ListN.{length, getD, take, drop, length-append, length-drop, take-append
 use lib.Seq.{drop-append-le, drop-cons, drop-length, drop-drop, length-take-le, take-suc, take-length, take-append-seam, drop-append-seam}
 use Rattle.frame.specs.Checks.{Verdict, cut, refused, frame}
 use Rattle.frame.specs.Framing.{checks, judge, isOptional, isOpen, absorbed}
-use Rattle.frame.specs.Rule.{output, nothing, noiseByte, handed, join}
-use Rattle.frame.specs.Reader.{Settled, settled, settleAs, settle, Called, called, stopped, oneMore, ifFrame, lineFrom, lineOn}
+use Rattle.frame.specs.Rule.{output, nothing, join}
+use Rattle.frame.specs.Reader.{Called, called, settleAs, settle, stopped, oneMore, ifFrame, lineFrom, lineOn}
 use Rattle.frame.specs.Reader.{tookFirst, lineBehind, quietHeld, holding, ended, judgedTo, leftOut, countFrom}
-use Rattle.frame.specs.Claims.{remaining, TakenIsNeeded, AsOffered, HeldThenChunk, SameButMark, MarkMeansNothing}
+use Rattle.frame.specs.Claims.{TakenIsNeeded, AsOffered, HeldThenChunk}
 use Rattle.frame.specs.Scan.{judgedBytes}
+use Rattle.frame.specs.Further.{SameButMark, MarkMeansNothing}
+use Rattle.frame.specs.Drain.{noiseByte, handed}
 use Rattle.frame.specs.declared.framing.Format.{Format}
 use Rattle.frame.proofs.Lists.{drop-take}
 use Rattle.frame.proofs.Framings.{frame-sized, some-used}
@@ -29,8 +31,8 @@ noisier k c = called (c .taken) (output (c .out .frames) (k + c .out .noise)) (c
 
 -- Noise that came out before a byte was taken does not change the call.
 noise-more :
-    (st : Settled) (c : Called) (fs : List (List ℕ)) →
-    let st′ : Settled = settled (join noiseByte (st .out)) (st .began) (st .rest) (st .follows) in
+    (st : Called) (c : Called) (fs : List (List ℕ)) →
+    let st′ : Called = called 0 (join noiseByte (st .out)) (st .began) (st .held) (st .follows) in
     ifFrame fs (stopped st′) (oneMore (st′ .out) c) ≡ noisier 1 (ifFrame fs (stopped st) (oneMore (st .out) c))
 unfolding join
 noise-more st c [] = rw add-assoc
@@ -38,14 +40,14 @@ noise-more st c (p ∷ ps) = refl
 
 module _ (f : Format) where
   -- Undecided bytes stay as they are.
-  settle-cut : (h : List ℕ) → judge f h ≡ cut → settle f (judge f) h ≡ settled nothing 0 h false
+  settle-cut : (h : List ℕ) → judge f h ≡ cut → settle f (judge f) h ≡ called 0 nothing 0 h false
   unfolding settle
   settle-cut [] q = refl
   settle-cut (b ∷ h) q = rw q
 
   -- A frame is handed out.
   settle-frame :
-      (h p : List ℕ) (used : ℕ) → judge f h ≡ frame used p → settle f (judge f) h ≡ settled (handed p) (length h) (drop used h) (isOpen f used h)
+      (h p : List ℕ) (used : ℕ) → judge f h ≡ frame used p → settle f (judge f) h ≡ called 0 (handed p) (length h) (drop used h) (isOpen f used h)
   unfolding settle
   settle-frame [] p used q = let size = frame-sized f [] p used q in absurd (not-suc-le-zero (le-trans (size .some) (size .there)))
   settle-frame (b ∷ h) p used q = rw q
@@ -67,11 +69,11 @@ module _ (f : Format) where
 
   -- Nor does it change a call over a whole chunk.
   noise-first :
-      (st : Settled) (chunk : List ℕ) →
-      lineFrom f (settled (join noiseByte (st .out)) (st .began) (st .rest) (st .follows)) chunk ≡ noisier 1 (lineFrom f st chunk)
+      (st : Called) (chunk : List ℕ) →
+      lineFrom f (called 0 (join noiseByte (st .out)) (st .began) (st .held) (st .follows)) chunk ≡ noisier 1 (lineFrom f st chunk)
   unfolding lineFrom join
   noise-first st [] = refl
-  noise-first st (b ∷ chunk) = noise-more st (lineFrom f (settle f (judge f) (st .rest ++ (b ∷ []))) chunk) (st .out .frames)
+  noise-first st (b ∷ chunk) = noise-more st (lineFrom f (settle f (judge f) (st .held ++ (b ∷ []))) chunk) (st .out .frames)
 
   -- A failed start is one byte of noise.
   line-refused :
@@ -142,13 +144,13 @@ module _ (f : Format) where
       rw less (line-refused b (take m s) (drop m s) judged n there)
 
   -- What a call over s hands out and leaves, where the first m bytes of s are held: what all of s gives when it is judged at once.
-  abbrev pub Whole : List ℕ → ℕ → Settled → Type 0
+  abbrev pub Whole : List ℕ → ℕ → Called → Type 0
   Whole s m st =
-      (lineAt s m .out ≡ st .out) × (remaining (lineAt s m) (drop m s) ≡ st .rest) × (lineAt s m .follows ≡ st .follows)
+      (lineAt s m .out ≡ st .out) × (lineAt s m .held ++ drop (lineAt s m .taken) (drop m s) ≡ st .held) × (lineAt s m .follows ≡ st .follows)
       × (m + lineAt s m .taken + st .began ≡ length s + lineAt s m .began)
 
   -- Undecided bytes.
-  whole-cut : (s : List ℕ) (m : ℕ) → m ≤ length s → judge f s ≡ cut → Whole s m (settled nothing 0 s false)
+  whole-cut : (s : List ℕ) (m : ℕ) → m ≤ length s → judge f s ≡ cut → Whole s m (called 0 nothing 0 s false)
   whole-cut s m l q =
       let all : m + (length s - m) ≡ length s = omega arith in
       rw (line-cut s m l q) (refl, rw (drop-drop, all, drop-length) (append-nil s), refl, omega arith)
@@ -156,7 +158,7 @@ module _ (f : Format) where
   -- A frame.
   whole-frame :
       (s : List ℕ) (m used : ℕ) (p : List ℕ) → m ≤ length s → judge f s ≡ frame used p →
-      Whole s m (settled (handed p) (length s) (drop used s) (isOpen f used s))
+      Whole s m (called 0 (handed p) (length s) (drop used s) (isOpen f used s))
   whole-frame s m used p l q =
       let far : ℕ = max m used in
       let there : m + (far - m) ≡ used + (far - used) = omega arith in
@@ -164,8 +166,8 @@ module _ (f : Format) where
 
   -- A failed start, and what the bytes behind it give.
   whole-refused :
-      (b m : ℕ) (s : List ℕ) (judged n : ℕ) (later : Settled) → judge f (b ∷ s) ≡ refused judged n → m ≤ length (b ∷ s) →
-      ((k : ℕ) → k ≤ length s → Whole s k later) → Whole (b ∷ s) m (settled (join noiseByte (later .out)) (later .began) (later .rest) (later .follows))
+      (b m : ℕ) (s : List ℕ) (judged n : ℕ) (later : Called) → judge f (b ∷ s) ≡ refused judged n → m ≤ length (b ∷ s) →
+      ((k : ℕ) → k ≤ length s → Whole s k later) → Whole (b ∷ s) m (called 0 (join noiseByte (later .out)) (later .began) (later .held) (later .follows))
   unfolding join
   whole-refused b m s judged n later q l w =
       let far : ℕ = max m judged in
@@ -282,24 +284,24 @@ mark-means-nothing m e h judged chunk =
 
 -- A call begun with st that took more than n bytes hands out no frame of the first n.
 needed-step :
-    (st : Settled) (c front : Called) (n : ℕ) (fs : List (List ℕ)) → st .out .frames ≡ fs → (n < c .taken → front .out .frames ≡ []) →
+    (st : Called) (c front : Called) (n : ℕ) (fs : List (List ℕ)) → st .out .frames ≡ fs → (n < c .taken → front .out .frames ≡ []) →
     suc n < ifFrame fs (stopped st) (oneMore (st .out) c) .taken → ifFrame fs (stopped st) (oneMore (st .out) front) .out .frames ≡ []
 unfolding join
 needed-step st c front n [] e later h =
     ap₂ (λ (x y : List (List ℕ)). x ++ y) e (later (omega arith))
 needed-step st c front n (p ∷ ps) e later h = absurd (not-suc-le-zero h)
 
-needed-first : (st : Settled) (c : Called) (fs : List (List ℕ)) → 0 < ifFrame fs (stopped st) (oneMore (st .out) c) .taken → fs ≡ []
+needed-first : (st : Called) (c : Called) (fs : List (List ℕ)) → 0 < ifFrame fs (stopped st) (oneMore (st .out) c) .taken → fs ≡ []
 needed-first st c [] h = refl
 needed-first st c (p ∷ ps) h = absurd (not-suc-le-zero h)
 
-needed-from : (f : Format) (st : Settled) (chunk : List ℕ) (n : ℕ) → n < lineFrom f st chunk .taken → lineFrom f st (take n chunk) .out .frames ≡ []
+needed-from : (f : Format) (st : Called) (chunk : List ℕ) (n : ℕ) → n < lineFrom f st chunk .taken → lineFrom f st (take n chunk) .out .frames ≡ []
 unfolding lineFrom
 needed-from f st [] n h = absurd (not-suc-le-zero h)
 needed-from f st (b ∷ chunk) zero h =
-    needed-first st (lineFrom f (settle f (judge f) (st .rest ++ (b ∷ []))) chunk) (st .out .frames) h
+    needed-first st (lineFrom f (settle f (judge f) (st .held ++ (b ∷ []))) chunk) (st .out .frames) h
 needed-from f st (b ∷ chunk) (suc n) h =
-    let st′ : Settled = settle f (judge f) (st .rest ++ (b ∷ [])) in
+    let st′ : Called = settle f (judge f) (st .held ++ (b ∷ [])) in
     needed-step st (lineFrom f st′ chunk) (lineFrom f st′ (take n chunk)) n (st .out .frames) refl (needed-from f st′ chunk n) h
 
 -- A call where no optional byte is to come takes no byte that it can do without.

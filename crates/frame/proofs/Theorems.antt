@@ -2,19 +2,21 @@
 -- Every export has its statement in specs/; a crate above this one names this module alone.
 -- Assumes nothing.
 use Rattle.frame.specs.Framing.{checks}
-use Rattle.frame.specs.Claims.{LayoutReads, EndingsRead, NeverFive, FrameIsLayout, DecisionStands}
-use Rattle.frame.specs.Claims.{UndecidedIsShort, FrameIsSized, ReadIsSized, BytesAddUp, TakenIsInside}
-use Rattle.frame.specs.Claims.{TakenIsNeeded, NeedsMoreIsTrue, HeldThenChunk, MarkMeansNothing, CallsFollowRule, ViewIsFeed, ViewStaysInside}
-use Rattle.frame.specs.Recovery.{CleanLine, AsciiRecovers, BinaryRecovers}
-use Rattle.frame.specs.Recovery.{LateFramesComeBack, AsciiCallsRecover, BinaryCallsRecover, CleanCalls}
-use Rattle.frame.specs.Draining.{LineDrains, NeedsMoreIsDrained, DrainFollowsRule, QuietFollowsRule, EmptyIsDrained}
+use Rattle.frame.specs.Claims.{EndingsRead, NeverFive, FrameIsFrontAndEnding}
+use Rattle.frame.specs.Claims.{BytesAddUp}
+use Rattle.frame.specs.Claims.{TakenIsNeeded, NeedsMoreIsTrue, HeldThenChunk, CallsFollowRule}
+use Rattle.frame.specs.Recovery.{AsciiCallsRecover, BinaryCallsRecover, CleanCalls}
+use Rattle.frame.specs.Draining.{LineDrains, NeedsMoreIsDrained, DrainFollowsRule, QuietFollowsRule, EmptyIsDrained, DrainCounts, DrainSums}
 use Rattle.frame.specs.Draining.{FeedReports, QuietReports, ViewReports, DrainIsSized, RuleIsSized}
-use Rattle.frame.specs.Driving.{CanDrive, DrivesAreShort, StateNeverRefused, FeedStaysSound, QuietStaysSound, EndsFresh}
-use Rattle.frame.specs.Counts.{CallsCount, CallsCountFrom, RuleBound, CallsBound, StateBound, ColonsCount, NestedStartsCount, LineCounts, QuietCounts}
-use Rattle.frame.specs.Counts.{DrainCounts, DrainSums, FrameCounts, AbsorbedNotJudged, Unfinished, OptionalNotJudged, HandMadeCounts}
-use Rattle.frame.specs.Positions.{QuietsAtEnd, CallsGivePositions, CutsAgree, CallsGivePlaces, CallsGiveAfter, NoneIsZero, PositionExamples, PositionsAfterExamples}
+use Rattle.frame.specs.Driving.{CanDrive, DrivesAreShort, StateNeverRefused}
+use Rattle.frame.specs.Counts.{CallsCount, CallsBound}
+use Rattle.frame.specs.Positions.{QuietsAtEnd, CallsGivePositions, CallsGivePlaces}
 use Rattle.frame.specs.MarkExamples.{NextCallTakesIt, OtherFormats, HeldBehindTheFrame, BeganEarlier, QuietEndsIt, AnyEnding}
 use Rattle.frame.specs.RecoveryExamples.{LostAndBack, ProvisoNeeded, MixedFooters, FooterRequired, AsciiBack, MixedLines, StrictLines, LfJudges}
+use Rattle.frame.specs.Further.{FeedsAgree, QuietsAgree, DecisionStands, UndecidedIsShort, FrameIsSized, ReadIsSized, MarkMeansNothing, CleanLine, AsciiRecovers, BinaryRecovers, LateFramesComeBack, FeedStaysSound, QuietStaysSound, EndsFresh, CallsCountFrom, StateBound, LineCounts, QuietCounts, FrameCounts, AbsorbedNotJudged, CutsAgree, CallsGiveAfter, NoneIsZero, LayoutReads, RuleBound, TakenIsInside}
+use Rattle.frame.specs.Views.{ViewIsFeed, ViewStaysInside}
+use Rattle.frame.specs.CountExamples.{ColonsCount, NestedStartsCount, Unfinished, OptionalNotJudged, HandMadeCounts}
+use Rattle.frame.specs.PositionExamples.{PositionExamples, PositionsAfterExamples}
 use Rattle.frame.specs.declared.framing.Footer.{Footer}
 use Rattle.frame.specs.declared.framing.Ending.{Ending}
 use Rattle.frame.specs.declared.framing.Format.{Format}
@@ -32,6 +34,7 @@ use Rattle.frame.proofs.BinaryRecovery as binary-recovery
 use Rattle.frame.proofs.CallsRecovery as calls-recovery
 use Rattle.frame.proofs.Driving as driving
 use Rattle.frame.proofs.Refusals as refusals
+use Rattle.frame.proofs.Agreeing as agreeing
 use Rattle.frame.proofs.Taking as taking
 use Rattle.frame.proofs.RecoveryExamples as recovery-examples
 use Rattle.frame.proofs.MarkExamples as mark-examples
@@ -47,11 +50,11 @@ layout-reads = optional.layout-reads
 pub endings-read : (m : Format) → EndingsRead m
 endings-read = optional.endings-read
 
-pub never-five : NeverFive
+pub never-five : (m : Format) → NeverFive m
 never-five = optional.five-never
 
-pub frame-is-layout : (m : Format) → FrameIsLayout m
-frame-is-layout = optional.frame-is-layout
+pub frame-is-front-and-ending : (m : Format) → FrameIsFrontAndEnding m
+frame-is-front-and-ending = optional.frame-is-front-and-ending
 
 pub decision-stands : (f : Format) → DecisionStands f
 decision-stands f = stands (checks f)
@@ -151,6 +154,13 @@ drives-are-short = driving.drives-are-short
 
 pub state-never-refused : (f : Format) → StateNeverRefused f
 state-never-refused = refusals.state-never-refused
+
+-- The promises leave no answer open.
+pub feeds-agree : FeedsAgree
+feeds-agree = agreeing.feeds-agree
+
+pub quiets-agree : QuietsAgree
+quiets-agree = agreeing.quiets-agree
 
 pub feed-stays-sound : FeedStaysSound
 feed-stays-sound = refusals.feed-stays-sound

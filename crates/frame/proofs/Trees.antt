@@ -15,7 +15,7 @@ use lib.ListN.{length, getD, take, drop, length-append}
 use lib.Seq.{drop-cons, take-at}
 use lib.ListN.{drop-of-length-le}
 use Rattle.frame.specs.Checks.{Checks, next, fails, whole, byte, test, word, bytes, Verdict, cut, refused, frame, behind, run}
-use Rattle.frame.specs.Claims.{Decided}
+use Rattle.frame.specs.Further.{Decided}
 use Rattle.frame.proofs.Numbers.{le-or-lt}
 
 pub behind-behind : (j k : ℕ) (v : Verdict) → behind j (behind k v) ≡ behind (j + k) v

@@ -10,14 +10,14 @@ use lib.Dec.{leb, eqb}
 use lib.ListN.{length, take, drop, length-drop}
 use lib.Seq.{drop-drop}
 use Rattle.frame.specs.Framing.{limit}
-use Rattle.frame.specs.Reader.{State, holding, Called, lineBehind, line, lineJudged, after, stateOf, Holds, refusalValues, valuesAt}
-use Rattle.frame.specs.Reader.{bufferAt, sound, lineRefusalNumber, feedRefusal, feedValuesOf, Feeds}
+use Rattle.frame.specs.Reader.{State, holding, Called, lineBehind, line, lineJudged, after, stateOf, Holds, refusalValues, callRefusal}
+use Rattle.frame.specs.Reader.{bufferAt, sound, feedRefusal, feedValuesOf, Feeds}
 use Rattle.frame.specs.Refusal.{numberOf}
-use Rattle.frame.specs.View.{inside, part, viewed, viewCall, viewJudged, Follows, viewRefusal, Views, Stands}
-use Rattle.frame.specs.Claims.{ViewIsFeed, ViewStaysInside}
+use Rattle.frame.specs.View.{inside, part, viewed, viewCall, viewJudged, NextView, viewRefusal, Views, Stands}
 use Rattle.frame.specs.Draining.{ViewReports}
-use Rattle.frame.specs.Answer.{HeldSo}
+use Rattle.frame.specs.Answer.{HeldSo, valuesAt}
 use Rattle.frame.specs.Feeding.{judgedIn, KeepsCall}
+use Rattle.frame.specs.Views.{ViewIsFeed, ViewStaysInside}
 use Rattle.frame.specs.declared.reader.Reader.{Reader}
 use Rattle.frame.specs.declared.refusal.Refusal.{Refusal}
 use Rattle.frame.specs.declared.answer.Kept.{Kept}
@@ -72,7 +72,7 @@ stands-state v chunk r e h = subst (λ (q : Bool). Holds (cond q (viewed v chunk
 
 -- The view that follows a call lies in the chunk.
 next-inside :
-    (v : View) (chunk : List ℕ) (v′ : View) → Inside v (length chunk) → Follows v chunk (viewCall v chunk) v′ → Inside v′ (length chunk)
+    (v : View) (chunk : List ℕ) (v′ : View) → Inside v (length chunk) → NextView v chunk (viewCall v chunk) v′ → Inside v′ (length chunk)
 next-inside v chunk v′ h k =
     let c : Called = viewCall v chunk in
     let taken : c .taken ≤ length (drop (v .end) chunk) = line-taken (viewed v chunk) (drop (v .end) chunk) in
@@ -101,10 +101,10 @@ same-refusal v chunk room r e h =
     let k = is-inside v (length chunk) e in
     let format : r .format ≡ v .format = ap (λ (s : State). s .format) (h .state) in
     let size : length (part (v .from) (v .end) chunk) ≡ v .end - v .from = part-length v chunk k in
-    ap (λ (q : Bool). lineRefusalNumber q room (length chunk)) (e ∙ sym (holds-fits h (rw size (k .fits)) (rw size (k .few))))
+    ap (λ (q : Bool). callRefusal q 256 room (length chunk)) (e ∙ sym (holds-fits h (rw size (k .fits)) (rw size (k .few))))
 
 -- Where a chunk is not refused, no shorter one is.
-shorter : (q : Bool) (room size less : ℕ) → less ≤ size → lineRefusalNumber q room size ≡ 0 → lineRefusalNumber q room less ≡ 0
+shorter : (q : Bool) (room size less : ℕ) → less ≤ size → callRefusal q 256 room size ≡ 0 → callRefusal q 256 room less ≡ 0
 shorter q room size less l = by q (leb 256 room) (leb size 65536) refl
   where
     by :
@@ -147,16 +147,16 @@ view-is-feed v chunk buf a buf′ r p e h =
 module _ (v : View) (room size : ℕ) where
   -- The refusals of a view's call, in their order.
   pub view-state : inside v size ≡ false → viewRefusal v room size ≡ 16
-  view-state e = ap (λ (q : Bool). lineRefusalNumber q room size) e
+  view-state e = ap (λ (q : Bool). callRefusal q 256 room size) e
 
   pub view-buffer : inside v size ≡ true → room < 256 → viewRefusal v room size ≡ 13
-  view-buffer e h = ap (λ (q : Bool). lineRefusalNumber q room size) e ∙ simp (lt-leb 256 room h)
+  view-buffer e h = ap (λ (q : Bool). callRefusal q 256 room size) e ∙ simp (lt-leb 256 room h)
 
   pub view-chunk : inside v size ≡ true → 256 ≤ room → 65536 < size → viewRefusal v room size ≡ 15
-  view-chunk e h k = ap (λ (q : Bool). lineRefusalNumber q room size) e ∙ simp (le-leb 256 room h, lt-leb size 65536 k)
+  view-chunk e h k = ap (λ (q : Bool). callRefusal q 256 room size) e ∙ simp (le-leb 256 room h, lt-leb size 65536 k)
 
   view-accepted : inside v size ≡ true → 256 ≤ room → size ≤ 65536 → viewRefusal v room size ≡ 0
-  view-accepted e h k = ap (λ (q : Bool). lineRefusalNumber q room size) e ∙ simp (le-leb 256 room h, le-leb size 65536 k)
+  view-accepted e h k = ap (λ (q : Bool). callRefusal q 256 room size) e ∙ simp (le-leb 256 room h, le-leb size 65536 k)
 
 -- A refused call.
 pub refused-views :

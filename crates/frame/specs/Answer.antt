@@ -7,7 +7,7 @@ use lib.ListN.{length, drop}
 use Rattle.frame.specs.Checks.{cut, frame}
 use Rattle.frame.specs.Framing.{judge, isOpen}
 use Rattle.frame.specs.Rule.{output}
-use Rattle.frame.specs.Reader.{Called, called, tookFirst, judgedHeld, feedValuesOf, valuesAt}
+use Rattle.frame.specs.Reader.{Called, called, tookFirst, judgedHeld, Values, feedValuesOf, calledValues}
 use Rattle.frame.specs.View.{part}
 use Rattle.frame.specs.Scan.{Stop, found, undecided, passed, Scanned, scanFrom}
 use Rattle.frame.specs.declared.framing.Format.{Format}
@@ -18,6 +18,10 @@ use Rattle.frame.specs.declared.answer.Kept.{Kept}
 -- What was there before a scan: `base` bytes of the slice were held, `noise` bytes were settled, and the chunk has `size` bytes.
 abbrev pub beforeScan : ℕ → ℕ → ℕ → Before
 beforeScan base noise size = record { base = base; noise = noise; size = size }
+
+-- The values of a call that judged so many bytes.
+abbrev pub valuesAt : Called → ℕ → Values
+valuesAt c judged = calledValues c judged (c .out .frames)
 
 -- Where an answer stands for a call, r stands for the call that took n bytes more, before the others.
 abbrev pub TookFirst : ℕ → FeedAnswer → FeedAnswer → Type 0

@@ -1,12 +1,11 @@
 -- ASCII framing. Document 01, "Two framings": a colon; the payload and one checksum byte, each as two characters of 0-9 A-F;
--- CR LF. The sum of payload and checksum is 0 modulo 256. Document 02, CR 9: a reader may also take any
--- ending: CR, LF or CR LF.
+-- CR LF. The sum of payload and checksum is 0 modulo 256. Document 02, CR 9: a reader may also take any ending: CR, LF or CR LF.
 use Prim.Native.Nat.{ℕ, zero, suc, _-_, _%_}
 use mathlib.Core.List.{List, [], _∷_, _++_, dropLast}
 use mathlib.Core.Bool.{Bool, cond, _&&_, _||_}
 use lib.Dec.{leb, eqb}
 use lib.ListN.{length}
-use Rattle.frame.specs.Checks.{Checks, next, fails, whole, byte, test}
+use Rattle.frame.specs.Checks.{Checks, next, fails, whole, byte, lastByte, test}
 use Rattle.frame.specs.Digit.{isDigit, digitValue}
 use Rattle.frame.specs.Hex.{hex, pairs, sumOf}
 use Rattle.frame.specs.declared.framing.Ending.{Ending}
@@ -58,13 +57,9 @@ abbrev pub endsDigits : Ending → ℕ → Bool
 endsDigits CrLf c = eqb c carriageReturn
 endsDigits Any c = eqb c carriageReturn || eqb c lineFeed
 
--- Behind the CR of the ending CR LF stands LF (5).
-unfoldable pub lineEnd : List ℕ → Checks
-lineEnd p = byte lineFeed 5 (whole p)
-
 -- Behind the character that ended the digits of a frame with the payload p: under the ending CR LF there is LF; under any ending the frame is complete.
 abbrev pub behindDigits : Ending → List ℕ → Checks
-behindDigits CrLf p = lineEnd p
+behindDigits CrLf p = lastByte lineFeed p
 behindDigits Any p = whole p
 
 -- The ending, at the first character c that is no digit: where c does not end digits it is refusal 6; otherwise the digits are judged, and then the characters

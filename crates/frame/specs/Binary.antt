@@ -6,7 +6,7 @@ use mathlib.Core.Bool.{Bool, _&&_}
 use lib.Bits.{bitXor}
 use lib.Dec.{leb}
 use lib.ListN.{length}
-use Rattle.frame.specs.Checks.{Checks, whole, byte, test, word, bytes}
+use Rattle.frame.specs.Checks.{Checks, whole, byte, lastByte, test, word, bytes}
 use Rattle.frame.specs.declared.framing.Footer.{Footer}
 use Rattle.frame.specs.declared.framing.Footer.the-variants.{Optional, Required}
 
@@ -19,13 +19,9 @@ xorFrom a (b ∷ s) = xorFrom (bitXor a b) s
 abbrev pub xorOf : List ℕ → ℕ
 xorOf p = xorFrom 0 p
 
--- A 16-bit number as two bytes.
-abbrev pub bigEndian : ℕ → List ℕ
-bigEndian n = n / 256 ∷ n % 256 ∷ []
-
 -- The published layout, from payload to frame, is a front and an ending. The front: all bytes before the ending.
 unfoldable pub binaryFront : List ℕ → List ℕ
-binaryFront p = 0xA5 ∷ 0x5A ∷ (bigEndian (0x8000 + length p) ++ (p ++ (xorOf p ∷ [])))
+binaryFront p = let w : ℕ = 0x8000 + length p in 0xA5 ∷ 0x5A ∷ w / 256 ∷ w % 256 ∷ (p ++ (xorOf p ∷ []))
 
 -- The footer.
 abbrev pub footerByte : ℕ
@@ -47,11 +43,7 @@ body end n = bytes n (λ p. byte (xorOf p) 4 (end p))
 unfoldable pub binary : (List ℕ → Checks) → Checks
 binary end = byte 0xA5 1 (byte 0x5A 1 (word (λ w. test (lengthWord w) 3 (body end (w - 0x8000)))))
 
--- The footer of a frame with the payload p is there (5).
-unfoldable pub footer : List ℕ → Checks
-footer p = byte footerByte 5 (whole p)
-
--- Behind the checksum of such a frame: where the footer is optional, the frame is complete; where it is required, the footer.
+-- Behind the checksum of a frame with the payload p: where the footer is optional, the frame is complete; where it is required, the footer.
 abbrev pub behindChecksum : Footer → List ℕ → Checks
 behindChecksum Optional p = whole p
-behindChecksum Required p = footer p
+behindChecksum Required p = lastByte footerByte p

@@ -15,6 +15,10 @@ pub data Checks : Type 0 where
 unfoldable pub byte : ℕ → ℕ → Checks → Checks
 byte b n t = next (λ x. cond (eqb x b) t (fails n))
 
+-- The last byte of a frame with the payload p is b (5).
+unfoldable pub lastByte : ℕ → List ℕ → Checks
+lastByte b p = byte b 5 (whole p)
+
 -- The test holds, else refusal n; then t.
 unfoldable pub test : Bool → ℕ → Checks → Checks
 test holds n t = cond holds t (fails n)
@@ -29,12 +33,17 @@ bytes zero t = t []
 bytes (suc k) t = next (λ b. bytes k (λ p. t (b ∷ p)))
 
 -- What stands at the front of a list of bytes: cut short (2); refused, with the count of the bytes judged, the failing one the last, and
--- the number; or a frame, with the count of its bytes and its payload. (An optional byte behind those judged is added to the frame's bytes by `read`,
--- Framing.antt, alone.)
+-- the number; or a frame, with the count of its bytes and its payload.
 pub data Verdict : Type 0 where
   cut : Verdict
   refused : ℕ → ℕ → Verdict
   frame : ℕ → List ℕ → Verdict
+
+-- The payload of a frame; where there is none, it is empty.
+abbrev pub payloadIn : Verdict → List ℕ
+payloadIn cut = []
+payloadIn (refused judged n) = []
+payloadIn (frame used p) = p
 
 -- The verdict on bytes behind k others that were judged before.
 abbrev pub behind : ℕ → Verdict → Verdict

@@ -3,6 +3,7 @@ use Prim.Native.Nat.{ℕ, zero, suc, _+_, _*_}
 use mathlib.Core.List.{List, [], _∷_, map}
 use mathlib.Core.Path.{_≡_}
 use mathlib.Core.Bool.{Bool, true, cond, _&&_}
+use Rattle.frame.specs.Elements.{All}
 use Rattle.frame.specs.Digit.{isDigit, digitValue}
 use Rattle.frame.specs.Hex.{pairs}
 
@@ -13,8 +14,7 @@ allPass test (c ∷ s) = test c && allPass test s
 
 -- Every character is a digit.
 abbrev pub Digits : List ℕ → Type 0
-Digits [] = Unit {0}
-Digits (c ∷ s) = (isDigit c ≡ true) × Digits s
+Digits s = All (λ c. isDigit c ≡ true) s
 
 -- The number that bytes stand for in little-endian order.
 abbrev pub littleEndian : List ℕ → ℕ

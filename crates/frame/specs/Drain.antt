@@ -1,33 +1,45 @@
 -- What all line calls over one chunk give together. Document 01, "The leftmost rule and the line reader": the caller calls again with the rest, even an
 -- empty rest, until more bytes are needed.
-use Prim.Native.Nat.{ℕ, zero, suc, _-_}
+use Prim.Native.Nat.{ℕ, zero, suc, pred, _-_}
 use mathlib.Core.List.{List, [], _∷_, _++_}
 use mathlib.Core.Bool.{Bool, false, cond, _&&_}
 use lib.ListN.{length}
 use Rattle.frame.specs.Checks.{Verdict, cut, refused, frame}
 use Rattle.frame.specs.Framing.{judge, isOpen, isOptional, behindOptional}
-use Rattle.frame.specs.Rule.{Output, nothing, noiseByte, handed, join, passAfter, rule, ruleJudged, payloads}
+use Rattle.frame.specs.Rule.{Output, output, nothing, join, onBy, rule, ruleJudged, payloads}
 use Rattle.frame.specs.Reader.{State, holding, countFrom}
 use Rattle.frame.specs.declared.framing.Format.{Format}
 
 -- What was drained of bytes: what they gave, those that stay, and the mark.
 pub record Drained : Type 0 where
   pub out : Output (List ℕ)
-  pub rest : List ℕ
+  pub held : List ℕ
   pub follows : Bool
 
 abbrev pub drained : Output (List ℕ) → List ℕ → Bool → Drained
-drained out rest follows = record { out = out; rest = rest; follows = follows }
+drained out held follows = record { out = out; held = held; follows = follows }
 
 -- An output, and then what was drained.
 abbrev pub before : Output (List ℕ) → Drained → Drained
-before o d = drained (join o (d .out)) (d .rest) (d .follows)
+before o d = drained (join o (d .out)) (d .held) (d .follows)
+
+-- A byte of noise, and what is handed out, as outputs.
+module _ {A : Type 0} where
+  abbrev pub noiseByte : Output A
+  noiseByte = output [] 1
+
+  abbrev pub handed : A → Output A
+  handed x = output (x ∷ []) 0
 
 -- The rule at a place of a segment that goes on: undecided bytes stay.
 abbrev pub drainAs : Verdict → List ℕ → Drained → Drained
 drainAs cut s later = drained nothing s false
 drainAs (refused judged n) s later = before noiseByte later
 drainAs (frame used p) s later = before (handed p) later
+
+-- How many bytes behind a place the rule passes over.
+abbrev pub passAfter : Verdict → ℕ
+passAfter v = pred (onBy v)
 
 -- Whether an optional byte may follow what stands at the front of s.
 abbrev pub followsAfter : Format → Verdict → List ℕ → Bool
@@ -49,7 +61,7 @@ abbrev pub drain : State → List ℕ → Drained
 drain s chunk = drainFrom (s .format) (s .follows) 0 (s .held ++ chunk)
 
 abbrev pub afterDrain : State → Drained → State
-afterDrain s d = holding (s .format) (d .rest) (d .follows) (length (d .rest))
+afterDrain s d = holding (s .format) (d .held) (d .follows) (length (d .held))
 
 -- What the rule gives from a state on, where these bytes are still to come.
 abbrev pub ruleAfter : State → List ℕ → Output (List ℕ)

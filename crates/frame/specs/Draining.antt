@@ -11,8 +11,8 @@ use Rattle.frame.specs.Hex.{sumOf}
 use Rattle.frame.specs.Rule.{Output, nothing, join, rule, payloads}
 use Rattle.frame.specs.Reader.{State, Called, line, quiet, lineJudged, quietJudged, after, stateOf, Holds, Values, feedValuesOf}
 use Rattle.frame.specs.Reader.{quietValuesOf, feedRefusal, quietRefusal, Feeds, AfterQuiet, Quiets}
-use Rattle.frame.specs.View.{viewCall, viewJudged, Follows, viewRefusal, Views}
-use Rattle.frame.specs.Drain.{Drained, drained, before, drain, afterDrain, ruleAfter}
+use Rattle.frame.specs.View.{viewCall, viewJudged, NextView, viewRefusal, Views}
+use Rattle.frame.specs.Drain.{Drained, drained, before, drain, afterDrain, ruleAfter, judgedAfter, drainJudged}
 use Rattle.frame.specs.Calls.{Refused, Answered, outOf}
 use Rattle.frame.specs.declared.framing.Footer.the-variants.{Optional, Required}
 use Rattle.frame.specs.declared.framing.Ending.the-variants.{CrLf, Any}
@@ -50,7 +50,7 @@ EmptyIsDrained = (s : State) → quiet s .out .frames ≡ [] → quiet s .held �
 
 -- What the answer of a call that gives c and judges so many bytes says. Not refused: what it hands out, the bytes that it takes and judges and the state that
 -- follows are those of the call; refused: the number, and state and buffer stay. A payload is within the buffer as it then is, and no more is taken than the
--- call takes. (Where a frame began is not said here.)
+-- call takes. Where a frame began is no part of it.
 pub record Reports {S : Type 0} (number : ℕ) (c : Called) (judged : ℕ) (Next : S → Type 0) (s : S) (buf : List ℕ) (v : Values) (s′ : S) (buf′ : List ℕ)
     : Type 0 where
   pub inside : v .len ≤ length buf′
@@ -78,7 +78,7 @@ abbrev pub ViewReports : Type 0
 ViewReports =
     (v : View) (chunk buf : List ℕ) (a : Viewed) (buf′ : List ℕ) → Views v chunk buf a buf′ →
     let c : Called = viewCall v chunk in
-    Reports (viewRefusal v (length buf) (length chunk)) c (viewJudged v chunk) (Follows v chunk c) v buf (feedValuesOf (a .answer)) (a .view) buf′
+    Reports (viewRefusal v (length buf) (length chunk)) c (viewJudged v chunk) (NextView v chunk c) v buf (feedValuesOf (a .answer)) (a .view) buf′
 
 -- The bytes of a frame besides its payload, at least: of a binary one 5, and 6 where the footer is required. An ASCII one has two
 -- characters for each byte of its payload, of which one is counted here, and 5 more, or 4 under any ending; so 6 and 5 for a payload of one byte.
@@ -96,8 +96,23 @@ sizeOf m o = sumOf (map (λ p. length p + overhead m) (o .frames)) + o .noise
 abbrev pub DrainIsSized : Type 0
 DrainIsSized =
     (s : State) (chunk : List ℕ) →
-    let d : Drained = drain s chunk in sizeOf (s .format) (d .out) + length (d .rest) ≤ length (s .held) + length chunk
+    let d : Drained = drain s chunk in sizeOf (s .format) (d .out) + length (d .held) ≤ length (s .held) + length chunk
 
 -- What the rule gives takes no more than the segment has.
 abbrev pub RuleIsSized : Format → Type 0
 RuleIsSized m = (s : List ℕ) → sizeOf m (payloads (rule m s)) ≤ length s
+
+-- The line calls over a chunk do so together, whatever bytes follow it.
+abbrev pub DrainCounts : Type 0
+DrainCounts =
+    (s : State) (chunk more : List ℕ) → s .judged ≤ length (s .held) →
+    judgedAfter s (chunk ++ more) ≡ drainJudged s chunk + judgedAfter (afterDrain s (drain s chunk)) more
+
+-- What they count together is the sum of what each of them counts: the first call's, and then those of the others over what is left of the chunk; none where
+-- the call needed more bytes.
+pub record DrainIsSum (s : State) (chunk : List ℕ) : Type 0 where
+  pub first : drainJudged s chunk ≡ lineJudged s chunk + drainJudged (after s (line s chunk)) (drop (line s chunk .taken) chunk)
+  pub last : line s chunk .out .frames ≡ [] → drainJudged (after s (line s chunk)) [] ≡ 0
+
+abbrev pub DrainSums : Type 0
+DrainSums = (s : State) (chunk : List ℕ) → s .judged ≤ length (s .held) → DrainIsSum s chunk

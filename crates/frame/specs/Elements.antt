@@ -3,11 +3,6 @@ use Prim.Native.Nat.{ℕ, _<_}
 use mathlib.Core.List.{List, [], _∷_, filter}
 use mathlib.Core.Bool.{Bool, true, Bool-discrete}
 
--- Every element is a byte.
-abbrev pub Bytes : List ℕ → Type 0
-Bytes [] = Unit {0}
-Bytes (b ∷ s) = (b < 256) × Bytes s
-
 module _ {A : Type 0} where
   -- Every element has the property.
   abbrev pub All : (A → Type 0) → List A → Type 0
@@ -17,3 +12,7 @@ module _ {A : Type 0} where
   -- The elements that pass a test, in their order.
   abbrev pub select : (A → Bool) → List A → List A
   select test xs = filter (λ x. Bool-discrete (test x) true) xs
+
+-- Every element is a byte.
+abbrev pub Bytes : List ℕ → Type 0
+Bytes s = All (λ b. b < 256) s

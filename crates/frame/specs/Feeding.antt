@@ -6,8 +6,9 @@ use mathlib.Core.List.{List, _++_}
 use mathlib.Core.Bool.{Bool, false}
 use lib.ListN.{length, take, drop}
 use Rattle.frame.specs.Framing.{limit}
-use Rattle.frame.specs.Reader.{holding, Called, lineOn, lineBehind, lineJudged, AfterQuiet, feedValuesOf, quietValuesOf, valuesAt, bufferAt}
+use Rattle.frame.specs.Reader.{holding, Called, lineOn, lineBehind, lineJudged, AfterQuiet, feedValuesOf, quietValuesOf, bufferAt}
 use Rattle.frame.specs.View.{part}
+use Rattle.frame.specs.Answer.{valuesAt}
 use Rattle.frame.specs.declared.framing.Format.{Format}
 use Rattle.frame.specs.declared.answer.Kept.{Kept}
 use Rattle.frame.specs.declared.reader.Left.{Left}

@@ -20,14 +20,10 @@ abbrev pub front : Framing → List ℕ → List ℕ
 front BinaryFraming p = binaryFront p
 front AsciiFraming p = asciiFront p
 
--- The bytes of the published ending.
-abbrev pub endingBytes : Framing → List ℕ
-endingBytes BinaryFraming = binaryEnding
-endingBytes AsciiFraming = asciiEnding
-
 -- The published layout, from payload to frame.
 abbrev pub layout : Framing → List ℕ → List ℕ
-layout f p = front f p ++ endingBytes f
+layout BinaryFraming p = front BinaryFraming p ++ binaryEnding
+layout AsciiFraming p = front AsciiFraming p ++ asciiEnding
 
 -- The format in which a framing is read where none is named. Document 02, CR 2: binary frames with the footer and without it; CR 9: the strict ending.
 abbrev pub formatOf : Framing → Format
@@ -91,7 +87,7 @@ absorbed m true (b ∷ s) = cond (isOptional m b) 1 0
 abbrev pub behindOptional : Format → Bool → List ℕ → List ℕ
 behindOptional m follows s = drop (absorbed m follows s) s
 
--- A frame of s that was judged, with the optional byte that follows it.
+-- A frame of s that was judged, with the optional byte that follows it, which is counted among its bytes here alone.
 abbrev pub withOptional : Format → List ℕ → Verdict → Verdict
 withOptional m s cut = cut
 withOptional m s (refused judged n) = refused judged n

@@ -4,10 +4,9 @@ use mathlib.Core.List.{List}
 use mathlib.Core.Path.{_≡_}
 use mathlib.Core.Bool.{Bool, true}
 use lib.ListN.{length, getD, take, drop}
-use Rattle.frame.specs.Checks.{Checks, whole, byte, test, Verdict, cut, refused, frame, behind, run}
+use Rattle.frame.specs.Checks.{Checks, whole, lastByte, test, Verdict, cut, refused, frame, behind, run}
 use Rattle.frame.specs.Ascii.{colon, endsDigits}
 use Rattle.frame.specs.DigitRuns.{Digits, decoded}
-use Rattle.frame.specs.Framing.{inFront}
 use Rattle.frame.specs.Refusal.{numberOf}
 use Rattle.frame.specs.declared.framing.Ending.{Ending}
 use Rattle.frame.specs.declared.framing.Framing.{Framing}
@@ -42,12 +41,6 @@ abbrev pub verdictOf : Format → List ℕ → Judged → Verdict
 verdictOf f s Undecided = cut
 verdictOf f s (Failed r judged) = refused judged (numberOf r)
 verdictOf f s (Frame used len) = frame used (payloadAt f s len)
-
--- The buffer after a verdict: a frame's payload stands in its front.
-abbrev pub handedOut : Verdict → List ℕ → List ℕ
-handedOut cut buf = buf
-handedOut (refused judged n) buf = buf
-handedOut (frame used p) buf = inFront p buf
 
 -- s begins with a colon, has room for an even count of digits, for a payload of 16 to 31 bytes and its checksum, and a character behind them that ends digits.
 -- Whether those are digits is not said.
@@ -86,7 +79,7 @@ EndedSo s end right rest len r =
 
 -- Where one byte, `last`, is left (5).
 abbrev pub Ended : List ℕ → ℕ → Bool → ℕ → ℕ → Judged → Type 0
-Ended s end right last len r = EndedSo s end right (λ p. byte last 5 (whole p)) len r
+Ended s end right last len r = EndedSo s end right (lastByte last) len r
 
 -- Where nothing is left.
 abbrev pub Completed : ℕ → Bool → ℕ → Judged → Type 0

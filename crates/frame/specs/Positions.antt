@@ -2,24 +2,17 @@
 -- of each frame. Document 02, CR 14.
 use Prim.Native.Nat.{ℕ, _+_, _-_, _≤_, max}
 use mathlib.Core.Path.{_≡_}
-use mathlib.Core.List.{List, [], _∷_, _++_, map}
-use mathlib.Core.Bool.{true, false}
+use mathlib.Core.List.{List, [], _∷_, _++_, map, flatten}
+use mathlib.Core.Bool.{true}
 use lib.ListN.{length}
 use Rattle.frame.specs.Checks.{Verdict, cut, refused, frame}
-use Rattle.frame.specs.Framing.{judgedAt, read, absorbed, behindOptional}
-use Rattle.frame.specs.Rule.{Output, onBy, places, Found, outFrom, rule}
-use Rattle.frame.specs.Reader.{State, holding, line, quiet, stateOf, newReader, Values, feedValuesOf, quietValuesOf}
+use Rattle.frame.specs.Framing.{judgedAt, read}
+use Rattle.frame.specs.Rule.{Output, onBy, places, Found, rule}
+use Rattle.frame.specs.Reader.{newReader}
 use Rattle.frame.specs.Elements.{All}
-use Rattle.frame.specs.Calls.{outOf, Phase, offering, Calls, fed, taken, quieted, emptied, feedRefused, quietRefused, done}
-use Rattle.frame.specs.RecoveryExamples.{response, success, asciiFrame, four}
-use Rattle.frame.specs.MarkExamples.{firstFrame, failsLate, unfinished}
-use Rattle.frame.specs.declared.framing.Footer.the-variants.{Optional, Required}
-use Rattle.frame.specs.declared.framing.Ending.the-variants.{CrLf, Any}
+use Rattle.frame.specs.Calls.{Answered, outOf, Phase, offering, Calls, Reply, repliesOf}
 use Rattle.frame.specs.declared.framing.Format.{Format}
-use Rattle.frame.specs.declared.framing.Format.the-variants.{Binary, Ascii}
 use Rattle.frame.specs.declared.reader.Reader.{Reader}
-use Rattle.frame.specs.declared.answer.FeedAnswer.{FeedAnswer}
-use Rattle.frame.specs.declared.answer.QuietAnswer.{QuietAnswer}
 
 -- A frame's payload, and where it began: `began` bytes before the index `reach`.
 pub record Position : Type 0 where
@@ -47,38 +40,25 @@ positionsFrom f reach place (s ∷ ss) =
 abbrev pub rulePositions : Format → List ℕ → List Position
 rulePositions f s = positionsFrom f 0 0 (places f 0 s)
 
--- What an answer says of a frame that it hands out, where the buffer then holds `buf` and the number counts back from the index `reach`.
-abbrev pub positionOf : Values → List ℕ → ℕ → List Position
-positionOf v buf reach = map (λ p. position p reach (v .began)) (outOf v buf .frames)
+-- What a reply says of a frame that it hands out, where the number counts back from the index `reach`.
+abbrev pub positionOf : Reply → ℕ → List Position
+positionOf a reach = map (λ p. position p reach (a .values .began)) (outOf (a .values) (a .buffer) .frames)
 
--- What the answers of a list of calls say, in order, where `at` bytes of the segment were taken before it: a number counts back from the index that is the bytes
--- taken up to and with its call, by the answers, refusals too.
+-- Replies in order, each with the index that its number counts back from: the bytes taken up to and with its call, by the replies, refusals too; `at` were
+-- taken before the first.
+abbrev pub reached : ℕ → List Reply → List (Reply × ℕ)
+reached at [] = []
+reached at (a ∷ later) = let at′ : ℕ = at + a .values .taken in (a, at′) ∷ reached at′ later
+
+-- What the replies of a list of calls say, in order, where `at` bytes of the segment were taken before it.
 abbrev pub positionsBy : {phase : Phase} {r : Reader} {todo : List ℕ} {out : Output (List ℕ)} → ℕ → Calls phase r todo out → List Position
-positionsBy at (fed chunk more buf buf′ a p n e later) =
-    let v : Values = feedValuesOf (a .answer) in positionOf v buf′ (at + v .taken) ++ positionsBy (at + v .taken) later
-positionsBy at (taken later) = positionsBy at later
-positionsBy at (quieted buf buf′ a p n later) =
-    let v : Values = quietValuesOf (a .answer) in positionOf v buf′ (at + v .taken) ++ positionsBy (at + v .taken) later
-positionsBy at (emptied buf buf′ a p n later) = positionsBy (at + quietValuesOf (a .answer) .taken) later
-positionsBy at (feedRefused chunk buf buf′ a p n later) = positionsBy (at + feedValuesOf (a .answer) .taken) later
-positionsBy at (quietRefused buf buf′ a p n later) = positionsBy (at + quietValuesOf (a .answer) .taken) later
-positionsBy at done = []
+positionsBy at calls = flatten (map (λ (x : Reply × ℕ). positionOf (x .0) (x .1)) (reached at (repliesOf calls)))
 
--- Of quiet calls that is the segment's end. The bytes taken up to and with each that is answered:
-abbrev pub takenAtQuiets : {phase : Phase} {r : Reader} {todo : List ℕ} {out : Output (List ℕ)} → ℕ → Calls phase r todo out → List ℕ
-takenAtQuiets at (fed chunk more buf buf′ a p n e later) = takenAtQuiets (at + feedValuesOf (a .answer) .taken) later
-takenAtQuiets at (taken later) = takenAtQuiets at later
-takenAtQuiets at (quieted buf buf′ a p n later) = let at′ : ℕ = at + quietValuesOf (a .answer) .taken in at′ ∷ takenAtQuiets at′ later
-takenAtQuiets at (emptied buf buf′ a p n later) = let at′ : ℕ = at + quietValuesOf (a .answer) .taken in at′ ∷ takenAtQuiets at′ later
-takenAtQuiets at (feedRefused chunk buf buf′ a p n later) = takenAtQuiets (at + feedValuesOf (a .answer) .taken) later
-takenAtQuiets at (quietRefused buf buf′ a p n later) = takenAtQuiets (at + quietValuesOf (a .answer) .taken) later
-takenAtQuiets at done = []
-
--- They are all bytes of the segment.
+-- Of a quiet call that is not refused that index is the segment's end.
 abbrev pub QuietsAtEnd : Type 0
 QuietsAtEnd =
     (r : Reader) (segment : List ℕ) (out : Output (List ℕ)) (calls : Calls offering r segment out) →
-    All (λ n. n ≡ length segment) (takenAtQuiets 0 calls)
+    All (λ (x : Reply × ℕ). x .0 .isQuiet ≡ true → Answered (x .0 .values) → x .1 ≡ length segment) (reached 0 (repliesOf calls))
 
 -- Any list of calls says what is worked out from the segment alone: bytes were taken up to the furthest one that the rule had judged by then, and the number
 -- is the index behind that byte less the frame's place; so of a frame that a quiet call hands out it is the segment's length less the place.
@@ -87,19 +67,9 @@ CallsGivePositions f =
     (segment : List ℕ) (out : Output (List ℕ)) (calls : Calls offering (newReader f) segment out) →
     positionsBy 0 calls ≡ rulePositions f segment
 
--- And so it is the same for every cut of the segment, whatever the calls.
-abbrev pub CutsAgree : Format → Type 0
-CutsAgree f =
-    (segment : List ℕ) (out out′ : Output (List ℕ)) (a : Calls offering (newReader f) segment out) (b : Calls offering (newReader f) segment out′) →
-    positionsBy 0 a ≡ positionsBy 0 b
-
--- Where an answer says that a frame began.
-abbrev pub placeOf : Position → ℕ
-placeOf x = x .reach - x .began
-
 -- What is said gives the places of frames, in order, each with its payload; no number is larger than the index that it counts back from.
 pub record GivesPlaces (said : List Position) (frames : List Found) : Type 0 where
-  pub place : map placeOf said ≡ map (λ (x : Found). x .place) frames
+  pub place : map (λ (x : Position). x .reach - x .began) said ≡ map (λ (x : Found). x .place) frames
   pub payload : map (λ (x : Position). x .payload) said ≡ map (λ (x : Found). x .payload) frames
   pub inside : All (λ (x : Position). x .began ≤ x .reach) said
 
@@ -108,61 +78,3 @@ abbrev pub CallsGivePlaces : Format → Type 0
 CallsGivePlaces f =
     (segment : List ℕ) (out : Output (List ℕ)) (calls : Calls offering (newReader f) segment out) →
     GivesPlaces (positionsBy 0 calls) (rule f segment .frames)
-
--- The same from any reader, where `todo` is still to come. All indices count from the first held byte, the held bytes were taken before, and the first place
--- lies behind an absorbed byte, if there is one. From a new reader it is what is claimed above.
-abbrev pub firstAfter : State → List ℕ → ℕ
-firstAfter s todo = absorbed (s .format) (s .follows) (s .held ++ todo)
-
-abbrev pub placesAfter : State → List ℕ → List (List ℕ)
-placesAfter s todo = places (s .format) 0 (behindOptional (s .format) (s .follows) (s .held ++ todo))
-
-abbrev pub positionsAfter : State → List ℕ → List Position
-positionsAfter s todo = positionsFrom (s .format) (length (s .held)) (firstAfter s todo) (placesAfter s todo)
-
-pub record GivesAfter (s : State) (todo : List ℕ) (said : List Position) : Type 0 where
-  pub positions : said ≡ positionsAfter s todo
-  pub frames : GivesPlaces said (outFrom (s .format) (firstAfter s todo) (placesAfter s todo) .frames)
-
-abbrev pub CallsGiveAfter : Type 0
-CallsGiveAfter =
-    (r : Reader) (todo : List ℕ) (out : Output (List ℕ)) (calls : Calls offering r todo out) →
-    let count : ℕ = length (stateOf r .held) in GivesAfter (stateOf r) todo (positionsBy count calls)
-
--- A call that hands out no frame gives 0 there; so does every refusal or answer without a frame, by the definition of their values.
-pub record NoneIsZero : Type 0 where
-  pub lineCall : (s : State) (chunk : List ℕ) → line s chunk .out .frames ≡ [] → line s chunk .began ≡ 0
-  pub quietCall : (s : State) → quiet s .out .frames ≡ [] → quiet s .began ≡ 0
-  pub lineAnswer : (a : FeedAnswer) → feedValuesOf a .isFrame ≡ false → feedValuesOf a .began ≡ 0
-  pub quietAnswer : (a : QuietAnswer) → quietValuesOf a .isFrame ≡ false → quietValuesOf a .began ≡ 0
-
--- Another frame of six bytes, without its 04.
-abbrev pub secondFrame : List ℕ
-secondFrame = 0xA5 ∷ 0x5A ∷ 0x80 ∷ 0x01 ∷ 0x22 ∷ 0x22 ∷ []
-
--- Examples. On a clean line the number is the frame's length, without an optional byte, which the next call takes. A frame that lies wholly within the bytes
--- judged at an earlier start, one that fails late or is unfinished at the quiet, is counted from the end of those bytes, as is every frame within them.
-pub record PositionExamples : Type 0 where
-  pub clean : rulePositions (Binary Optional) (firstFrame ++ secondFrame) ≡ position (0x11 ∷ []) 6 6 ∷ position (0x22 ∷ []) 12 6 ∷ []
-  pub optional : rulePositions (Binary Optional) (response ++ secondFrame) ≡ position success 9 9 ∷ position (0x22 ∷ []) 16 6 ∷ []
-  pub required : rulePositions (Binary Required) (response ++ response) ≡ position success 10 10 ∷ position success 20 10 ∷ []
-  pub anyEnding : rulePositions (Ascii Any) (asciiFrame ++ asciiFrame) ≡ position four 12 12 ∷ position four 25 12 ∷ []
-  pub behindColon : rulePositions (Ascii CrLf) (0x3A ∷ asciiFrame) ≡ position four 14 13 ∷ []
-  pub late : rulePositions (Binary Optional) failsLate ≡ position (0x11 ∷ []) 13 9 ∷ []
-  pub lateRequired : rulePositions (Binary Required) failsLate ≡ position (0x11 ∷ []) 13 9 ∷ []
-  pub lateTwice :
-      rulePositions (Binary Optional) (0xA5 ∷ 0x5A ∷ 0x80 ∷ 0x0C ∷ (firstFrame ++ (secondFrame ++ (0x01 ∷ firstFrame))))
-      ≡ position (0x11 ∷ []) 17 13 ∷ position (0x22 ∷ []) 17 7 ∷ position (0x11 ∷ []) 23 6 ∷ []
-  pub atQuiet : rulePositions (Binary Optional) unfinished ≡ position success 14 10 ∷ []
-  pub atQuietTwice :
-      rulePositions (Binary Optional) (0xA5 ∷ 0x5A ∷ 0x80 ∷ 0x20 ∷ (firstFrame ++ secondFrame))
-      ≡ position (0x11 ∷ []) 16 12 ∷ position (0x22 ∷ []) 16 6 ∷ []
-
--- From states made by hand: two held frames, and an optional byte that is held before one.
-pub record PositionsAfterExamples : Type 0 where
-  pub twoHeld :
-      positionsAfter (holding (Ascii CrLf) (asciiFrame ++ asciiFrame) false 0) []
-      ≡ position four 26 26 ∷ position four 26 13 ∷ []
-  pub optionalHeld :
-      positionsAfter (holding (Binary Optional) (0x04 ∷ firstFrame) true 0) secondFrame
-      ≡ position (0x11 ∷ []) 7 6 ∷ position (0x22 ∷ []) 13 6 ∷ []

@@ -9,7 +9,7 @@ use lib.ListN.{length, take, drop, replicate}
 use Rattle.frame.specs.Checks.{Verdict, cut, refused, frame}
 use Rattle.frame.specs.Framing.{judge, judgedAt, isOpen, absorbed, behindOptional, limit, inFront}
 use Rattle.frame.specs.Refusal.{numberOf}
-use Rattle.frame.specs.Rule.{Output, nothing, noiseByte, handed, join}
+use Rattle.frame.specs.Rule.{Output, output, nothing, join}
 use Rattle.frame.specs.declared.framing.Format.{Format}
 use Rattle.frame.specs.declared.reader.Reader.{Reader}
 use Rattle.frame.specs.declared.reader.Fed.{Fed}
@@ -21,7 +21,7 @@ use Rattle.frame.specs.declared.answer.QuietAnswer.the-variants.{Frame a
 
 -- What a reader's calls depend on: its format, the bytes that it holds, and the mark of document 02, CR 2 and 9: whether an optional byte may still follow the
 -- last frame and belong to it. In a format without such a byte it means nothing (MarkMeansNothing, Claims.antt). CR 7: how many of the held bytes were judged
--- at the first held place; in a sound state it changes nothing but the count of judged bytes.
+-- at the first held place, which changes nothing but the count of judged bytes.
 pub record State : Type 0 where
   pub format : Format
   pub held : List ℕ
@@ -31,30 +31,8 @@ pub record State : Type 0 where
 abbrev pub holding : Format → List ℕ → Bool → ℕ → State
 holding m h follows judged = record { format = m; held = h; follows = follows; judged = judged }
 
--- Bytes after judging: what they gave; how far before the first untaken byte the frame that came out began (document 02, CR 14), 0 where none did; those that
--- are still held; and the mark.
-pub record Settled : Type 0 where
-  pub out : Output (List ℕ)
-  pub began : ℕ
-  pub rest : List ℕ
-  pub follows : Bool
-
-abbrev pub settled : Output (List ℕ) → ℕ → List ℕ → Bool → Settled
-settled out began rest follows = record { out = out; began = began; rest = rest; follows = follows }
-
--- The held bytes h, judged so: undecided, they stay; a frame is handed out, which began as many bytes before the first untaken one as h has, and an optional
--- byte may follow it where it is open; at a failed start one byte is noise, and the rest is judged again.
-abbrev pub settleAs : Format → Verdict → List ℕ → Settled → Settled
-settleAs m cut h later = settled nothing 0 h false
-settleAs m (refused judged n) h later = settled (join noiseByte (later .out)) (later .began) (later .rest) (later .follows)
-settleAs m (frame used p) h later = settled (handed p) (length h) (drop used h) (isOpen m used h)
-
-unfoldable pub settle : Format → (List ℕ → Verdict) → List ℕ → Settled
-settle m judgement [] = settled nothing 0 [] false
-settle m judgement (b ∷ h) = let later : Settled = settle m judgement h in settleAs m (judgement (b ∷ h)) (b ∷ h) later
-
--- What a call gives: bytes taken; what came out; how far before the first untaken byte the frame that came out began, 0 where none did; the bytes held
--- afterwards; and the mark.
+-- What a call gives: bytes taken; what came out; how far before the first untaken byte the frame that came out began (document 02, CR 14), 0 where none did;
+-- the bytes held afterwards; and the mark.
 pub record Called : Type 0 where
   pub taken : ℕ
   pub out : Output (List ℕ)
@@ -65,9 +43,20 @@ pub record Called : Type 0 where
 abbrev pub called : ℕ → Output (List ℕ) → ℕ → List ℕ → Bool → Called
 called taken out began held follows = record { taken = taken; out = out; began = began; held = held; follows = follows }
 
+-- What the held bytes h give, judged so, before any other byte is taken: undecided, they stay; a frame is handed out, which began as many bytes before the
+-- first untaken one as h has, and an optional byte may follow it where it is open; at a failed start one byte is noise, and the rest is judged again.
+abbrev pub settleAs : Format → Verdict → List ℕ → Called → Called
+settleAs m cut h later = called 0 nothing 0 h false
+settleAs m (refused judged n) h later = called 0 (join (output [] 1) (later .out)) (later .began) (later .held) (later .follows)
+settleAs m (frame used p) h later = called 0 (output (p ∷ []) 0) (length h) (drop used h) (isOpen m used h)
+
+unfoldable pub settle : Format → (List ℕ → Verdict) → List ℕ → Called
+settle m judgement [] = called 0 nothing 0 [] false
+settle m judgement (b ∷ h) = let later : Called = settle m judgement h in settleAs m (judgement (b ∷ h)) (b ∷ h) later
+
 -- The call stops here.
-abbrev pub stopped : Settled → Called
-stopped st = called 0 (st .out) (st .began) (st .rest) (st .follows)
+abbrev pub stopped : Called → Called
+stopped st = called 0 (st .out) (st .began) (st .held) (st .follows)
 
 -- The call took one byte more, after `out` had come out.
 abbrev pub oneMore : Output (List ℕ) → Called → Called
@@ -80,10 +69,10 @@ ifFrame (p ∷ ps) a b = a
 
 -- The line call over a chunk, byte by byte. A further byte is taken only while the held bytes are empty or undecided; the call stops as
 -- soon as a frame completes, or with the chunk used up.
-unfoldable pub lineFrom : Format → Settled → List ℕ → Called
+unfoldable pub lineFrom : Format → Called → List ℕ → Called
 lineFrom m st [] = stopped st
 lineFrom m st (b ∷ chunk) =
-    let next : Called = oneMore (st .out) (lineFrom m (settle m (judge m) (st .rest ++ (b ∷ []))) chunk) in
+    let next : Called = oneMore (st .out) (lineFrom m (settle m (judge m) (st .held ++ (b ∷ []))) chunk) in
     ifFrame (st .out .frames) (stopped st) next
 
 -- The line call where h is held and no optional byte is to come.
@@ -105,14 +94,13 @@ lineBehind m follows (b ∷ h) chunk = lineOn m (behindOptional m follows (b ∷
 abbrev pub line : State → List ℕ → Called
 line s chunk = lineBehind (s .format) (s .follows) (s .held) chunk
 
--- At a quiet the held bytes end the segment: an unfinished frame fails like any other. (The 0 is of no use here: how many bytes are judged at a place is
--- `judgedAt`.)
+-- At a quiet the held bytes end the segment: an unfinished frame fails like any other. How many bytes were judged at its place is said by `judgedAt` alone.
 abbrev pub ended : Verdict → Verdict
 ended cut = refused 0 2
 ended (refused judged n) = refused judged n
 ended (frame used p) = frame used p
 
--- Where a frame began is so counted from the segment's end.
+-- The quiet call where h is held and no optional byte is to come. Where a frame began is counted from the end of h, which is the segment's.
 unfoldable pub quietHeld : Format → List ℕ → Called
 quietHeld m h = stopped (settle m (λ h. ended (judge m h)) h)
 
@@ -210,9 +198,6 @@ abbrev pub calledValues : Called → ℕ → List (List ℕ) → Values
 calledValues c judged [] = noFrameValues (c .taken) (c .out .noise) judged
 calledValues c judged (p ∷ ps) = frameValues (c .taken) (c .out .noise) judged (length p) (c .began)
 
-abbrev pub valuesAt : Called → ℕ → Values
-valuesAt c judged = calledValues c judged (c .out .frames)
-
 -- The buffer afterwards, by the payloads that came out.
 abbrev pub bufferAt : List (List ℕ) → List ℕ → List ℕ
 bufferAt [] buf = buf
@@ -225,18 +210,17 @@ canHold m count judged = leb count (limit m) && leb judged count
 abbrev pub sound : Reader → Bool
 sound r = canHold (r .format) (r .count) (r .judged)
 
--- The refusals of a quiet call, in their order: 16 where the state is not sound, 13; of a line call: 16, 13, 15. 0: none.
-abbrev pub quietRefusalNumber : Bool → ℕ → ℕ
-quietRefusalNumber sound room = cond sound (cond (leb 256 room) 0 13) 16
+-- The refusals of a call, in their order: 16 where the state is not sound, 13 where the buffer has under `least` bytes, 15 where more than 65,536 bytes are
+-- offered. 0: none.
+abbrev pub callRefusal : Bool → ℕ → ℕ → ℕ → ℕ
+callRefusal isSound least room size = cond isSound (cond (leb least room) (cond (leb size 65536) 0 15) 13) 16
 
-abbrev pub lineRefusalNumber : Bool → ℕ → ℕ → ℕ
-lineRefusalNumber sound room size = cond sound (cond (leb 256 room) (cond (leb size 65536) 0 15) 13) 16
-
+-- Those of a quiet call, which offers no bytes, and of a line call.
 abbrev pub quietRefusal : Reader → ℕ → ℕ
-quietRefusal r room = quietRefusalNumber (sound r) room
+quietRefusal r room = callRefusal (sound r) 256 room 0
 
 abbrev pub feedRefusal : Reader → ℕ → ℕ → ℕ
-feedRefusal r room size = lineRefusalNumber (sound r) room size
+feedRefusal r room size = callRefusal (sound r) 256 room size
 
 -- What any call with a state and a buffer promises, by its refusal's number, 0 for none. Refused, it answers `refusal`, and state and buffer stay.
 -- Otherwise it answers `answer`, the state that follows has the property Next, and the buffer holds `filled`.
@@ -248,7 +232,7 @@ pub record Promise {A S : Type 0} (number : ℕ) (refusal answer : A) (Next : S 
 -- The promise of a reader's call that gives c and judges so many bytes.
 abbrev pub Gives : {S : Type 0} → ℕ → Called → ℕ → (S → Type 0) → S → List ℕ → Values → S → List ℕ → Type 0
 Gives number c judged Next s buf values s′ buf′ =
-    Promise number (refusalValues number) (valuesAt c judged) Next (bufferAt (c .out .frames) buf) s buf values s′ buf′
+    Promise number (refusalValues number) (calledValues c judged (c .out .frames)) Next (bufferAt (c .out .frames) buf) s buf values s′ buf′
 
 -- The promise of a line call with the reader r, a chunk and a buffer.
 abbrev pub Feeds : Reader → List ℕ → List ℕ → Fed → List ℕ → Type 0

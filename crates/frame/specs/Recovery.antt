@@ -4,11 +4,11 @@
 -- mixed as they come.
 use Prim.Native.Nat.{ℕ, suc, _+_, _≤_, _<_}
 use mathlib.Core.Path.{_≡_}
-use mathlib.Core.List.{List, [], _∷_, _++_, map, flatten, List·Memᴰ}
+use mathlib.Core.List.{List, [], _∷_, _++_, flatten, List·Memᴰ}
 use mathlib.Core.Bool.{Bool, true, not, _&&_}
 use lib.Dec.{leb, ltb}
 use lib.ListN.{length, getD}
-use Rattle.frame.specs.Checks.{Verdict, cut, refused, frame}
+use Rattle.frame.specs.Checks.{frame, payloadIn}
 use Rattle.frame.specs.Framing.{read}
 use Rattle.frame.specs.Rule.{Output, output, join, Found, foundAt, rule, payloads}
 use Rattle.frame.specs.Reader.{newReader}
@@ -29,22 +29,11 @@ pub data Stretch (f : Format) : List (List ℕ) → Type 0 where
   none : Stretch f []
   another : {g : List ℕ} {gs : List (List ℕ)} → Good f g → Stretch f gs → Stretch f (g ∷ gs)
 
-abbrev pub payloadIn : Verdict → List ℕ
-payloadIn cut = []
-payloadIn (refused judged n) = []
-payloadIn (frame used p) = p
-
 -- Its frames, the first of which begins at `place`.
 abbrev pub foundsFrom : Format → ℕ → List (List ℕ) → List Found
 foundsFrom f place [] = []
 foundsFrom f place (g ∷ gs) =
     foundAt place (length g) (payloadIn (read f g)) ∷ foundsFrom f (place + length g) gs
-
--- The rule over damage and a stretch in ASCII framing: what the damage alone gives, then every good frame, in order, and no noise.
-abbrev pub AsciiRecovers : Ending → Type 0
-AsciiRecovers ending =
-    (damage : List ℕ) (gs : List (List ℕ)) → Stretch (Ascii ending) gs →
-    rule (Ascii ending) (damage ++ flatten gs) ≡ join (rule (Ascii ending) damage) (output (foundsFrom (Ascii ending) (length damage) gs) 0)
 
 -- The places at which the frames of a stretch begin, the first at `place`.
 abbrev pub starts : ℕ → List (List ℕ) → List ℕ
@@ -63,7 +52,7 @@ reaches place x = ltb place (x .place + x .used)
 -- A place lies in none of the frames.
 abbrev pub inNone : ℕ → List Found → Bool
 inNone place [] = true
-inNone place (x ∷ xs) = not (leb (x .place) place && ltb place (x .place + x .used)) && inNone place xs
+inNone place (x ∷ xs) = not (leb (x .place) place && reaches place x) && inNone place xs
 
 -- The good frames behind damage whose first byte lies in none of the frames `early`.
 abbrev pub clearOf : Footer → List Found → List ℕ → List (List ℕ) → List Found
@@ -80,41 +69,22 @@ pub record Recovered (footer : Footer) (damage : List ℕ) (gs : List (List ℕ)
   pub reach : All (λ x. x .place + x .used ≤ length damage + 260) (earlyOf footer damage gs)
   pub frames : rule (Binary footer) (damage ++ flatten gs) .frames ≡ earlyOf footer damage gs ++ clearOf footer (earlyOf footer damage gs) damage gs
 
-abbrev pub BinaryRecovers : Footer → Type 0
-BinaryRecovers footer = (damage : List ℕ) (gs : List (List ℕ)) → Stretch (Binary footer) gs → PairsBegin gs → Recovered footer damage gs
-
--- And so every good frame that begins 260 or more bytes into the stretch is handed out.
-abbrev pub LateFramesComeBack : Footer → Type 0
-LateFramesComeBack footer =
-    (damage : List ℕ) (gs : List (List ℕ)) → Stretch (Binary footer) gs → PairsBegin gs → (x : Found) →
-    List·Memᴰ x (foundsFrom (Binary footer) (length damage) gs) → length damage + 260 ≤ x .place →
-    List·Memᴰ x (rule (Binary footer) (damage ++ flatten gs) .frames)
-
--- With no damage, in any format and without the proviso: every good frame, in order, and no noise.
-abbrev pub CleanLine : Format → Type 0
-CleanLine f = (gs : List (List ℕ)) → Stretch f gs → rule f (flatten gs) ≡ output (foundsFrom f 0 gs) 0
-
--- The payloads of a stretch.
-abbrev pub payloadsOf : Format → List (List ℕ) → List (List ℕ)
-payloadsOf f gs = map (λ g. payloadIn (read f g)) gs
-
 -- Any list of calls over damage and a stretch in ASCII framing hands out what the damage alone gives, then every good frame's payload, in
 -- order, and adds no noise.
 abbrev pub AsciiCallsRecover : Ending → Type 0
 AsciiCallsRecover ending =
     (damage : List ℕ) (gs : List (List ℕ)) (out : Output (List ℕ)) → Stretch (Ascii ending) gs →
     Calls offering (newReader (Ascii ending)) (damage ++ flatten gs) out →
-    out ≡ join (payloads (rule (Ascii ending) damage)) (output (payloadsOf (Ascii ending) gs) 0)
+    out ≡ payloads (join (rule (Ascii ending) damage) (output (foundsFrom (Ascii ending) (length damage) gs) 0))
 
 -- What calls over damage and a stretch in binary framing hand out: the payloads of the frames that begin in the damage, then those of the
 -- good frames clear of them, among which are all that begin 260 or more bytes into the stretch; the noise is the rule's.
 pub record CallsRecovered (footer : Footer) (damage : List ℕ) (gs : List (List ℕ)) (out : Output (List ℕ)) : Type 0 where
   pub found : Recovered footer damage gs
-  pub frames : out .frames ≡ map (λ (x : Found). x .payload) (earlyOf footer damage gs ++ clearOf footer (earlyOf footer damage gs) damage gs)
+  pub given : out ≡ payloads (rule (Binary footer) (damage ++ flatten gs))
   pub late :
       (x : Found) → List·Memᴰ x (foundsFrom (Binary footer) (length damage) gs) → length damage + 260 ≤ x .place →
       List·Memᴰ x (clearOf footer (earlyOf footer damage gs) damage gs)
-  pub noise : out .noise ≡ rule (Binary footer) (damage ++ flatten gs) .noise
 
 abbrev pub BinaryCallsRecover : Footer → Type 0
 BinaryCallsRecover footer =
@@ -125,4 +95,4 @@ BinaryCallsRecover footer =
 abbrev pub CleanCalls : Format → Type 0
 CleanCalls f =
     (gs : List (List ℕ)) (out : Output (List ℕ)) → Stretch f gs → Calls offering (newReader f) (flatten gs) out →
-    out ≡ output (payloadsOf f gs) 0
+    out ≡ payloads (output (foundsFrom f 0 gs) 0)

@@ -20,12 +20,6 @@ module _ {A : Type 0} where
   abbrev pub nothing : Output A
   nothing = output [] 0
 
-  abbrev pub noiseByte : Output A
-  noiseByte = output [] 1
-
-  abbrev pub handed : A → Output A
-  handed x = output (x ∷ []) 0
-
   -- One output and then another.
   unfoldable pub join : Output A → Output A → Output A
   join a b = output (a .frames ++ b .frames) (a .noise + b .noise)
@@ -37,14 +31,10 @@ onBy cut = 1
 onBy (refused judged n) = 1
 onBy (frame used p) = used
 
--- How many bytes behind a place it passes over.
-abbrev pub passAfter : Verdict → ℕ
-passAfter v = pred (onBy v)
-
 -- The places at which the rule stands in s, with `pass` bytes to pass over first: each as the bytes from there on.
 unfoldable pub places : Format → ℕ → List ℕ → List (List ℕ)
 places f pass [] = []
-places f zero (b ∷ s) = (b ∷ s) ∷ places f (passAfter (read f (b ∷ s))) s
+places f zero (b ∷ s) = (b ∷ s) ∷ places f (pred (onBy (read f (b ∷ s)))) s
 places f (suc pass) (b ∷ s) = places f pass s
 
 -- A frame of a segment: the place at which it begins, the bytes it uses, its payload.
@@ -58,9 +48,9 @@ foundAt place used p = record { place = place; used = used; payload = p }
 
 -- What the rule gives at a place: a frame is handed out, otherwise one byte is noise.
 abbrev pub outAt : ℕ → Verdict → Output Found
-outAt place cut = noiseByte
-outAt place (refused judged n) = noiseByte
-outAt place (frame used p) = handed (foundAt place used p)
+outAt place cut = output [] 1
+outAt place (refused judged n) = output [] 1
+outAt place (frame used p) = output (foundAt place used p ∷ []) 0
 
 -- What it gives at places in order, the first of which is `place`.
 unfoldable pub outFrom : Format → ℕ → List (List ℕ) → Output Found

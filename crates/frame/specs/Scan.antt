@@ -2,13 +2,13 @@
 -- `line` gives.
 use Prim.Native.Nat.{ℕ, zero, suc, _+_, _-_, _*_, _≤_, _<_, max}
 use mathlib.Core.Path.{_≡_}
-use mathlib.Core.List.{List}
+use mathlib.Core.List.{List, [], _∷_}
 use mathlib.Core.Bool.{Bool, true, false, not}
 use lib.Dec.{eqb}
 use lib.ListN.{length, getD, take, drop}
 use Rattle.frame.specs.Checks.{Verdict, cut, refused, frame}
-use Rattle.frame.specs.Framing.{judge, judgedAt, inFront}
-use Rattle.frame.specs.Reader.{ended, ifFails}
+use Rattle.frame.specs.Framing.{judge, judgedAs, judgedAt}
+use Rattle.frame.specs.Reader.{ended, ifFails, bufferAt}
 use Rattle.frame.specs.DigitRuns.{allPass}
 use Rattle.frame.specs.Judged.{payloadAt}
 use Rattle.frame.specs.declared.framing.Format.{Format}
@@ -24,9 +24,7 @@ judging false f s = judge f s
 
 -- How many bytes were judged for a decision.
 abbrev pub judgedBytes : Verdict → ℕ
-judgedBytes cut = 0
-judgedBytes (refused judged n) = judged
-judgedBytes (frame used p) = used
+judgedBytes v = judgedAs v []
 
 -- Where a scan stops: at a frame with its count of bytes and payload, at undecided bytes, or behind the last place.
 pub data Stop : Type 0 where
@@ -93,11 +91,14 @@ scanned f s r = scannedTo (r .place) (r .reach) (stopOf f (drop (r .place) s) (r
 abbrev pub stoppedAt : ℕ → ℕ → ℕ → ScanEnd → ScanResult
 stoppedAt place reach judged end = record { place = place; reach = reach; judged = judged; end = end }
 
--- The buffer after a scan that stopped so.
+-- The payload that was found, if any, and the buffer after a scan that stopped so.
+abbrev pub stopFrames : Stop → List (List ℕ)
+stopFrames (found used p) = p ∷ []
+stopFrames undecided = []
+stopFrames passed = []
+
 abbrev pub stopBuffer : Stop → List ℕ → List ℕ
-stopBuffer (found used p) buf = inFront p buf
-stopBuffer undecided buf = buf
-stopBuffer passed buf = buf
+stopBuffer stop buf = bufferAt (stopFrames stop) buf
 
 -- Whether a frame may start at a place of s: where it may, the byte there starts one; where it may not, it does not, or another start follows it.
 pub record MayStart (s : List ℕ) (start place : ℕ) (may : Bool) : Type 0 where

@@ -5,7 +5,7 @@ use mathlib.Core.List.{List}
 use mathlib.Core.Bool.{Bool, cond, _&&_}
 use lib.Dec.{leb}
 use lib.ListN.{length}
-use Rattle.frame.specs.Checks.{Verdict, cut, refused, frame}
+use Rattle.frame.specs.Checks.{Verdict, cut, refused, frame, payloadIn}
 use Rattle.frame.specs.Framing.{read, layout, inFront}
 use Rattle.frame.specs.Refusal.{numberOf}
 use Rattle.frame.specs.declared.framing.Framing.{Framing}
@@ -43,9 +43,7 @@ reading (frame used p) room =
 
 -- What a read leaves in the buffer.
 abbrev pub readInto : Verdict → List ℕ → List ℕ
-readInto cut buf = buf
-readInto (refused judged n) buf = buf
-readInto (frame used p) buf = cond (leb (length p) (length buf)) (inFront p buf) buf
+readInto v buf = cond (leb (length (payloadIn v)) (length buf)) (inFront (payloadIn v) buf) buf
 
 -- The promise of a read of s into buf, which then holds `after`.
 pub record Reads (m : Format) (s buf : List ℕ) (answer : ReadAnswer) (after : List ℕ) : Type 0 where

@@ -5,7 +5,7 @@ use mathlib.Core.List.{List, []}
 use mathlib.Core.Bool.{Bool, false, cond, _&&_}
 use lib.Dec.{leb}
 use lib.ListN.{length, take, drop}
-use Rattle.frame.specs.Reader.{State, holding, Called, line, lineJudged, after, Holds, feedValuesOf, canHold, lineRefusalNumber, Gives}
+use Rattle.frame.specs.Reader.{State, holding, Called, line, lineJudged, after, Holds, feedValuesOf, canHold, Gives, callRefusal}
 use Rattle.frame.specs.declared.reader.Reader.{Reader}
 use Rattle.frame.specs.declared.view.View.{View}
 use Rattle.frame.specs.declared.view.Viewed.{Viewed}
@@ -31,20 +31,20 @@ abbrev pub viewJudged : View → List ℕ → ℕ
 viewJudged v chunk = lineJudged (viewed v chunk) (drop (v .end) chunk)
 
 -- The view that follows a call: it ends behind the bytes taken, and stands for the state that follows.
-pub record Follows (v : View) (chunk : List ℕ) (c : Called) (v′ : View) : Type 0 where
+pub record NextView (v : View) (chunk : List ℕ) (c : Called) (v′ : View) : Type 0 where
   pub end : v′ .end ≡ v .end + c .taken
   pub from : v′ .from + length (c .held) ≡ v′ .end
   pub state : viewed v′ chunk ≡ after (viewed v chunk) c
 
 -- The refusals of a view's call: 16, also where its bytes do not lie in the chunk; 13; 15, for a chunk over 65,536 bytes.
 abbrev pub viewRefusal : View → ℕ → ℕ → ℕ
-viewRefusal v room size = lineRefusalNumber (inside v size) room size
+viewRefusal v room size = callRefusal (inside v size) 256 room size
 
 -- The promise of a view's call with a chunk and a buffer.
 abbrev pub Views : View → List ℕ → List ℕ → Viewed → List ℕ → Type 0
 Views v chunk buf a buf′ =
     let c : Called = viewCall v chunk in
-    Gives (viewRefusal v (length buf) (length chunk)) c (viewJudged v chunk) (Follows v chunk c) v buf (feedValuesOf (a .answer)) (a .view) buf′
+    Gives (viewRefusal v (length buf) (length chunk)) c (viewJudged v chunk) (NextView v chunk c) v buf (feedValuesOf (a .answer)) (a .view) buf′
 
 -- The reader that a view stands for; one that holds nothing, without the mark, where `inside` fails, which is where the view's call is refused with 16.
 abbrev pub Stands : View → List ℕ → Reader → Type 0

@@ -12,12 +12,12 @@ ghost use Prim.Native.Nat.{_≤_, _<_, _+_, _*_, _%_};
 ghost use lib.ListN.{length, getD, take, drop};
 ghost use Rattle.frame.specs.declared.framing.Format.the-variants.{Ascii};
 ghost use Rattle.frame.specs.declared.framing.Framing.the-variants.{Ascii as AsciiFraming};
-ghost use Rattle.frame.specs.Checks.{run, behind};
+ghost use Rattle.frame.specs.Checks.{run, behind, payloadIn};
 ghost use Rattle.frame.specs.Hex.{sumOf};
 ghost use Rattle.frame.specs.Ascii.{endsDigits, hexDigits, lineEnding};
 ghost use Rattle.frame.specs.Framing.{judge, inFront, layout};
 ghost use Rattle.frame.specs.DigitRuns.{Digits, digitRun, decoded};
-ghost use Rattle.frame.specs.Judged.{verdictOf, handedOut, Short};
+ghost use Rattle.frame.specs.Judged.{verdictOf, Short};
 
 // Whether digits end, and are judged, at the character c.
 fn ends_digits(ending: Ending, c: u8) -> bool
@@ -154,7 +154,7 @@ fn extract_short(ending: Ending, s: &[u8], count: usize, buf: &mut [u8]) -> Judg
     requires { ⌜ Short ending (now s) count ⌝ }
     requires { ⌜ 256 ≤ length (now buf) ⌝ }
     ensures { λ r. ⌜ judge (Ascii ending) (now (s .entry)) ≡ verdictOf (Ascii ending) (now (s .entry)) r ⌝ }
-    ensures { λ r. ⌜ now (buf .exit) ≡ handedOut (judge (Ascii ending) (now (s .entry))) (now (buf .entry)) ⌝ }
+    ensures { λ r. ⌜ now (buf .exit) ≡ inFront (payloadIn (judge (Ascii ending) (now (s .entry)))) (now (buf .entry)) ⌝ }
 {
     let n = count / 2;
     let end = 1 + count;
@@ -181,7 +181,7 @@ pub(crate) fn unpack(s: &[u8], len: usize, buf: &mut [u8])
 pub(crate) fn extract(ending: Ending, s: &[u8], buf: &mut [u8]) -> Judged
     requires { ⌜ 256 ≤ length (now buf) ⌝ }
     ensures { λ r. ⌜ judge (Ascii ending) (now (s .entry)) ≡ verdictOf (Ascii ending) (now (s .entry)) r ⌝ }
-    ensures { λ r. ⌜ now (buf .exit) ≡ handedOut (judge (Ascii ending) (now (s .entry))) (now (buf .entry)) ⌝ }
+    ensures { λ r. ⌜ now (buf .exit) ≡ inFront (payloadIn (judge (Ascii ending) (now (s .entry)))) (now (buf .entry)) ⌝ }
 {
     let count = run_behind(s);
     if is_short(ending, s, count) {

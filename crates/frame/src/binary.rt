@@ -10,9 +10,9 @@ ghost use lib.ListN.{length, take, drop};
 ghost use Rattle.frame.specs.declared.framing.Format.the-variants.{Binary};
 ghost use Rattle.frame.specs.declared.framing.Framing.the-variants.{Binary as BinaryFraming};
 ghost use Rattle.frame.specs.Binary.{xorOf, body, behindChecksum};
-ghost use Rattle.frame.specs.Checks.{run, behind};
+ghost use Rattle.frame.specs.Checks.{run, behind, payloadIn};
 ghost use Rattle.frame.specs.Framing.{judge, inFront, layout};
-ghost use Rattle.frame.specs.Judged.{verdictOf, handedOut};
+ghost use Rattle.frame.specs.Judged.{verdictOf};
 
 // The XOR of all bytes.
 pub(crate) fn xor_of(s: &[u8]) -> u8
@@ -103,7 +103,7 @@ pub(crate) fn unpack(s: &[u8], len: usize, buf: &mut [u8])
 pub(crate) fn extract(footer: Footer, s: &[u8], buf: &mut [u8]) -> Judged
     requires { ⌜ 256 ≤ length (now buf) ⌝ }
     ensures { λ r. ⌜ judge (Binary footer) (now (s .entry)) ≡ verdictOf (Binary footer) (now (s .entry)) r ⌝ }
-    ensures { λ r. ⌜ now (buf .exit) ≡ handedOut (judge (Binary footer) (now (s .entry))) (now (buf .entry)) ⌝ }
+    ensures { λ r. ⌜ now (buf .exit) ≡ inFront (payloadIn (judge (Binary footer) (now (s .entry)))) (now (buf .entry)) ⌝ }
 {
     let verdict = judge(footer, s);
     if let Judged::Frame { used: _, len } = verdict {

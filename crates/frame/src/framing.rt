@@ -6,8 +6,9 @@ use crate::refusal::Refusal;
 ghost use mathlib.Core.Path.{_≡_};
 ghost use Prim.Native.Nat.{ℕ, _≤_, _<_};
 ghost use lib.ListN.{length};
+ghost use Rattle.frame.specs.Checks.{payloadIn};
 ghost use Rattle.frame.specs.Framing.{formatOf, judge, layout, limit, inFront, mayFollow, isOpen, isOptional, absorbed};
-ghost use Rattle.frame.specs.Judged.{verdictOf, handedOut, payloadAt, HasPayload, frameLength, startOf, passedBy, Ended, Completed};
+ghost use Rattle.frame.specs.Judged.{verdictOf, payloadAt, HasPayload, frameLength, startOf, passedBy, Ended, Completed};
 ghost use Rattle.frame.specs.declared.framing.Format.the-variants.{Binary, Ascii};
 
 // How frames are laid out on the line, and so how they are written.
@@ -240,7 +241,7 @@ pub(crate) fn judge(format: Format, s: &[u8]) -> Judged
 pub(crate) fn extract(format: Format, s: &[u8], buf: &mut [u8]) -> Judged
     requires { ⌜ 256 ≤ length (now buf) ⌝ }
     ensures { λ r. ⌜ judge format (now (s .entry)) ≡ verdictOf format (now (s .entry)) r ⌝ }
-    ensures { λ r. ⌜ now (buf .exit) ≡ handedOut (judge format (now (s .entry))) (now (buf .entry)) ⌝ }
+    ensures { λ r. ⌜ now (buf .exit) ≡ inFront (payloadIn (judge format (now (s .entry)))) (now (buf .entry)) ⌝ }
 {
     match format {
         Format::Binary(footer) => binary::extract(footer, s, buf),

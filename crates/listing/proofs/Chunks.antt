@@ -15,7 +15,7 @@ use Rattle.frame.specs.Rule.{Output, output, nothing, join, places, outFrom, ru
 use Rattle.frame.specs.Reader.{State, holding, Called, line, quiet, lineJudged, quietJudged, judgedHeld, after, stateOf, Holds, newReader}
 use Rattle.frame.specs.Reader.{Values, frameValues, noFrameValues, refusalValues, feedRefusal, quietRefusal, sound, AfterQuiet}
 use Rattle.frame.specs.Calls.{Answered, outOf}
-use Rattle.frame.specs.View.{inside, viewed, viewCall, Follows, viewRefusal, Stands}
+use Rattle.frame.specs.View.{inside, viewed, viewCall, NextView, viewRefusal, Stands}
 use Rattle.frame.specs.Draining.{Reports, sizeOf}
 use Rattle.frame.specs.declared.framing.Format.{Format}
 use Rattle.frame.specs.declared.framing.Format.the-variants.{Binary, Ascii}
@@ -224,7 +224,7 @@ module _ {whole : Drained} {total : ℕ} {s : State} {rest out₀ : List ℕ} {a
         PartlyDrained whole total (after s (line s rest)) (drop (line s rest .taken) rest) out₀ at base next (noise + more) (judged + n) out′
     frame-step q j =
         record {
-          same = sym (ap (λ (st : Drained). st .rest) (line-drains s rest)) ∙ g .same;
+          same = sym (ap (λ (st : Drained). st .held) (line-drains s rest)) ∙ g .same;
           mark = sym (ap (λ (st : Drained). st .follows) (line-drains s rest)) ∙ g .mark;
           progress = progress-frame (g .progress) (fits .room) p more _ (left-is (one p more) e) q;
           counts = omega (arith, g .counts, call-counts s rest (g .known));
@@ -265,7 +265,7 @@ module _ {whole : Drained} {total : ℕ} {s : State} {rest out₀ : List ℕ} {a
         a .reader ≡ r → a .answer ≡ Lines end (noise + more) (judged + n) → ListsRest s₀ whole most out₀ at base a out
     none-lists s₀ r a {n} ef h j most er ea =
         let all = progress-end (g .progress) (fits .room) more (ap (λ (st : Drained). st .out) all-drained) in
-        let left : line s rest .held ≡ whole .rest = sym (ap (λ (st : Drained). st .rest) all-drained) ∙ g .same in
+        let left : line s rest .held ≡ whole .held = sym (ap (λ (st : Drained). st .held) all-drained) ∙ g .same in
         let mark : line s rest .follows ≡ whole .follows = sym (ap (λ (st : Drained). st .follows) all-drained) ∙ g .mark in
         let next : after s (line s rest) ≡ afterDrain s₀ whole =
         ap (λ (fs : List (List ℕ)). holding (s .format) (line s rest .held) (line s rest .follows) (judgedHeld fs (line s rest .held))) none-frames
@@ -343,26 +343,26 @@ moved {whole} {total} {out₀ = out₀} {at} {base} {end} {noise} {judged} {out}
     subst₂ (λ (s : State) (t : List ℕ). PartlyDrained whole total s t out₀ at base end noise judged out) (sym e) (sym f) m
 
 -- The bytes after those that a view's call took.
-view-rest : (v : View) (chunk : List ℕ) (v′ : View) → Follows v chunk (viewCall v chunk) v′ →
+view-rest : (v : View) (chunk : List ℕ) (v′ : View) → NextView v chunk (viewCall v chunk) v′ →
     drop (v′ .end) chunk ≡ drop (viewCall v chunk .taken) (drop (v .end) chunk)
 view-rest v chunk v′ f = ap (λ (n : ℕ). drop n chunk) (f .end) ∙ sym (drop-drop (viewCall v chunk .taken) (v .end) chunk)
 
 -- The view that follows goes on with the chunk's rest.
 pub view-next :
     {whole : Drained} {total : ℕ} {out₀ : List ℕ} {at base end noise judged : ℕ} {out : List ℕ} (v : View) (chunk : List ℕ) (v′ : View) →
-    Follows v chunk (viewCall v chunk) v′ →
+    NextView v chunk (viewCall v chunk) v′ →
     let c : Called = viewCall v chunk in
     PartlyDrained whole total (after (viewed v chunk) c) (drop (c .taken) (drop (v .end) chunk)) out₀ at base end noise judged out →
     PartlyDrained whole total (viewed v′ chunk) (drop (v′ .end) chunk) out₀ at base end noise judged out
 view-next v chunk v′ f m = moved (f .state) (view-rest v chunk v′ f) m
 
 -- What is left after it is the same.
-pub view-left : (v : View) (chunk : List ℕ) (v′ : View) → Follows v chunk (viewCall v chunk) v′ →
+pub view-left : (v : View) (chunk : List ℕ) (v′ : View) → NextView v chunk (viewCall v chunk) v′ →
     drain (viewed v′ chunk) (drop (v′ .end) chunk) ≡ drain (after (viewed v chunk) (viewCall v chunk)) (drop (viewCall v chunk .taken) (drop (v .end) chunk))
 view-left v chunk v′ f = ap₂ drain (f .state) (view-rest v chunk v′ f)
 
 -- The reader that stands for it has the state that follows.
-pub view-holds : (v : View) (chunk : List ℕ) (v′ : View) (r : Reader) → Follows v chunk (viewCall v chunk) v′ → inside v′ (length chunk) ≡ true →
+pub view-holds : (v : View) (chunk : List ℕ) (v′ : View) (r : Reader) → NextView v chunk (viewCall v chunk) v′ → inside v′ (length chunk) ≡ true →
     Stands v′ chunk r → Holds (after (viewed v chunk) (viewCall v chunk)) r
 view-holds v chunk v′ r f e h =
     subst (λ (s : State). Holds s r) (f .state) (subst (λ (q : Bool). Holds (cond q (viewed v′ chunk) (holding (v′ .format) [] false 0)) r) e h)

@@ -126,7 +126,7 @@ unfolding flatten
 run-judges (chunkListed {r} {noise} {chunks} {shown} chunk out out′ a p h later) l =
     let d : Drained = drain (stateOf r) chunk in
     let k = kept (d .out) a p h in
-    let known : Known (a .reader) = subst (λ (s : State). s .judged ≤ length (s .held)) (sym (k .2 .state)) (le-refl (length (d .rest))) in
+    let known : Known (a .reader) = subst (λ (s : State). s .judged ≤ length (s .held)) (sym (k .2 .state)) (le-refl (length (d .held))) in
     ap₂ _+_ (k .3) (run-judges later known ∙ ap (λ (s : State). judgedAfter s (flatten chunks)) (k .2 .state))
     ∙ sym (drain-counts (stateOf r) chunk (flatten chunks) l)
 run-judges (quietListed {r} out out′ a p h t) l = kept (ruleAfter (stateOf r) []) a p h .3
@@ -139,17 +139,17 @@ abbrev Left : Format → List ℕ → Type 0
 Left m rest = (rest ≡ []) ⊎ (judge m rest ≡ cut)
 
 left-by : (n : ℕ) (s : State) (chunk : List ℕ) → length (drain s chunk .out .frames) ≤ n → (fs : List (List ℕ)) → line s chunk .out .frames ≡ fs →
-    ((s′ : State) (t : List ℕ) → s′ .format ≡ s .format → length (drain s′ t .out .frames) < n → Left (s .format) (drain s′ t .rest)) →
-    Left (s .format) (drain s chunk .rest)
+    ((s′ : State) (t : List ℕ) → s′ .format ≡ s .format → length (drain s′ t .out .frames) < n → Left (s .format) (drain s′ t .held)) →
+    Left (s .format) (drain s chunk .held)
 unfolding join
 left-by n s chunk l [] e more =
     let c : Called = line s chunk in
     let t = needs-more-is-true s chunk e in
     let over : drop (c .taken) chunk ≡ [] = ap (λ (k : ℕ). drop k chunk) (t .0) ∙ drop-length chunk in
-    let rest : drain s chunk .rest ≡ c .held =
-    ap (λ (st : Drained). st .rest) (line-drains s chunk)
-    ∙ ap (λ (x : List ℕ). drain (after s c) x .rest) over
-    ∙ ap (λ (st : Drained). st .rest) (needs-more-is-drained s chunk e) in
+    let rest : drain s chunk .held ≡ c .held =
+    ap (λ (st : Drained). st .held) (line-drains s chunk)
+    ∙ ap (λ (x : List ℕ). drain (after s c) x .held) over
+    ∙ ap (λ (st : Drained). st .held) (needs-more-is-drained s chunk e) in
     subst (Left (s .format)) (sym rest) (t .1)
 left-by n s chunk l (p ∷ ps) e more =
     let c : Called = line s chunk in
@@ -157,22 +157,22 @@ left-by n s chunk l (p ∷ ps) e more =
     let count : length (drain s chunk .out .frames) ≡ length (c .out .frames) + length (later .out .frames) =
     ap (λ (st : Drained). length (st .out .frames)) (line-drains s chunk) ∙ length-append (c .out .frames) (later .out .frames) in
     let some : length (c .out .frames) ≡ suc (length ps) = ap length e in
-    subst (Left (s .format)) (sym (ap (λ (st : Drained). st .rest) (line-drains s chunk)))
+    subst (Left (s .format)) (sym (ap (λ (st : Drained). st .held) (line-drains s chunk)))
     (more (after s c) (drop (c .taken) chunk) refl (omega arith))
 
 -- Bytes that are left are undecided, or none.
-left : (n : ℕ) (s : State) (chunk : List ℕ) → length (drain s chunk .out .frames) ≤ n → Left (s .format) (drain s chunk .rest)
+left : (n : ℕ) (s : State) (chunk : List ℕ) → length (drain s chunk .out .frames) ≤ n → Left (s .format) (drain s chunk .held)
 left zero s chunk l = left-by zero s chunk l (line s chunk .out .frames) refl (λ s′ t e h. absurd (not-suc-le-zero h))
 left (suc n) s chunk l =
     left-by (suc n) s chunk l (line s chunk .out .frames) refl
-    (λ s′ t e h. subst (λ (m : Format). Left m (drain s′ t .rest)) e (left n s′ t (le-of-suc-le-suc h)))
+    (λ s′ t e h. subst (λ (m : Format). Left m (drain s′ t .held)) e (left n s′ t (le-of-suc-le-suc h)))
 
 -- They are within the limit.
-left-short : (s : State) (chunk : List ℕ) → length (drain s chunk .rest) ≤ limit (s .format)
+left-short : (s : State) (chunk : List ℕ) → length (drain s chunk .held) ≤ limit (s .format)
 left-short s chunk =
     ⊎-elim
-    (λ (h : drain s chunk .rest ≡ []). rw h zero-le)
-    (λ (h : judge (s .format) (drain s chunk .rest) ≡ cut). omega (arith, undecided-is-short (s .format) (drain s chunk .rest) h))
+    (λ (h : drain s chunk .held ≡ []). rw h zero-le)
+    (λ (h : judge (s .format) (drain s chunk .held) ≡ cut). omega (arith, undecided-is-short (s .format) (drain s chunk .held) h))
     (left (length (drain s chunk .out .frames)) s chunk (le-refl _))
 
 pub chunk-stays-sound : ChunkStaysSound

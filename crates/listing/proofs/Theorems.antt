@@ -9,8 +9,8 @@ use borrow.Author.Tests.{eqb-true, leb-true}
 use lib.Dec.{leb, eqb}
 use lib.ListN.{length, length-append, length-drop}
 use Rattle.frame.specs.Digit.{isDigit, digitValue, digitOf}
-use Rattle.frame.specs.Ascii.{hexDigits, lineEnd, lineEnding, afterDigits, ascii}
-use Rattle.frame.specs.Checks.{byte, test, word, bytes}
+use Rattle.frame.specs.Ascii.{hexDigits, lineEnding, afterDigits, ascii}
+use Rattle.frame.specs.Checks.{byte, test, word, bytes, lastByte}
 use Rattle.frame.specs.Binary.{binary, body}
 use Rattle.frame.specs.Framing.{inFront}
 use Rattle.frame.specs.Rule.{Output, join, places, outFrom, rule}
@@ -26,7 +26,7 @@ use Rattle.listing.specs.Line.{linesOf, noiseLine, decimal, lineOf, simp
 use Rattle.listing.specs.Line.{receptionLine, standardLine, remoteLine, settingsLine, refusalLine}
 use Rattle.listing.specs.Listing.{ListValues, valuesOf, Lists, chunkRefusal, endRefusal}
 use Rattle.listing.specs.Claims.{RunIsListing, RunExists, RunCounts, ChunkStaysSound, ChunkIsSmall, QuietIsSmall, TotalIsSmall, AnyCutIsListed}
-use Rattle.listing.specs.Claims.{ExampleIsListed, FooterlessIsListed, KindsAreListed}
+use Rattle.listing.specs.Examples.{ExampleIsListed, FooterlessIsListed, KindsAreListed}
 use Rattle.listing.specs.declared.list.Listed.{Listed}
 use Rattle.listing.proofs.Lines.{noise-room}
 use Rattle.listing.proofs.Chunks.{sound-count, chunk-room, quiet-room}
@@ -124,7 +124,7 @@ unfolding digitOf isPlain widthOf listFrom isList readFromModule fromItself resp
 kinds-are-listed = refl
 
 pub example-is-listed : ExampleIsListed
-unfolding byte test isDigit digitValue digitOf hexDigits lineEnd lineEnding afterDigits ascii join rule places outFrom isPlain readFromModule fromItself responseMeaning senderMeaning simpleLine responseLine decimal lineOf noiseLine
+unfolding byte test isDigit digitValue digitOf hexDigits lastByte lineEnding afterDigits ascii join rule places outFrom isPlain readFromModule fromItself responseMeaning senderMeaning simpleLine responseLine decimal lineOf noiseLine
 example-is-listed = refl
 
 pub footerless-is-listed : FooterlessIsListed

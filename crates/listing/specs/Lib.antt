@@ -3,5 +3,6 @@ pub mod Line
 pub mod Listing
 -- What follows from it; each claim is proved in proofs/Theorems.antt.
 pub mod Claims
+pub mod Examples
 -- Cited only by functions that are not public: what they answer.
 pub mod Parts

@@ -8,7 +8,7 @@ use lib.ListN.{length}
 use Rattle.frame.specs.Framing.{inFront}
 use Rattle.frame.specs.Refusal.{numberOf}
 use Rattle.frame.specs.Rule.{Output}
-use Rattle.frame.specs.Reader.{State, stateOf, newReader, Holds, sound, Promise}
+use Rattle.frame.specs.Reader.{State, stateOf, newReader, Holds, sound, Promise, callRefusal}
 use Rattle.frame.specs.Single.{lengthWriting, noWriting, writingOf}
 use Rattle.frame.specs.Drain.{Drained, drain, afterDrain, ruleAfter, judgedAfter, drainJudged}
 use Rattle.frame.specs.declared.reader.Reader.{Reader}
@@ -46,7 +46,7 @@ Lists number o judged Next r out a out′ =
 --
 -- The refusals of a chunk, in the line call's order: 16; 13 for a buffer under 198,159 bytes, three times the sum of 65,536 and 517; 15.
 abbrev pub chunkRefusal : Reader → ℕ → ℕ → ℕ
-chunkRefusal r room size = cond (sound r) (cond (leb 198159 room) (cond (leb size 65536) 0 15) 13) 16
+chunkRefusal r room size = callRefusal (sound r) 198159 room size
 
 -- What a chunk settles of the bytes held and its own is listed; what is undecided stays held.
 abbrev pub ListsChunk : Reader → List ℕ → List ℕ → Listed → List ℕ → Type 0
@@ -57,7 +57,7 @@ ListsChunk r chunk out a out′ =
 
 -- The refusals of a quiet: 16; 13 for a buffer under 1,551 bytes, three times 517.
 abbrev pub endRefusal : Reader → ℕ → ℕ
-endRefusal r room = cond (sound r) (cond (leb 1551 room) 0 13) 16
+endRefusal r room = callRefusal (sound r) 1551 room 0
 
 -- At a quiet what the rule gives over the bytes held is listed, and the reader is a new one.
 abbrev pub ListsQuiet : Reader → List ℕ → Listed → List ℕ → Type 0

@@ -49,7 +49,7 @@ pub record Progress (whole left : Output (List ℕ)) (out₀ : List ℕ) (at bas
 -- Some of the calls over a chunk are made: from the state s on, `rest` is still to be offered, and what the other calls give is what is left of `whole`; the
 -- bytes judged so far and those that are still judged, as if the segment ended with the chunk, are `total`.
 pub record PartlyDrained (whole : Drained) (total : ℕ) (s : State) (rest out₀ : List ℕ) (at base end noise judged : ℕ) (out : List ℕ) : Type 0 where
-  pub same : drain s rest .rest ≡ whole .rest
+  pub same : drain s rest .held ≡ whole .held
   pub mark : drain s rest .follows ≡ whole .follows
   pub progress : Progress (whole .out) (drain s rest .out) out₀ at base end noise out
   pub counts : judged + judgedAfter s rest ≡ total

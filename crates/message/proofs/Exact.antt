@@ -13,8 +13,8 @@ use Rattle.message.specs.Options.{optionBytes}
 use Rattle.message.specs.ToModule.{Order, requestLayout, requestRefusal, addressBytes, orderLayout, orderRefusal}
 use Rattle.message.specs.FromModule.{deliveryLayout, deliveryRefusal, noticeLayout, noticeRefusal}
 use Rattle.message.specs.Setup.{stateByte}
-use Rattle.message.specs.Claims.{EncodesRequest, requests, orders, deliveries, notices, family}
-use Rattle.message.specs.Claims.{MessageIsSized, DataIsInside, WhatIsReadIsWritten, RefusesNoMore, ReadingIsExact}
+use Rattle.message.specs.Claims.{EncodesRequest, requests, orders, deliveries, notices}
+use Rattle.message.specs.Claims.{MessageIsSized, DataIsInside, WhatIsReadIsWritten, ReadingIsExact}
 use Rattle.message.specs.declared.to_module.Address.{Address}
 use Rattle.message.specs.declared.to_module.Address.the-variants.{Plain, Extended as ExtendedAddress}
 use Rattle.message.specs.declared.to_module.Request.{Request}
@@ -210,9 +210,6 @@ what-is-read-is-written deliveries p m r =
     subst (λ dat. (deliveryRefusal (m .0) dat ≡ 0) × (length (deliveryLayout (m .0) dat) ≤ 256)) (r .part)
     (from-written p (from-sized p tt (r .is) .1) (from-way p tt (r .is)))
 what-is-read-is-written notices p m e = from-written p (from-sized p tt e .1) (from-way p tt e)
-
-pub refuses-no-more : RefusesNoMore
-refuses-no-more k m r = what-is-read-is-written k (family k .layoutOf m) m r .0
 
 pub reading-is-exact : ReadingIsExact
 reading-is-exact requests p m h r = subst (λ dat. EncodesRequest p (m .0) dat) (r .part) (to-exact p h (to-way p tt (r .is)))

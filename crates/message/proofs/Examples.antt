@@ -1,10 +1,10 @@
 -- The table of specs/Examples.antt holds, by computation.
 -- Assumes nothing.
 use mathlib.Core.Path.{refl}
-use Rattle.frame.specs.Checks.{byte, test, word, bytes}
-use Rattle.frame.specs.Binary.{binaryFront, footer, body, binary}
+use Rattle.frame.specs.Checks.{byte, test, word, bytes, lastByte}
+use Rattle.frame.specs.Binary.{binaryFront, body, binary}
 use Rattle.frame.specs.Digit.{isDigit, digitValue}
-use Rattle.frame.specs.Ascii.{asciiFront, hexDigits, lineEnd, lineEnding, afterDigits, ascii}
+use Rattle.frame.specs.Ascii.{asciiFront, hexDigits, lineEnding, afterDigits, ascii}
 use Rattle.frame.specs.Rule.{join}
 use Rattle.frame.specs.Reader.{settle, lineFrom, lineOn, quietHeld}
 use Rattle.message.specs.Address.{isPlain, isExtended}
@@ -17,7 +17,7 @@ use Rattle.message.specs.FromModule.{senderMeaning, receptionMeaning, st
 use Rattle.message.specs.Examples.{Examples, ChannelsAreRead}
 
 pub examples : Examples
-unfolding byte test word bytes binaryFront asciiFront footer body binary isDigit digitValue hexDigits lineEnd lineEnding afterDigits ascii join settle lineFrom lineOn quietHeld isPlain isExtended hasOption giveFlag wordOr isRetry isOption expectedAfter givenAfter optionsFrom optionBytes isList listFrom widthOf commandOf readToModule toItself toAddress toPlainAddress toExtendedAddress requestAt outputChangeAt readFromModule fromItself senderMeaning responseMeaning ackMeaning informationMeaning settingsMeaning controlMeaning receptionMeaning statusMeaning standardMeaning remoteMeaning
+unfolding byte test word bytes binaryFront asciiFront lastByte body binary isDigit digitValue hexDigits lineEnding afterDigits ascii join settle lineFrom lineOn quietHeld isPlain isExtended hasOption giveFlag wordOr isRetry isOption expectedAfter givenAfter optionsFrom optionBytes isList listFrom widthOf commandOf readToModule toItself toAddress toPlainAddress toExtendedAddress requestAt outputChangeAt readFromModule fromItself senderMeaning responseMeaning ackMeaning informationMeaning settingsMeaning controlMeaning receptionMeaning statusMeaning standardMeaning remoteMeaning
 examples = refl
 
 pub channels-are-read : ChannelsAreRead

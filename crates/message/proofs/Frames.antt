@@ -7,12 +7,12 @@ use mathlib.Core.Bool.{Bool, true, false}
 use native.Mathlib.Omega.{arith}
 use lib.Dec.{lit<, lit≤}
 use lib.ListN.{length, replicate}
-use Rattle.frame.specs.Checks.{frame}
+use Rattle.frame.specs.Checks.{frame, payloadIn}
 use Rattle.frame.specs.Framing.{read, layout, framingOf}
 use Rattle.frame.specs.Rule.{output}
 use Rattle.frame.specs.Elements.{Bytes}
 use Rattle.frame.specs.Claims.{Payload}
-use Rattle.frame.specs.Recovery.{none, another, payloadIn}
+use Rattle.frame.specs.Recovery.{none, another}
 use Rattle.frame.specs.declared.framing.Framing.{Framing}
 use Rattle.frame.specs.declared.framing.Format.{Format}
 use Rattle.frame.proofs.Theorems.{layout-reads, clean-calls}

@@ -1,6 +1,6 @@
 -- The claims of specs/Claims.antt and specs/AnyOrder.antt and the table of specs/Examples.antt, proved; a crate above this one names this module alone.
 -- Assumes nothing.
-use Rattle.message.specs.Claims.{RoundTrip, CanWrite, MessageIsSized, DataIsInside, WhatIsReadIsWritten, RefusesNoMore, ReadingIsExact}
+use Rattle.message.specs.Claims.{RoundTrip, CanWrite, MessageIsSized, DataIsInside, WhatIsReadIsWritten, ReadingIsExact}
 use Rattle.message.specs.AnyOrder.{AnyOrderIsRead}
 use Rattle.message.specs.Examples.{Examples, ChannelsAreRead}
 use Rattle.message.proofs.MessageRoundTrip as message-round-trip
@@ -22,9 +22,6 @@ data-is-inside = exact.data-is-inside
 
 pub what-is-read-is-written : WhatIsReadIsWritten
 what-is-read-is-written = exact.what-is-read-is-written
-
-pub refuses-no-more : RefusesNoMore
-refuses-no-more = exact.refuses-no-more
 
 pub reading-is-exact : ReadingIsExact
 reading-is-exact = exact.reading-is-exact

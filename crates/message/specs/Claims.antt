@@ -1,7 +1,6 @@
 -- What is claimed of messages: that they read back as they were written. Document 00, demand 2, and document 01, "Payloads" and "Refusal numbers"; document
--- 02, CR 1, for those that set up the module, and CR 2 and 9: in every format of the framing in which they are
--- written.
--- proofs/Theorems.antt proves each claim.
+-- 02, CR 1, for those that set up the module, and CR 2 and 9: in every format of the framing in which they are written. proofs/Theorems.antt proves each
+-- claim.
 use Prim.Native.Nat.{ℕ, _≤_, _<_}
 use mathlib.Core.Path.{_≡_}
 use mathlib.Core.List.{List, [], _∷_, _++_, List·Permᴰ as Permutation}
@@ -211,15 +210,12 @@ pub record DataIsInside : Type 0 where
   pub request : (p : List ℕ) (m : Request) (start : ℕ) → readToModule p ≡ carrying m start → start ≤ length p
   pub delivery : (p : List ℕ) (m : Delivery) (start : ℕ) → readFromModule p ≡ carrying m start → start ≤ length p
 
--- Whatever reading gives as a message can be written: it is not refused, and with its data it is short enough.
+-- Whatever reading gives as a message can be written: it is not refused, and with its data it is short enough. So writing refuses no more than it must: no
+-- message that its layout reads back as.
 abbrev pub WhatIsReadIsWritten : Type 0
 WhatIsReadIsWritten =
     (k : Kind) (p : List ℕ) (m : family k .Message) → family k .ReadAs p m →
     (family k .refusalOf m ≡ 0) × (length (family k .layoutOf m) ≤ 256)
-
--- Writing refuses no more than it must: where a layout reads back as its message, the message is not refused.
-abbrev pub RefusesNoMore : Type 0
-RefusesNoMore = (k : Kind) (m : family k .Message) → family k .ReadAs (family k .layoutOf m) m → family k .refusalOf m ≡ 0
 
 -- Reading is exact: what is read as a message is a layout of it with its data, byte for byte.
 abbrev pub ReadingIsExact : Type 0

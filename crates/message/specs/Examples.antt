@@ -3,13 +3,14 @@
 use Prim.Native.Nat.{ℕ}
 use mathlib.Core.Path.{_≡_}
 use mathlib.Core.List.{List, [], _∷_, _++_, map}
-use mathlib.Core.Bool.{Bool, true, false}
-use lib.Dec.{leb}
+use mathlib.Core.Bool.{Bool, true, false, cond}
+use lib.Dec.{leb, eqb}
 use lib.ListN.{length, take, drop, replicate}
 use Rattle.frame.specs.Checks.{Verdict}
 use Rattle.frame.specs.Framing.{read, formatOf}
 use Rattle.frame.specs.Single.{Reading, reading, readInto, Writing}
-use Rattle.frame.specs.Reader.{State, Called, line, quiet, after, stateOf, newReader, Values, valuesAt, bufferAt, feedRefusal, quietRefusal}
+use Rattle.frame.specs.Reader.{State, Called, line, quiet, after, stateOf, newReader, Values, refusalValues, calledValues, bufferAt}
+use Rattle.frame.specs.Reader.{feedRefusal, quietRefusal}
 use Rattle.frame.specs.declared.framing.Framing.{Framing}
 use Rattle.frame.specs.declared.framing.Framing.the-variants.{Binary, Ascii}
 use Rattle.frame.specs.declared.framing.Footer.the-variants.{Required}
@@ -57,26 +58,26 @@ abbrev room : List ℕ
 room = replicate 256 0
 
 -- The payload of this length in the front of a buffer, none where there is none.
-abbrev handedOut : Bool → ℕ → List ℕ → List (List ℕ)
-handedOut false len buf = []
-handedOut true len buf = take len buf ∷ []
+abbrev payloadShown : Bool → ℕ → List ℕ → List (List ℕ)
+payloadShown false len buf = []
+payloadShown true len buf = take len buf ∷ []
 
 -- A single read, by the definitions that its contract cites.
 abbrev pub singleRead : Verdict → Answer
 singleRead v =
     let r : Reading = reading v 256 in
-    call (r .number) (r .used) 0 (handedOut (leb 1 (r .len)) (r .len) (readInto v room))
+    call (r .number) (r .used) 0 (payloadShown (leb 1 (r .len)) (r .len) (readInto v room))
 
 -- A reader with this state.
 abbrev having : State → Reader
 having s = record { format = s .format; held = s .held; count = length (s .held); follows = s .follows; judged = s .judged }
 
 -- A line or a quiet call with this refusal number, by the definitions that their contracts cite. The rows don't show the bytes that it judges, for which 0
--- stands here; examples of them are in the crate frame.
+-- stands here; examples of them are in the crate frame. No row has a refused call.
 abbrev pub readerCall : ℕ → Called → Answer
 readerCall number c =
-    let v : Values = valuesAt c 0 in
-    call number (v .taken) (v .noise) (handedOut (v .isFrame) (v .len) (bufferAt (c .out .frames) room))
+    let v : Values = cond (eqb number 0) (calledValues c 0 (c .out .frames)) (refusalValues number) in
+    call number (v .taken) (v .noise) (payloadShown (v .isFrame) (v .len) (bufferAt (c .out .frames) room))
 
 -- The data of a message in the payload p.
 module _ {A B : Type 0} where
@@ -372,10 +373,10 @@ fromRows =
     ∷ []
 
 -- Payloads in which no two fields have the same bytes, so that a field read from another's place shows; the options in descending order.
-abbrev pub distinctStatus : StandardStatus
-distinctStatus =
+abbrev statusFrom : ℕ → StandardStatus
+statusFrom sender =
     record {
-      sender = 0x05;
+      sender = sender;
       identifier = 0x16;
       lqi = 0x20;
       serial = 0x21222324;
@@ -392,6 +393,9 @@ distinctStatus =
       ad4 = 0x31;
       correction = 0x1B;
     }
+
+abbrev pub distinctStatus : StandardStatus
+distinctStatus = statusFrom 0x05
 
 abbrev pub distinctRows : List Row
 distinctRows =
@@ -423,20 +427,20 @@ distinctRows =
     ∷ [])
     ∷ row
     (toModule
-    (0x80 ∷ 0xA0 ∷ 0x12 ∷ 0x81 ∷ 0x02 ∷ 0x03 ∷ 0x04 ∷ 0x08 ∷ 0x07 ∷ 0x06 ∷ 0x05 ∷ 0x11 ∷ 0x12
+    (0x80 ∷ 0xA0 ∷ 0x12 ∷ 0x81 ∷ 0x29 ∷ 0x2A ∷ 0x2B ∷ 0x08 ∷ 0x07 ∷ 0x06 ∷ 0x05 ∷ 0x11 ∷ 0x17
     ∷ 0x04 ∷ 0x13 ∷ 0x14 ∷ 0x03 ∷ 0x15 ∷ 0x16 ∷ 0x02 ∷ 0x0E ∷ 0x01 ∷ 0xFF ∷ 0x99 ∷ []))
     (to
     (carrying
     (ExtendedRequest
     (record {
-      address = ExtendedAddress 0x81020304;
+      address = ExtendedAddress 0x81292A2B;
       «response_id» = 0x12;
       options = record {
         «mac_ack» = true;
         retries = Byte 0x0E;
         «lower_delay» = Word 0x1516;
         «upper_delay» = Word 0x1314;
-        interval = Word 0x1112;
+        interval = Word 0x1117;
         parallel = true;
         «no_response» = true;
         sleep = true;
@@ -494,16 +498,22 @@ withFlags a b o =
     row (toModule (0x00 ∷ 0xA0 ∷ 0x12 ∷ a ∷ b ∷ 0xFF ∷ []))
     (to (carrying (ExtendedRequest (record { address = Plain 0x00; «response_id» = 0x12; options = o })) 6) [] ∷ [])
 
+abbrev pub flagRows : List Row
+flagRows = withFlags 0x01 0x07 (flagsAlone true false) ∷ withFlags 0x06 0x08 (flagsAlone false true) ∷ []
+
 -- A refusal for each of its causes: 7 for a long payload; 9 for commands just outside the known ones; 10 for an unknown, a repeated and a cut option; 11 for
 -- each fixed field.
 abbrev pub causeRows : List Row
 causeRows =
-    withFlags 0x01 0x07 (flagsAlone true false)
-    ∷ withFlags 0x06 0x08 (flagsAlone false true)
-    ∷ toRefused (replicate 257 0x00) 7
+    toRefused (replicate 257 0x00) 7
     ∷ fromRefused (replicate 257 0x00) 7
     ∷ toRefused (0x00 ∷ 0x81 ∷ []) 9
+    ∷ toRefused (0x00 ∷ 0x9F ∷ []) 9
+    ∷ toRefused (0x00 ∷ 0xA1 ∷ []) 9
     ∷ fromRefused (0x00 ∷ 0x80 ∷ []) 9
+    ∷ fromRefused (0x00 ∷ 0x82 ∷ []) 9
+    ∷ fromRefused (0x00 ∷ 0x9F ∷ []) 9
+    ∷ fromRefused (0x00 ∷ 0xA1 ∷ []) 9
     ∷ toRefused (0x00 ∷ 0xA0 ∷ 0x12 ∷ 0x09 ∷ 0xFF ∷ []) 10
     ∷ toRefused (0x00 ∷ 0xA0 ∷ 0x12 ∷ 0x01 ∷ 0x01 ∷ 0xFF ∷ []) 10
     ∷ toRefused (0x00 ∷ 0xA0 ∷ 0x12 ∷ 0x03 ∷ 0x05 ∷ []) 10
@@ -516,16 +526,19 @@ causeRows =
 -- The ends of each range: plain addresses, extended addresses, retry bytes.
 abbrev pub edgeRows : List Row
 edgeRows =
-    toSimple 0x64 0x7F []
+    toSimple 0x00 0x7F []
+    ∷ toSimple 0x64 0x7F []
     ∷ toRefused (0x65 ∷ 0x7F ∷ []) 8
     ∷ toRefused (0x77 ∷ 0x7F ∷ []) 8
     ∷ toSimple 0x78 0x7F []
     ∷ toRefused (0x79 ∷ 0x7F ∷ []) 8
+    ∷ fromSimple 0x00 0x7F []
     ∷ fromSimple 0x64 0x7F []
     ∷ fromRefused (0x65 ∷ 0x7F ∷ []) 8
     ∷ fromRefused (0x77 ∷ 0x7F ∷ []) 8
     ∷ fromSimple 0x78 0x7F []
     ∷ fromRefused (0x79 ∷ 0x7F ∷ []) 8
+    ∷ toExtended (0x00 ∷ 0x00 ∷ 0x00 ∷ 0x00 ∷ []) 0x00000000
     ∷ toExtended (0x00 ∷ 0x00 ∷ 0xFF ∷ 0xFF ∷ []) 0x0000FFFF
     ∷ toRefused (0x80 ∷ 0xA0 ∷ 0x12 ∷ 0x00 ∷ 0x01 ∷ 0x00 ∷ 0x00 ∷ 0xFF ∷ []) 8
     ∷ toRefused (0x80 ∷ 0xA0 ∷ 0x12 ∷ 0x7F ∷ 0xFF ∷ 0xFF ∷ 0xFF ∷ 0xFF ∷ []) 8
@@ -671,6 +684,7 @@ writeRows =
       unused = 0x00;
     }))
     0 8 0
+    ∷ wrote Ascii notices (Standard (statusFrom 0xDB)) 0 8 0
     ∷ wrote Ascii notices (Standard distinctStatus) 51 0 51
     ∷ wrote Ascii notices (Standard distinctStatus) 50 13 0
     ∷ wrote Ascii requests (simpleTo 0x64 0x7F, replicate 255 0x00) 0 14 0
@@ -679,7 +693,7 @@ writeRows =
     ∷ []
 
 abbrev pub allRows : List Row
-allRows = rows ++ (footerRows ++ (endingRows ++ (toRows ++ (fromRows ++ (distinctRows ++ (causeRows ++ (edgeRows ++ (setupRows ++ writeRows))))))))
+allRows = rows ++ (footerRows ++ (endingRows ++ (toRows ++ (fromRows ++ (distinctRows ++ (flagRows ++ (causeRows ++ (edgeRows ++ (setupRows ++ writeRows)))))))))
 
 -- Each row is answered as documents 01 and 02 say.
 abbrev pub Examples : Type 0

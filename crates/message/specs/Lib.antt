@@ -4,13 +4,13 @@
 pub mod Number
 pub mod Address
 pub mod Meaning
+pub mod Refusal
 pub mod Simple
 pub mod Options
 pub mod Setup
 pub mod ToModule
-pub mod FromModule
 pub mod Status
-pub mod Refusal
+pub mod FromModule
 pub mod Write
 pub mod Text
 -- What follows from it: the claims and the examples. proofs/Theorems.antt proves them.

@@ -5,7 +5,8 @@ use native.Mathlib.Omega.{arith}
 use mathlib.Core.Path.{_≡_, refl, sym, ap, _∙_}
 use mathlib.Core.List.{List, [], _∷_}
 use borrow.Author.Needs.{needs}
-use Rattle.frame.specs.Reader.{Called, tookFirst, Values, calledValues, feedValuesOf, valuesAt}
+use Rattle.frame.specs.Reader.{Called, tookFirst, Values, calledValues, feedValuesOf}
+use Rattle.frame.specs.Answer.{valuesAt}
 use Rattle.frame.specs.declared.answer.FeedAnswer.{FeedAnswer}
 use Rattle.frame.proofs.Readers.{none-refused}
 use Rattle.frame.proofs.answer.took_first.Statement.{statement}

@@ -9,12 +9,12 @@ use mathlib.Core.Path.{_≡_, refl, sym, ap, ap₂, _∙_}
 use borrow.Author.Needs.{needs}
 use lib.ListN.{length, take, drop, length-drop}
 use lib.Seq.{paste, length-take-le}
-use Rattle.frame.specs.Checks.{Verdict}
+use Rattle.frame.specs.Checks.{Verdict, payloadIn}
 use Rattle.frame.specs.Hex.{sumOf}
 use Rattle.frame.specs.Ascii.{behindDigits, lineEnding}
-use Rattle.frame.specs.Framing.{judge}
+use Rattle.frame.specs.Framing.{judge, inFront}
 use Rattle.frame.specs.DigitRuns.{decoded}
-use Rattle.frame.specs.Judged.{verdictOf, handedOut}
+use Rattle.frame.specs.Judged.{verdictOf}
 use Rattle.frame.specs.declared.framing.Format.the-variants.{Ascii}
 use Rattle.frame.proofs.AsciiJudge.{line-all-digits, line-payload, line-judges, judge-line}
 use Rattle.frame.proofs.AsciiLaws.{behind-keeps}
@@ -174,14 +174,14 @@ returns c =
           (copied (a .buf .now) (take 16 two) _ (first-copy c .copy .ensures .1) ∙ ap (paste (a .buf .now) 0 (take 16 two)) (front-long d)) (last-long d)
           ∙ short-put (a .ending) s (a .count) h two (is d) (a .buf .now) p
           (line-payload sums end (behindDigits (a .ending)) (line-judges (a .ending) s (a .count) (h .ends)) (behind-keeps (a .ending)) used p e)
-          ∙ sym (ap (λ (w : Verdict). handedOut w (a .buf .now)) (judge-line end s (omega (arith, h .inside)) (h .start) ∙ e)),
+          ∙ sym (ap (λ (w : Verdict). inFront (payloadIn w) (a .buf .now)) (judge-line end s (omega (arith, h .inside)) (h .start) ∙ e)),
     )
 
 returns-2 : tie.Need-returns-2
 returns-2 c = let a = start (c .before .before .before .before) .args in (
   verdict (c .before),
   sym
-      (ap (λ (v : Verdict). handedOut v (a .buf .now)) (verdict (c .before))
+      (ap (λ (v : Verdict). inFront (payloadIn v) (a .buf .now)) (verdict (c .before))
       ∙ stays (Ascii (a .ending)) (a .s .now) (a .buf .now) (c .before .judge-end .result)
       (λ used len e.
       ⊎-elim (λ (q : _). let z : _≡_ {A = ℕ} 2 0 = cc in omega arith) (λ q. let z : _≡_ {A = ℕ} 2 1 = cc in omega arith) (c .match .keys2))),

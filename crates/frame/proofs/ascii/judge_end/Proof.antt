@@ -6,7 +6,7 @@ use borrow.Author.Needs.{needs}
 use lib.Dec.{eqb}
 use lib.ListN.{take, drop}
 use Rattle.frame.specs.Checks.{Verdict, behind, run}
-use Rattle.frame.specs.Ascii.{hexDigits, lineEnd, behindDigits, lineEnding}
+use Rattle.frame.specs.Ascii.{hexDigits, behindDigits, lineEnding}
 use Rattle.frame.specs.DigitRuns.{decoded}
 use Rattle.frame.specs.declared.framing.Ending.{Ending}
 use Rattle.frame.specs.declared.framing.Format.the-variants.{Ascii}
@@ -48,7 +48,6 @@ judge-complete-requires : tie.Need-judge-complete-requires
 judge-complete-requires c κs = search needs
 
 returns : tie.Need-returns
-unfolding lineEnd
 returns c =
     let s = c .before .before .before .before in
     left s ∙ ap (ended s) (c .before .enum-told .given .1) ∙ c .judge-ending .ensures (Ascii (s .args .ending))

@@ -5,9 +5,9 @@ use native.Mathlib.Omega.{arith}
 use mathlib.Core.Logic.{⊎-elim}
 use mathlib.Core.Path.{_≡_, sym, ap, _∙_}
 use borrow.Author.Needs.{needs}
-use Rattle.frame.specs.Checks.{Verdict}
-use Rattle.frame.specs.Framing.{judge}
-use Rattle.frame.specs.Judged.{verdictOf, handedOut}
+use Rattle.frame.specs.Checks.{Verdict, payloadIn}
+use Rattle.frame.specs.Framing.{judge, inFront}
+use Rattle.frame.specs.Judged.{verdictOf}
 use Rattle.frame.specs.declared.framing.Format.the-variants.{Binary}
 use Rattle.frame.specs.declared.framing.Judged.the-variants.{Frame}
 use Rattle.frame.proofs.Framings.{payload-named, stays}
@@ -45,13 +45,13 @@ returns : tie.Need-returns
 returns c =
     let v = c .before .before .before .before .before in
     let a = start (c .before .before .before) .args in
-    (named v, c .before .before .unpack .ensures ∙ sym (ap (λ (w : Verdict). handedOut w (a .buf .now)) (named v)))
+    (named v, c .before .before .unpack .ensures ∙ sym (ap (λ (w : Verdict). inFront (payloadIn w) (a .buf .now)) (named v)))
 
 returns-2 : tie.Need-returns-2
 returns-2 c =
     let a = c .before .before .before .before .args in (
       c .before .judge .ensures,
-      sym (ap (λ (v : Verdict). handedOut v (a .buf .now)) (c .before .judge .ensures)
+      sym (ap (λ (v : Verdict). inFront (payloadIn v) (a .buf .now)) (c .before .judge .ensures)
           ∙ stays (Binary (a .footer)) (a .s .now) (a .buf .now) (c .before .judge .result)
           (λ used len e. ⊎-elim (λ (q : _). let z : _≡_ {A = ℕ} 2 0 = cc in omega arith) (λ q. let z : _≡_ {A = ℕ} 2 1 = cc in omega arith) (c .match .keys2))),
     )

@@ -8,7 +8,7 @@ use borrow.Author.Needs.{needs}
 use lib.Dec.{eqb}
 use lib.ListN.{getD, take, drop}
 use Rattle.frame.specs.Checks.{Verdict, behind, run}
-use Rattle.frame.specs.Binary.{xorOf, body, footer, behindChecksum}
+use Rattle.frame.specs.Binary.{xorOf, body, behindChecksum}
 use Rattle.frame.specs.declared.framing.Footer.{Footer}
 use Rattle.frame.specs.declared.framing.Format.the-variants.{Binary}
 use Rattle.frame.proofs.BinaryJudge.{body-short}
@@ -81,7 +81,6 @@ returns-2 c =
     left x ∙ ap (ended x) (c .before .enum-told .given .1) ∙ c .judge-complete .ensures (a .s .now) (Binary (a .footer))
 
 returns-3 : tie.Need-returns-3
-unfolding footer
 returns-3 c =
     let x = c .before .before .before .before in
     left x ∙ ap (ended x) (c .before .enum-told2 .given .1) ∙ c .judge-ending .ensures (Binary (start x .args .footer))

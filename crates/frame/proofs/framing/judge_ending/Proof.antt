@@ -4,9 +4,10 @@ use mathlib.Core.Bool.{true}
 use mathlib.Core.Path.{_≡_, ap, _∙_}
 use borrow.Author.Needs.{needs}
 use borrow.Author.Tests.{not-true, not-false}
+use Rattle.frame.specs.Checks.{lastByte}
 use Rattle.frame.specs.Judged.{payloadAt}
 use Rattle.frame.specs.declared.framing.Format.{Format}
-use Rattle.frame.proofs.Endings.{lastByte, endingAt, ending-wrong, ending-cut, ending-other, ending-frame}
+use Rattle.frame.proofs.Endings.{endingAt, ending-wrong, ending-cut, ending-other, ending-frame}
 use Rattle.frame.proofs.framing.judge_ending.Statement.{statement}
 use Rattle.frame.proofs.framing.judge_ending.Tie as tie
 

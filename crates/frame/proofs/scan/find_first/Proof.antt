@@ -7,10 +7,10 @@ use mathlib.Core.Bool.{false}
 use mathlib.Core.List.{List}
 use mathlib.Core.Path.{_≡_, sym, ap, _∙_, subst}
 use lib.ListN.{length, getD, drop}
-use Rattle.frame.specs.Checks.{Verdict, refused}
-use Rattle.frame.specs.Framing.{judge, judgedAs, judgedAt}
+use Rattle.frame.specs.Checks.{Verdict, refused, payloadIn}
+use Rattle.frame.specs.Framing.{judge, judgedAs, judgedAt, inFront}
 use Rattle.frame.specs.Reader.{judgedTo}
-use Rattle.frame.specs.Judged.{verdictOf, payloadAt, handedOut, startOf, passedBy}
+use Rattle.frame.specs.Judged.{verdictOf, payloadAt, startOf, passedBy}
 use Rattle.frame.specs.Refusal.{numberOf}
 use Rattle.frame.specs.Scan.{judging, found, Scanned, scannedTo, scanFrom, scanJudged, scanned, stoppedAt, judgedBytes, stopBuffer}
 use Rattle.frame.specs.declared.scan.ScanResult.{ScanResult}
@@ -104,7 +104,7 @@ failed k = verdict-is (refused-at k) _ (k .judged .given .1)
 
 -- The buffer is as it came.
 untouched : (k : tie.After-judged) → refused-at k .extract .last .1 .1 .0 ≡ start (refused-at k) .args .buf .now
-untouched k = refused-at k .extract .ensures .1 ∙ ap (λ (v : Verdict). handedOut v (start (refused-at k) .args .buf .now)) (failed k)
+untouched k = refused-at k .extract .ensures .1 ∙ ap (λ (v : Verdict). inFront (payloadIn v) (start (refused-at k) .args .buf .now)) (failed k)
 
 -- There is a byte.
 some : (k : tie.After-judged) → 1 ≤ length (start (refused-at k) .args .s .now)
@@ -315,7 +315,7 @@ returns-3 c =
           whole-count (start x),
           count-undecided (a .format) (length s) 0 s (omega arith) e,
         ),
-        x .extract .ensures .1 ∙ ap (λ (v : Verdict). handedOut v (a .buf .now)) e
+        x .extract .ensures .1 ∙ ap (λ (v : Verdict). inFront (payloadIn v) (a .buf .now)) e
             ∙ sym (ap (λ (y : ScanResult). stopBuffer (scanned (a .format) s y .stop) (a .buf .now)) r),
       ),
     )
@@ -382,7 +382,7 @@ returns-5 c =
           whole-count (start x),
           count-frame false (a .format) (length s) 0 s (omega arith) used p e,
         ),
-        x .extract .ensures .1 ∙ ap (λ (v : Verdict). handedOut v (a .buf .now)) e
+        x .extract .ensures .1 ∙ ap (λ (v : Verdict). inFront (payloadIn v) (a .buf .now)) e
             ∙ sym (ap (λ (y : ScanResult). stopBuffer (scanned (a .format) s y .stop) (a .buf .now)) r),
       ),
     )

@@ -9,7 +9,7 @@ use lib.ListN.{length, drop}
 use Rattle.io.proofs.Counting.{front}
 use Rattle.frame.specs.Draining.{Reports}
 use Rattle.frame.specs.Reader.{State, Values, feedValuesOf}
-use Rattle.frame.specs.View.{inside, viewed, viewCall, viewJudged, Follows, viewRefusal}
+use Rattle.frame.specs.View.{inside, viewed, viewCall, viewJudged, NextView, viewRefusal}
 use Rattle.frame.specs.Drain.{Drained, drain, judgedAfter}
 use Rattle.frame.proofs.Theorems.{view-reports, view-stays-inside}
 use Rattle.listing.specs.Parts.{PartlyDrained, Room, viewDrain, judgedMost}
@@ -57,7 +57,7 @@ feed-at-refused c = c .before .before .before .before .before .before .before
 reports : (f : tie.After-feed Inv-loop μ-loop) →
     let v = loop-at-feed f .loop .view in
     let chunk = entry-at-feed f .args .chunk .now in
-    Reports (viewRefusal v (length (loop-at-feed f .loop .buf)) (length chunk)) (viewCall v chunk) (viewJudged v chunk) (Follows v chunk (viewCall v chunk)) v
+    Reports (viewRefusal v (length (loop-at-feed f .loop .buf)) (length chunk)) (viewCall v chunk) (viewJudged v chunk) (NextView v chunk (viewCall v chunk)) v
     (loop-at-feed f .loop .buf) (feedValuesOf (f .feed .result .answer)) (f .feed .result .view) (f .feed .last .1 .1 .0)
 reports f = view-reports (loop-at-feed f .loop .view) (entry-at-feed f .args .chunk .now) (loop-at-feed f .loop .buf) (f .feed .result) _ (f .feed .ensures)
 

@@ -10,7 +10,8 @@ use borrow.Author.Needs.{needs}
 use lib.ListN.{length, take, drop, length-drop}
 use lib.Seq.{length-take-le}
 use Rattle.frame.specs.Framing.{limit, behindOptional}
-use Rattle.frame.specs.Reader.{holding, stateOf, quietHeld, quietJudged, sound, refusalValues, valuesAt}
+use Rattle.frame.specs.Reader.{holding, stateOf, quietHeld, quietJudged, sound, refusalValues}
+use Rattle.frame.specs.Answer.{valuesAt}
 use Rattle.frame.proofs.Lists.{drop-take}
 use Rattle.frame.proofs.Optional.{absorbed-there}
 use Rattle.frame.proofs.Framings.{limit-most}
