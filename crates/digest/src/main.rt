@@ -154,30 +154,28 @@ fn drive_view(format: Format, follows: bool, start: Tally, chunk: &[u8], buf: &m
     while 0 < turns {
         let viewed = view.feed(chunk, buf);
         let answer = viewed.answer;
-        tally = with_answer(tally, answer, buf);
         view = viewed.view;
-        if !is_frame(answer) {
-            break;
+        if let FeedAnswer::Frame { noise, len, .. } = answer {
+            tally = with_frame(tally, noise, buf, len);
+            turns -= 1;
+            continue;
         }
-        turns -= 1;
+        tally = with_answer(tally, answer, buf);
+        break;
     }
     let reader = view.reader(chunk);
     Driven { reader, tally }
 }
 
-// Feeds s in chunks of `size` bytes, each one's rest again until more is needed. A turn hands out a frame or takes a chunk to its end, so the turns are
-// fewer than bytes and chunks: their count here is never used up.
+// Feeds s in chunks of `size` bytes, each one's rest again until more is needed. The reader is called from one place, so that it is inlined. A turn hands out
+// a frame or takes a chunk to its end, so the turns are fewer than bytes and chunks, but for a first one: their count here is never used up.
 fn drive(start: Driven, s: &[u8], size: usize) -> Driven {
     let mut buf = [0u8; 256];
     let mut tally = start.tally;
-    let mut span = Span {
-        at: 0,
-        end: smaller(size, s.len()),
-    };
-    let end = span.end;
+    let mut span = Span { at: 0, end: 0 };
     let reader = start.reader;
     let format = reader.format;
-    let mut fed = reader.feed(&s[..end], &mut buf);
+    let mut fed = all_taken(reader);
     let mut turns: u64 = 0x400000;
     while 0 < turns {
         let answer = fed.answer;

@@ -9,18 +9,17 @@ use mathlib.Core.Bool.{true}
 use borrow.Author.Tests.{le-leb, leb-true}
 use lib.Arith.{digits-div, digits-mod}
 use lib.Dec.{leb}
-use lib.ListN.{length, getD, take, drop, length-append, drop-of-length-le}
-use lib.Bits.{bitXor}
+use lib.ListN.{length, take, length-append}
 use Rattle.frame.specs.Checks.{Checks, whole, byte, test, word, bytes, frame, behind, run, lastByte}
 use Rattle.frame.specs.Framing.{layout}
-use Rattle.frame.specs.Binary.{xorFrom, xorOf, binaryFront, binaryEnding, footerByte, behindChecksum, lengthWord, body, binary}
+use Rattle.frame.specs.Binary.{xorOf, binaryFront, binaryEnding, footerByte, behindChecksum, lengthWord, body, binary}
 use Rattle.frame.specs.Elements.{Bytes}
 use Rattle.frame.specs.declared.framing.Framing.the-variants.{Binary as BinaryFraming}
 use Rattle.frame.specs.declared.framing.Footer.{Footer}
 use Rattle.frame.specs.declared.framing.Footer.the-variants.{Optional, Required}
 use Rattle.frame.specs.Claims.{Payload}
 use Rattle.frame.proofs.Numbers.{both-true, and-true}
-use Rattle.frame.proofs.Lists.{bytes-left, drop-next}
+use Rattle.frame.proofs.Lists.{bytes-left}
 use Rattle.frame.proofs.Trees.{
   behind-behind,
   Within,
@@ -243,11 +242,3 @@ binary-used Required s p used e =
     let h = took-binary (lastByte footerByte) (ending-keeps Required) s p used e in
     let l = used-last footerByte 5 p _ s used (h .ends) in
     l .1 ∙ simp length-append (omega arith)
-
--- One byte more of an XOR.
-pub xor-step : (a : ℕ) (s : List ℕ) (i : ℕ) → i < length s → xorFrom a (drop i s) ≡ xorFrom (bitXor a (getD s i 0)) (drop (i + 1) s)
-xor-step a s i h = ap (xorFrom a) (drop-next s i h)
-
--- None is left.
-pub xor-end : (a : ℕ) (s : List ℕ) (i : ℕ) → length s ≤ i → xorFrom a (drop i s) ≡ a
-xor-end a s i h = ap (xorFrom a) (drop-of-length-le s h)

@@ -4,18 +4,19 @@ use Prim.Native.Nat.{ℕ, suc, _+_, _-_, _*_, _/_, _%_, _≤_, _<_}
 use native.Mathlib.Nat.{add-zero}
 use native.Mathlib.Numerals.{add-one}
 use native.Mathlib.Omega.{arith}
-use mathlib.Core.Bool.{Bool, true, false}
+use mathlib.Core.Bool.{Bool, true, false, _||_}
 use mathlib.Core.List.{List}
 use mathlib.Core.Path.{_≡_, sym, ap, _∙_}
-use borrow.Author.Tests.{eqb-true, eqb-false}
+use borrow.Author.Tests.{eq-eqb, eqb-true, eqb-false}
 use lib.Dec.{eqb}
 use lib.ListN.{length, getD, take, drop}
 use Rattle.frame.specs.Checks.{Checks, whole, lastByte, test, Verdict, cut, refused, frame, behind, run}
 use Rattle.frame.specs.Binary.{xorOf, body}
-use Rattle.frame.specs.Ascii.{hexDigits, behindDigits, lineEnding}
+use Rattle.frame.specs.Ascii.{carriageReturn, lineFeed, hexDigits, endsDigits, behindDigits, lineEnding}
 use Rattle.frame.specs.Judged.{endChecks}
 use Rattle.frame.specs.DigitRuns.{decoded}
 use Rattle.frame.specs.declared.framing.Ending.{Ending}
+use Rattle.frame.specs.declared.framing.Ending.the-variants.{CrLf, Any}
 use Rattle.frame.proofs.Trees.{behind-behind, pass-byte, fail-byte, cut-byte}
 use Rattle.frame.proofs.BinaryJudge.{body-checksum, body-passed}
 use Rattle.frame.proofs.AsciiJudge.{JudgesAt, Summed, line-checksum, line-ends}
@@ -80,3 +81,8 @@ line-ending ending {s} {count} h r true q =
 line-ending ending {s} {count} h r false q =
     line-checksum h (lineEnding ending) (behindDigits ending) r (eqb-false _ _ q)
     ∙ sym (ending-wrong (behindDigits ending) (decoded (take (2 * (count / 2 - 1)) (drop 1 s))) s (1 + count))
+
+-- CR ends digits under each ending.
+pub return-ends : (ending : Ending) (c : ℕ) → c ≡ carriageReturn → endsDigits ending c ≡ true
+return-ends CrLf c e = eq-eqb c carriageReturn e
+return-ends Any c e = ap (λ (q : Bool). q || eqb c lineFeed) (eq-eqb c carriageReturn e)

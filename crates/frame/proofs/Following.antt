@@ -1,26 +1,23 @@
 -- Laws of the calls behind a mark as the code makes them: an optional byte is passed over, and the rest is a call without one.
 -- Assumes nothing.
-use Prim.Native.Nat.{ℕ, zero, suc, _+_, _-_, _≤_, _<_, min, zero-le}
+use Prim.Native.Nat.{ℕ, zero, suc, _+_, _-_, _≤_, _<_}
 use native.Mathlib.Nat.{zero-add, not-suc-le-zero}
 use native.Mathlib.Omega.{arith}
 use mathlib.Core.Bool.{Bool, true, false}
 use mathlib.Core.List.{List, [], _∷_}
 use mathlib.Core.Path.{_≡_, refl, sym, ap, ap₂, _∙_, subst}
-use lib.ListN.{length, take, drop, length-drop}
+use lib.ListN.{length, take, drop}
 use lib.Seq.{drop-drop}
 use Rattle.frame.specs.Framing.{absorbed, behindOptional}
 use Rattle.frame.specs.Reader.{holding, Called, called, lineOn, tookFirst, lineBehind, judgedTo, lineJudged}
 use Rattle.frame.specs.Reader.{Values, noFrameValues, feedValuesOf}
-use Rattle.frame.specs.View.{part}
 use Rattle.frame.specs.Answer.{TookFirst, scanWhole, valuesAt}
-use Rattle.frame.specs.Feeding.{Leaves, judgedIn, KeepsCall}
+use Rattle.frame.specs.Feeding.{Leaves, lineOver}
 use Rattle.frame.specs.declared.framing.Format.{Format}
 use Rattle.frame.specs.declared.reader.Left.{Left}
-use Rattle.frame.specs.declared.answer.Kept.{Kept}
 use Rattle.frame.specs.declared.answer.FeedAnswer.{FeedAnswer}
 use Rattle.frame.specs.declared.answer.FeedAnswer.the-variants.{NeedsMore}
 use Rattle.frame.proofs.Lists.{drop-take}
-use Rattle.frame.proofs.Parts.{part-rest}
 use Rattle.frame.proofs.Optional.{absorbed-one, absorbed-front}
 use Rattle.frame.proofs.Promises.{called-taken}
 use Rattle.frame.proofs.Settling.{on-taken}
@@ -45,7 +42,7 @@ few-taken f h chunk total answer e l =
     omega (arith, ap (λ (v : Values). v .taken) e ∙ called-taken c total (c .out .frames), on-taken f h chunk)
 
 -- Of no bytes none is judged.
-none-judged : (f : Format) (follows : Bool) (judged : ℕ) → lineJudged (holding f [] follows judged) [] ≡ 0
+pub none-judged : (f : Format) (follows : Bool) (judged : ℕ) → lineJudged (holding f [] follows judged) [] ≡ 0
 unfolding judgedTo
 none-judged f true judged = omega arith
 none-judged f false judged = omega arith
@@ -93,70 +90,22 @@ next-leaves f follows (b ∷ chunk) rest buf n total left answer held buf′ l e
       buffer = k .buffer;
     })
 
--- A view of no bytes: the mark stays.
-pub view-empty :
-    (f : Format) (follows : Bool) (w buf : List ℕ) (count judged : ℕ) → length w ≡ 0 → count ≤ length w →
-    KeepsCall (lineBehind f follows (take count w) (drop count w)) (judgedIn f follows count judged w) count w
-    (record { answer = NeedsMore 0 0 0; from = 0; end = 0; follows = follows }) buf buf
-view-empty f follows [] buf zero judged e l =
-    record {
-      values = ap (noFrameValues 0 0) (sym (none-judged f follows judged));
-      held = refl;
-      inside = zero-le;
-      there = zero-le;
-      ends = refl;
-      follows = refl;
-      buffer = refl;
-    }
-view-empty f follows [] buf (suc count) judged e l = absurd (not-suc-le-zero l)
-view-empty f follows (b ∷ w) buf count judged e l = absurd (let z : ⊥ = omega arith in z)
-
 -- A call over w, the first `count` bytes of which are held: an optional byte in front of w is passed over, and taken where it was not held.
-split-line :
+pub split-line :
     (f : Format) (follows : Bool) (w : List ℕ) (count n : ℕ) → 0 < length w → n ≡ absorbed f follows w →
-    let s : List ℕ = drop n w in
-    let k : ℕ = count - min n count in
-    lineBehind f follows (take count w) (drop count w) ≡ tookFirst (n - min n count) (lineOn f (take k s) (drop k s))
+    lineBehind f follows (take count w) (drop count w) ≡ tookFirst (n - count) (lineOver f (count - n) (drop n w))
 split-line f follows [] count n l e = absurd (not-suc-le-zero l)
 split-line f follows (b ∷ w) zero n l e =
-    let all : n - min n 0 ≡ n = omega arith in
-    let none : 0 - min n 0 ≡ 0 = omega arith in
-    let s : List ℕ = drop n (b ∷ w) in
+    let all : n - 0 ≡ n = omega arith in
+    let none : 0 - n ≡ 0 = omega arith in
     ap (λ (i : ℕ). tookFirst i (lineOn f [] (drop i (b ∷ w)))) (sym e)
-    ∙ ap₂ (λ (i k : ℕ). tookFirst i (lineOn f (take k s) (drop k s))) (sym all) (sym none)
+    ∙ ap₂ (λ (i k : ℕ). tookFirst i (lineOver f k (drop n (b ∷ w)))) (sym all) (sym none)
 split-line f follows (b ∷ w) (suc count) n l e =
-    let s : List ℕ = drop n (b ∷ w) in
     let one : n ≤ 1 = subst (λ (i : ℕ). i ≤ 1) (sym e) (absorbed-one f follows (b ∷ w)) in
-    let left : suc count - min n (suc count) ≡ suc count - n = omega arith in
-    let none : n - min n (suc count) ≡ 0 = omega arith in
+    let none : n - suc count ≡ 0 = omega arith in
     let all : n + (suc count - n) ≡ suc count = omega arith in
-    let c : Called = lineOn f (take (suc count - n) s) (drop (suc count - n) s) in
+    let c : Called = lineOver f (suc count - n) (drop n (b ∷ w)) in
     ap (λ (i : ℕ). lineOn f (drop i (b ∷ take count w)) (drop count w)) (absorbed-front f follows b (take count w) w ∙ sym e)
     ∙ ap₂ (lineOn f) (drop-take n (suc count) (b ∷ w)) (ap (λ (i : ℕ). drop i (b ∷ w)) (sym all) ∙ sym (drop-drop (suc count - n) n (b ∷ w)))
     ∙ sym (none-first c)
-    ∙ ap₂ (λ (i k : ℕ). tookFirst i (lineOn f (take k s) (drop k s))) (sym none) (sym left)
-
--- The part that is kept of what stands behind that byte.
-pub view-follows :
-    (f : Format) (follows : Bool) (w s buf : List ℕ) (total count n held : ℕ) (k : Kept) (answer : FeedAnswer) (buf′ : List ℕ) → 0 < length w →
-    n ≡ absorbed f follows w → n ≤ length w → held ≡ min n count → s ≡ drop n w →
-    KeepsCall (lineOn f (take (count - held) s) (drop (count - held) s)) total (count - held) s k buf buf′ → TookFirst (n - held) (k .answer) answer →
-    KeepsCall (lineBehind f follows (take count w) (drop count w)) total count w
-    (record { answer = answer; from = n + k .from; end = n + k .end; follows = k .follows }) buf buf′
-view-follows f follows w s buf total count n held k answer buf′ l e there m r h t =
-    let c : Called = lineOn f (take (count - held) s) (drop (count - held) s) in
-    let same : tookFirst (n - held) c ≡ lineBehind f follows (take count w) (drop count w) =
-    ap₂ (λ (i : ℕ) (x : List ℕ). tookFirst (n - i) (lineOn f (take (count - i) x) (drop (count - i) x))) m r ∙ sym (split-line f follows w count n l e) in
-    subst
-    (λ (x : Called).
-    KeepsCall x total count w (record { answer = answer; from = n + k .from; end = n + k .end; follows = k .follows }) buf buf′)
-    same
-    (record {
-      values = t c total (h .values);
-      held = sym (part-rest n (k .from) (k .end) w) ∙ ap (part (k .from) (k .end)) (sym r) ∙ h .held;
-      inside = omega (arith, h .inside);
-      there = omega (arith, h .there, ap length r ∙ length-drop n w);
-      ends = omega (arith, h .ends);
-      follows = h .follows;
-      buffer = h .buffer;
-    })
+    ∙ ap (λ (i : ℕ). tookFirst i c) (sym none)

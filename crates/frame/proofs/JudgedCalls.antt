@@ -195,12 +195,12 @@ next-behind f follows chunk rest n e q =
 
 -- for a view,
 pub view-behind :
-    (f : Format) (follows : Bool) (w s : List ℕ) (count held judged n : ℕ) → n ≡ absorbed f follows w → s ≡ drop n w →
-    judgedIn f false (count - held) (cond (eqb n 0) judged 0) s ≡ judgedIn f follows count judged w
-view-behind f follows w s count held judged n e q =
-    ap (countFrom (holding f [] false (cond (eqb n 0) judged 0)) (judgedTo f (judge f))) (take-append-drop (count - held) s ∙ q)
-    ∙ count-behind f follows w judged n (judgedTo f (judge f)) e
-    ∙ ap (countFrom (holding f [] follows judged) (judgedTo f (judge f))) (sym (take-append-drop count w))
+    (f : Format) (follows : Bool) (w : List ℕ) (count left judged n : ℕ) → n ≡ absorbed f follows w →
+    judgedIn f follows count judged w ≡ judgedIn f false left (cond (eqb n 0) judged 0) (drop n w)
+view-behind f follows w count left judged n e =
+    ap (countFrom (holding f [] follows judged) (judgedTo f (judge f))) (take-append-drop count w)
+    ∙ sym (count-behind f follows w judged n (judgedTo f (judge f)) e)
+    ∙ ap (countFrom (holding f [] false (cond (eqb n 0) judged 0)) (judgedTo f (judge f))) (sym (take-append-drop left (drop n w)))
 
 -- and at a quiet.
 pub quiet-behind :

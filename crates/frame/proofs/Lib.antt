@@ -9,8 +9,10 @@ pub mod Prefixes
 -- Each framing by itself: its layout and its checks, and how the code judges it.
 pub mod BinaryLaws
 pub mod BinaryJudge
+pub mod XorLaws
 pub mod DigitLaws
 pub mod Words
+pub mod BlockMarks
 pub mod HexLaws
 pub mod AsciiLaws
 pub mod AsciiJudge

@@ -1,6 +1,6 @@
 -- Laws of views: a view's call is the line call of the reader that the view stands for.
 -- Assumes nothing.
-use Prim.Native.Nat.{ℕ, _+_, _-_, _≤_, _<_}
+use Prim.Native.Nat.{ℕ, _+_, _-_, _≤_, _<_, max}
 use native.Mathlib.Omega.{arith}
 use mathlib.Core.Path.{_≡_, refl, sym, ap, ap₂, _∙_, subst}
 use mathlib.Core.List.{List, []}
@@ -8,26 +8,32 @@ use mathlib.Core.Bool.{Bool, true, false, cond, _&&_, true≢false, false≢true
 use borrow.Author.Tests.{le-leb, lt-leb, leb-true, eqb-true}
 use lib.Dec.{leb, eqb}
 use lib.ListN.{length, take, drop, length-drop}
-use lib.Seq.{drop-drop}
-use Rattle.frame.specs.Framing.{limit}
-use Rattle.frame.specs.Reader.{State, holding, Called, lineBehind, line, lineJudged, after, stateOf, Holds, refusalValues, callRefusal}
-use Rattle.frame.specs.Reader.{bufferAt, sound, feedRefusal, feedValuesOf, Feeds}
+use lib.Seq.{drop-length, drop-drop}
+use Rattle.frame.specs.Framing.{limit, absorbed}
+use Rattle.frame.specs.Rule.{nothing}
+use Rattle.frame.specs.Reader.{State, holding, Called, called, tookFirst, lineBehind, line, lineJudged, after, stateOf, Holds, refusalValues}
+use Rattle.frame.specs.Reader.{callRefusal, bufferAt, sound, feedRefusal, feedValuesOf, Feeds}
 use Rattle.frame.specs.Refusal.{numberOf}
 use Rattle.frame.specs.View.{inside, part, viewed, viewCall, viewJudged, NextView, viewRefusal, Views, Stands}
 use Rattle.frame.specs.Draining.{ViewReports}
-use Rattle.frame.specs.Answer.{HeldSo, valuesAt}
-use Rattle.frame.specs.Feeding.{judgedIn, KeepsCall}
+use Rattle.frame.specs.Answer.{TookFirst, HeldSo, valuesAt}
+use Rattle.frame.specs.Feeding.{lineOver, judgedIn, KeepsCall, pastOptional}
 use Rattle.frame.specs.Views.{ViewIsFeed, ViewStaysInside}
+use Rattle.frame.specs.declared.framing.Format.{Format}
 use Rattle.frame.specs.declared.reader.Reader.{Reader}
 use Rattle.frame.specs.declared.refusal.Refusal.{Refusal}
 use Rattle.frame.specs.declared.answer.Kept.{Kept}
-use Rattle.frame.specs.declared.answer.FeedAnswer.the-variants.{Refused}
+use Rattle.frame.specs.declared.answer.FeedAnswer.{FeedAnswer}
+use Rattle.frame.specs.declared.answer.FeedAnswer.the-variants.{NeedsMore, Refused}
 use Rattle.frame.specs.declared.view.View.{View}
 use Rattle.frame.specs.declared.view.Viewed.{Viewed}
 use Rattle.frame.proofs.Parts.{part-size, part-rest}
 use Rattle.frame.proofs.Settling.{line-one, line-taken, line-size}
 use Rattle.frame.proofs.Promises.{refuses, answers, numbered, answered, refusing, says}
+use Rattle.frame.proofs.Optional.{absorbed-one, absorbed-there}
 use Rattle.frame.proofs.Refusals.{judged-few, holds-fits}
+use Rattle.frame.proofs.JudgedCalls.{behind-few, view-behind}
+use Rattle.frame.proofs.Following.{none-judged, split-line}
 
 -- What the answer of a view's call says.
 pub view-reports : ViewReports
@@ -168,35 +174,141 @@ refused-views v chunk buf a r n z e f =
       answers = λ t. absurd (true≢false (sym t ∙ ap (λ (k : ℕ). eqb k 0) n ∙ z));
     }
 
--- A call that is not refused: the kept part of the chunk's rest is the view that follows.
-pub kept-views :
-    (v : View) (chunk buf buf′ : List ℕ) (k : Kept) (judged : ℕ) → Inside v (length chunk) → 256 ≤ length buf → length chunk ≤ 65536 →
-    let w : List ℕ = drop (v .from) chunk in
-    let count : ℕ = v .end - v .from in
-    KeepsCall (lineBehind (v .format) (v .follows) (take count w) (drop count w)) (judgedIn (v .format) (v .follows) count (v .judged) w) count w k buf buf′ →
-    HeldSo (k .answer) (k .end - k .from) judged →
-    Views v chunk buf
-    (record {
-      view = record { format = v .format; from = v .from + k .from; end = v .from + k .end; follows = k .follows; judged = judged };
-      answer = k .answer;
-    })
-    buf′
-kept-views v chunk buf buf′ k judged h room few kept so =
-    let w : List ℕ = drop (v .from) chunk in
-    let count : ℕ = v .end - v .from in
-    let end : v .from + count ≡ v .end = omega (arith, h .onward) in
-    let rest : drop count w ≡ drop (v .end) chunk = drop-drop count (v .from) chunk ∙ ap (λ (n : ℕ). drop n chunk) end in
-    let g : KeepsCall (viewCall v chunk) (viewJudged v chunk) count w k buf buf′ =
-    subst (λ (t : List ℕ). KeepsCall (line (viewed v chunk) t) (lineJudged (viewed v chunk) t) count w k buf buf′) rest kept in
-    let size : length (viewCall v chunk .held) ≡ k .end - k .from = ap length (sym (g .held)) ∙ part-size (k .from) (k .end) w (g .inside) (g .there) in
-    let is = so (viewCall v chunk) _ (g .values) (sym size) in
+-- A call with no byte held or offered, where the view is at the chunk's end.
+pub waiting-views :
+    (v : View) (chunk buf : List ℕ) (a : Viewed) → Inside v (length chunk) → v .from ≡ length chunk → 256 ≤ length buf → length chunk ≤ 65536 →
+    a .view ≡ v → a .answer ≡ NeedsMore 0 0 0 → Views v chunk buf a buf
+waiting-views v chunk buf a h last room few same is =
+    let f : Format = v .format in
+    let end : v .end ≡ length chunk = omega (arith, h .onward, h .there) in
+    let none : v .end - v .from ≡ 0 = omega arith in
+    let held : part (v .from) (v .end) chunk ≡ [] = ap (λ (n : ℕ). take n (drop (v .from) chunk)) none in
+    let rest : drop (v .end) chunk ≡ [] = ap (λ (n : ℕ). drop n chunk) end ∙ drop-length chunk in
+    let c : Called = called 0 nothing 0 [] (v .follows) in
+    let call : viewCall v chunk ≡ c = ap₂ (lineBehind f (v .follows)) held rest in
+    let judged : viewJudged v chunk ≡ 0 =
+    ap₂ (λ (x y : List ℕ). lineJudged (holding f x (v .follows) (v .judged)) y) held rest ∙ none-judged f (v .follows) (v .judged) in
+    let known : v .judged ≡ 0 = omega (arith, h .few) in
+    let next : NextView v chunk c v = record {
+      end = omega arith;
+      from = omega arith;
+      state = λ i. holding f (held i) (v .follows) (known i);
+    } in
     answers
     (view-accepted v (length buf) (length chunk) (inside-is v (length chunk) h) room few)
-    (g .values)
+    (ap feedValuesOf is ∙ ap₂ valuesAt (sym call) (sym judged))
+    (subst (λ (x : View). NextView v chunk (viewCall v chunk) x) (sym same) (subst (λ (x : Called). NextView v chunk x v) (sym call) next))
+    (ap (λ (x : Called). bufferAt (x .out .frames) buf) (sym call))
+
+-- Without the mark, the view behind an optional byte is the view itself.
+pub past-unmarked : (v : View) (chunk : List ℕ) → v .follows ≡ false → v .from ≤ v .end → v ≡ pastOptional v chunk
+past-unmarked v chunk e l =
+    let n : ℕ = absorbed (v .format) (v .follows) (drop (v .from) chunk) in
+    let none : n ≡ 0 = ap (λ (q : Bool). absorbed (v .format) q (drop (v .from) chunk)) e in
+    let from : v .from ≡ v .from + n = omega arith in
+    let end : v .end ≡ max (v .end) (v .from + n) = omega arith in
+    let judged : v .judged ≡ cond (eqb n 0) (v .judged) 0 = ap (λ (k : ℕ). cond (eqb k 0) (v .judged) 0) (sym none) in
+    λ i. record { format = v .format; from = from i; end = end i; follows = e i; judged = judged i }
+
+-- What the code takes for it, with the mark.
+pub past-marked :
+    (v : View) (chunk rest : List ℕ) (n end judged : ℕ) → v .follows ≡ true → n ≡ absorbed (v .format) true rest → rest ≡ drop (v .from) chunk →
+    end ≡ max (v .end) (v .from + n) → judged ≡ cond (eqb n 0) (v .judged) 0 →
+    record { format = v .format; from = v .from + n; end = end; follows = false; judged = judged } ≡ pastOptional v chunk
+past-marked v chunk rest n end judged m e r l j =
+    let at : ℕ → View = λ k.
+    record { format = v .format; from = v .from + k; end = max (v .end) (v .from + k); follows = false; judged = cond (eqb k 0) (v .judged) 0 } in
+    let same : record { format = v .format; from = v .from + n; end = end; follows = false; judged = judged } ≡ at n =
+    λ i. record { format = v .format; from = v .from + n; end = l i; follows = false; judged = j i } in
+    same ∙ ap at (e ∙ ap₂ (absorbed (v .format)) (sym m) r)
+
+-- What the view behind an optional byte is to a view that has a byte held or offered: it lies in the chunk, at most one byte further, and the view's call is
+-- the call without the mark from there, before which that byte is taken where it was not held.
+pub record Past (v : View) (chunk : List ℕ) (at : View) : Type 0 where
+  pub format : at .format ≡ v .format
+  pub inside : Inside at (length chunk)
+  pub onward : v .end ≤ at .end
+  pub one : at .end ≤ v .end + 1
+  pub call : viewCall v chunk ≡ tookFirst (at .end - v .end) (lineOver (at .format) (at .end - at .from) (drop (at .from) chunk))
+  pub judged : viewJudged v chunk ≡ judgedIn (at .format) false (at .end - at .from) (at .judged) (drop (at .from) chunk)
+
+-- How many bytes are taken and how many stay held, where n are passed over from the front of those from `from` up to `end`.
+module _ (from end n : ℕ) (l : from ≤ end) where
+  first-past : n - (end - from) ≡ max end (from + n) - end
+  first-past = omega arith
+
+  left-past : end - from - n ≡ max end (from + n) - (from + n)
+  left-past = omega arith
+
+-- The view behind an optional byte lies in the chunk.
+past-inside : (v : View) (chunk : List ℕ) → Inside v (length chunk) → Inside (pastOptional v chunk) (length chunk)
+past-inside v chunk h =
+    let n : ℕ = absorbed (v .format) (v .follows) (drop (v .from) chunk) in
+    let left : v .end - v .from - n ≡ max (v .end) (v .from + n) - (v .from + n) = left-past (v .from) (v .end) n (h .onward) in
+    record {
+      onward = omega arith;
+      there = omega (arith, h .onward, h .there, absorbed-there (v .format) (v .follows) (drop (v .from) chunk), length-drop (v .from) chunk);
+      fits = subst (λ (k : ℕ). k ≤ limit (v .format)) left (omega (arith, h .fits));
+      few = subst (λ (k : ℕ). cond (eqb n 0) (v .judged) 0 ≤ k) left (behind-few n (v .judged) (v .end - v .from - n) (λ z. omega (arith, h .few)));
+    }
+
+-- The view that the definition gives is so.
+pub past-optional : (v : View) (chunk : List ℕ) → Inside v (length chunk) → v .from < length chunk → Past v chunk (pastOptional v chunk)
+past-optional v chunk h some =
+    let f : Format = v .format in
+    let w : List ℕ = drop (v .from) chunk in
+    let n : ℕ = absorbed f (v .follows) w in
+    let count : ℕ = v .end - v .from in
+    let next : ℕ = v .from + n in
+    let end : ℕ = max (v .end) next in
+    let is : v .from + count ≡ v .end = omega (arith, h .onward) in
+    let rest : drop count w ≡ drop (v .end) chunk = drop-drop count (v .from) chunk ∙ ap (λ (k : ℕ). drop k chunk) is in
+    let behind : drop n w ≡ drop next chunk = drop-drop n (v .from) chunk in
+    record {
+      format = refl;
+      inside = past-inside v chunk h;
+      onward = omega arith;
+      one = omega (arith, h .onward, absorbed-one f (v .follows) w);
+      call = ap (lineBehind f (v .follows) (take count w)) (sym rest)
+          ∙ split-line f (v .follows) w count n (omega (arith, length-drop (v .from) chunk)) refl
+          ∙ (λ i. tookFirst (first-past (v .from) (v .end) n (h .onward) i) (lineOver f (left-past (v .from) (v .end) n (h .onward) i) (behind i)));
+      judged = ap (lineJudged (viewed v chunk)) (sym rest)
+          ∙ view-behind f (v .follows) w count (end - next) (v .judged) n refl
+          ∙ ap (judgedIn f false (end - next) (cond (eqb n 0) (v .judged) 0)) behind;
+    }
+
+-- A call that is not refused: the part that is kept of the chunk behind an optional byte is the view that follows.
+pub kept-views :
+    (v : View) (chunk rest buf buf′ : List ℕ) (at : View) (k : Kept) (answer : FeedAnswer) (judged : ℕ) →
+    Inside v (length chunk) → Past v chunk at → 256 ≤ length buf → length chunk ≤ 65536 → rest ≡ drop (at .from) chunk →
+    let count : ℕ = at .end - at .from in
+    KeepsCall (lineOver (at .format) count rest) (judgedIn (at .format) false count (at .judged) rest) count rest k buf buf′ →
+    HeldSo (k .answer) (k .end - k .from) judged → TookFirst (at .end - v .end) (k .answer) answer →
+    Views v chunk buf
     (record {
-      end = omega (arith, g .ends);
-      from = omega (arith, g .inside);
-      state = λ i.
-          holding (v .format) ((sym (part-rest (v .from) (k .from) (k .end) chunk) ∙ g .held) i) (g .follows i) (is i);
+      view = record { format = at .format; from = at .from + k .from; end = at .from + k .end; follows = k .follows; judged = judged };
+      answer = answer;
     })
-    (g .buffer)
+    buf′
+kept-views v chunk rest buf buf′ at k answer judged h p room few r fed so took =
+    let w : List ℕ = drop (at .from) chunk in
+    let count : ℕ = at .end - at .from in
+    let c : Called = lineOver (at .format) count w in
+    let total : ℕ = judgedIn (at .format) false count (at .judged) w in
+    let x : Called = tookFirst (at .end - v .end) c in
+    let kept : KeepsCall c total count w k buf buf′ =
+    subst (λ (s : List ℕ). KeepsCall (lineOver (at .format) count s) (judgedIn (at .format) false count (at .judged) s) count s k buf buf′) r fed in
+    let size : length (c .held) ≡ k .end - k .from = ap length (sym (kept .held)) ∙ part-size (k .from) (k .end) w (kept .inside) (kept .there) in
+    let is = so c total (kept .values) (sym size) in
+    let v′ : View = record { format = at .format; from = at .from + k .from; end = at .from + k .end; follows = k .follows; judged = judged } in
+    let next : NextView v chunk x v′ = record {
+      end = omega (arith, kept .ends, p .onward, p .inside .onward);
+      from = omega (arith, kept .inside);
+      state = λ i.
+          holding (p .format i) ((sym (part-rest (at .from) (k .from) (k .end) chunk) ∙ kept .held) i) (kept .follows i) (is i);
+    } in
+    answers
+    (view-accepted v (length buf) (length chunk) (inside-is v (length chunk) h) room few)
+    (took c total (kept .values) ∙ ap₂ valuesAt (sym (p .call)) (sym (p .judged)))
+    (subst (λ (y : Called). NextView v chunk y v′) (sym (p .call)) next)
+    (kept .buffer ∙ ap (λ (y : Called). bufferAt (y .out .frames) buf) (sym (p .call)))

@@ -1,8 +1,9 @@
--- Behind the public calls: what the functions of digit.rt and hex.rt answer.
-use Prim.Native.Nat.{ℕ, zero, suc, _+_, _*_}
+-- Behind the public calls: what the functions of digit.rt and hex.rt answer, and those of binary.rt that work on words.
+use Prim.Native.Nat.{ℕ, zero, suc, _+_, _*_, _/_, _%_}
 use mathlib.Core.List.{List, [], _∷_, map}
 use mathlib.Core.Path.{_≡_}
 use mathlib.Core.Bool.{Bool, true, cond, _&&_}
+use lib.Bits.{bitXor}
 use Rattle.frame.specs.Elements.{All}
 use Rattle.frame.specs.Digit.{isDigit, digitValue}
 use Rattle.frame.specs.Hex.{pairs}
@@ -21,11 +22,26 @@ abbrev pub littleEndian : List ℕ → ℕ
 littleEndian [] = 0
 littleEndian (b ∷ s) = b + 256 * littleEndian s
 
+-- The XOR of the n lowest bytes of a number.
+abbrev pub bytesXor : ℕ → ℕ → ℕ
+bytesXor zero w = 0
+bytesXor (suc n) w = bitXor (w % 256) (bytesXor n (w / 256))
+
 -- The count of digits at the front of s, up to `most`.
 abbrev pub digitRun : ℕ → List ℕ → ℕ
 digitRun zero s = 0
 digitRun (suc most) [] = 0
 digitRun (suc most) (c ∷ s) = cond (isDigit c) (suc (digitRun most s)) 0
+
+-- A mark for each element of s: 0 where it passes the test, and 0x80 where not.
+abbrev pub marksOf : (ℕ → Bool) → List ℕ → List ℕ
+marksOf test s = map (λ c. cond (test c) 0 0x80) s
+
+-- The count of zeros at the front of s.
+abbrev pub zeroRun : List ℕ → ℕ
+zeroRun [] = 0
+zeroRun (zero ∷ s) = suc (zeroRun s)
+zeroRun (suc m ∷ s) = 0
 
 -- The bytes that the characters of s stand for, two to a byte.
 abbrev pub decoded : List ℕ → List ℕ

@@ -1,11 +1,12 @@
 -- Behind the public calls: what the functions of reader.rt and view.rt answer that `feed`, `quiet` and a view's call are made of. proofs/ shows that it is
 -- what `line` and `quiet` give.
-use Prim.Native.Nat.{ℕ, _+_, _*_, _≤_}
+use Prim.Native.Nat.{ℕ, _+_, _*_, _≤_, max}
 use mathlib.Core.Path.{_≡_}
 use mathlib.Core.List.{List, _++_}
-use mathlib.Core.Bool.{Bool, false}
+use mathlib.Core.Bool.{Bool, false, cond}
+use lib.Dec.{eqb}
 use lib.ListN.{length, take, drop}
-use Rattle.frame.specs.Framing.{limit}
+use Rattle.frame.specs.Framing.{limit, absorbed}
 use Rattle.frame.specs.Reader.{holding, Called, lineOn, lineBehind, lineJudged, AfterQuiet, feedValuesOf, quietValuesOf, bufferAt}
 use Rattle.frame.specs.View.{part}
 use Rattle.frame.specs.Answer.{valuesAt}
@@ -14,6 +15,7 @@ use Rattle.frame.specs.declared.answer.Kept.{Kept}
 use Rattle.frame.specs.declared.reader.Left.{Left}
 use Rattle.frame.specs.declared.reader.Quieted.{Quieted}
 use Rattle.frame.specs.declared.reader.Joined.{Joined}
+use Rattle.frame.specs.declared.view.View.{View}
 
 -- The held bytes and as much of the chunk as a frame that begins in them can have.
 abbrev pub joined : Format → List ℕ → List ℕ → List ℕ
@@ -73,7 +75,14 @@ pub record KeepsCall (c : Called) (total count : ℕ) (w : List ℕ) (k : Kept) 
   pub follows : k .follows ≡ c .follows
   pub buffer : buf′ ≡ bufferAt (c .out .frames) buf
 
--- What `feed_part` and `feed_view` are called with.
+-- The view behind an optional byte that may follow the last frame: the byte is passed over where it is held, and taken where it is offered.
+abbrev pub pastOptional : View → List ℕ → View
+pastOptional v chunk =
+    let n : ℕ = absorbed (v .format) (v .follows) (drop (v .from) chunk) in
+    let next : ℕ = v .from + n in
+    record { format = v .format; from = next; end = max (v .end) next; follows = false; judged = cond (eqb n 0) (v .judged) 0 }
+
+-- What `feed_part` is called with.
 pub record PartFed (f : Format) (w : List ℕ) (count : ℕ) (buf : List ℕ) : Type 0 where
   pub inside : count ≤ length w
   pub fits : count ≤ limit f

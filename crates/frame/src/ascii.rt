@@ -10,6 +10,7 @@ ghost use mathlib.Core.Path.{_≡_};
 ghost use mathlib.Core.Bool.{true};
 ghost use Prim.Native.Nat.{_≤_, _<_, _+_, _*_, _%_};
 ghost use lib.ListN.{length, getD, take, drop};
+ghost use Rattle.frame.specs.declared.framing.Ending.{Ending};
 ghost use Rattle.frame.specs.declared.framing.Format.the-variants.{Ascii};
 ghost use Rattle.frame.specs.declared.framing.Framing.the-variants.{Ascii as AsciiFraming};
 ghost use Rattle.frame.specs.Checks.{run, behind, payloadIn};
@@ -124,10 +125,10 @@ pub(crate) fn judge(ending: Ending, s: &[u8]) -> Judged
     judge_run(ending, s, run_behind(s))
 }
 
-// Whether s begins with a colon, has room for an even count of digits, for a payload of 16 to 31 bytes and its checksum, and a character behind them that ends
-// digits.
-fn is_short(ending: Ending, s: &[u8], count: usize) -> bool
-    ensures { λ r. ⌜ ((r ≡ true) → Short ending (now (s .entry)) count) ⌝ }
+// Whether s begins with a colon, has room for an even count of digits, for a payload of 16 to 31 bytes and its checksum, and a CR behind them, which ends digits
+// under either ending. A frame that ends with LF alone is judged like a longer one.
+fn is_short(s: &[u8], count: usize) -> bool
+    ensures { λ r. ⌜ ((r ≡ true) → (ending : Ending) → Short ending (now (s .entry)) count) ⌝ }
 {
     if count < 34 {
         return false;
@@ -144,7 +145,7 @@ fn is_short(ending: Ending, s: &[u8], count: usize) -> bool
     if s[0] != 0x3A {
         return false;
     }
-    ends_digits(ending, s[1 + count])
+    s[1 + count] == 0x0D
 }
 
 // Judges a short frame, and puts its payload into the front of buf. It is decoded once, before its sum is known: the first 16 bytes and the last
@@ -184,7 +185,7 @@ pub(crate) fn extract(ending: Ending, s: &[u8], buf: &mut [u8]) -> Judged
     ensures { λ r. ⌜ now (buf .exit) ≡ inFront (payloadIn (judge (Ascii ending) (now (s .entry)))) (now (buf .entry)) ⌝ }
 {
     let count = run_behind(s);
-    if is_short(ending, s, count) {
+    if is_short(s, count) {
         return extract_short(ending, s, count, buf);
     }
     let verdict = judge_run(ending, s, count);

@@ -1,27 +1,54 @@
 // Binary framing.
+use crate::digit::word;
 use crate::framing::Footer;
 use crate::framing::Judged;
 use crate::framing::judge_complete;
 use crate::framing::judge_ending;
 use crate::refusal::Refusal;
 ghost use mathlib.Core.Path.{_≡_};
-ghost use Prim.Native.Nat.{_≤_, _<_, _+_};
+ghost use Prim.Native.Nat.{_≤_, _<_, _+_, _*_, _/_};
 ghost use lib.ListN.{length, take, drop};
 ghost use Rattle.frame.specs.declared.framing.Format.the-variants.{Binary};
 ghost use Rattle.frame.specs.declared.framing.Framing.the-variants.{Binary as BinaryFraming};
 ghost use Rattle.frame.specs.Binary.{xorOf, body, behindChecksum};
 ghost use Rattle.frame.specs.Checks.{run, behind, payloadIn};
+ghost use Rattle.frame.specs.DigitRuns.{bytesXor};
 ghost use Rattle.frame.specs.Framing.{judge, inFront, layout};
 ghost use Rattle.frame.specs.Judged.{verdictOf};
 
-// The XOR of all bytes.
+// The XOR of the words of 8 bytes at the front of s, all that are whole.
+fn xor_words(s: &[u8]) -> u64
+    ensures { λ r. ⌜ bytesXor 8 r ≡ xorOf (take (8 * (length (now (s .entry)) / 8)) (now (s .entry))) ⌝ }
+{
+    let count = s.len() / 8;
+    let mut sum: u64 = 0;
+    let mut i = 0;
+    while i < count {
+        sum = sum ^ word(s, 8 * i);
+        i += 1;
+    }
+    sum
+}
+
+// The XOR of a word's bytes. A shift lays the upper half over the lower: of 8 bytes, then of the 4 that are left, then of 2.
+fn folded(w: u64) -> u8
+    ensures { λ r. ⌜ r ≡ bytesXor 8 w ⌝ }
+{
+    let half = w ^ (w >> 32);
+    let quarter = half ^ (half >> 16);
+    ((quarter ^ (quarter >> 8)) % 256) as u8
+}
+
+// The XOR of all bytes: by words, then the rest, whose count has a bound that the compiler sees, so that the loop is not vectorised.
 pub(crate) fn xor_of(s: &[u8]) -> u8
     ensures { λ r. ⌜ r ≡ xorOf (now (s .entry)) ⌝ }
 {
-    let mut sum: u8 = 0;
+    let mut sum = folded(xor_words(s));
+    let rest = s.len() % 8;
+    let from = s.len() - rest;
     let mut i = 0;
-    while i < s.len() {
-        sum = sum ^ s[i];
+    while i < rest {
+        sum = sum ^ s[from + i];
         i += 1;
     }
     sum
@@ -45,10 +72,12 @@ fn judge_body(footer: Footer, s: &[u8], len: usize) -> Judged
     if s.len() <= end {
         return Judged::Undecided;
     }
-    let right = xor_of(&s[4..end]) == s[end];
+    if xor_of(&s[4..end]) != s[end] {
+        return judge_complete(end, false, len);
+    }
     match footer {
-        Footer::Optional => judge_complete(end, right, len),
-        Footer::Required => judge_ending(s, end, right, 0x04, len),
+        Footer::Optional => judge_complete(end, true, len),
+        Footer::Required => judge_ending(s, end, true, 0x04, len),
     }
 }
 

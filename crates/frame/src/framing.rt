@@ -5,6 +5,7 @@ use crate::reader::Reader;
 use crate::refusal::Refusal;
 ghost use mathlib.Core.Path.{_≡_};
 ghost use Prim.Native.Nat.{ℕ, _≤_, _<_};
+ghost use lib.Dec.{eqb};
 ghost use lib.ListN.{length};
 ghost use Rattle.frame.specs.Checks.{payloadIn};
 ghost use Rattle.frame.specs.Framing.{formatOf, judge, layout, limit, inFront, mayFollow, isOpen, isOptional, absorbed};
@@ -172,23 +173,19 @@ pub(crate) fn may_follow(format: Format, s: &[u8], end: usize) -> bool
     }
 }
 
-// Whether b is the 04 that may be left out.
-fn is_optional_footer(footer: Footer, b: u8) -> bool
-    ensures { λ r. ⌜ r ≡ isOptional (Binary footer) b ⌝ }
+// The optional byte of a format; 256, which no byte is, where it has none.
+fn optional_of(format: Format) -> u16
+    ensures { λ r. ⌜ ((b : ℕ) → b < 256 → isOptional format b ≡ eqb b r) ⌝ }
 {
-    match footer {
-        Footer::Optional => b == 0x04,
-        Footer::Required => false,
-    }
-}
-
-// Whether b is the LF that may follow a CR.
-fn is_optional_lf(ending: Ending, b: u8) -> bool
-    ensures { λ r. ⌜ r ≡ isOptional (Ascii ending) b ⌝ }
-{
-    match ending {
-        Ending::CrLf => false,
-        Ending::Any => b == 0x0A,
+    match format {
+        Format::Binary(footer) => match footer {
+            Footer::Optional => 0x04,
+            Footer::Required => 256,
+        },
+        Format::Ascii(ending) => match ending {
+            Ending::CrLf => 256,
+            Ending::Any => 0x0A,
+        },
     }
 }
 
@@ -196,10 +193,7 @@ fn is_optional_lf(ending: Ending, b: u8) -> bool
 fn is_optional(format: Format, b: u8) -> bool
     ensures { λ r. ⌜ r ≡ isOptional format b ⌝ }
 {
-    match format {
-        Format::Binary(footer) => is_optional_footer(footer, b),
-        Format::Ascii(ending) => is_optional_lf(ending, b),
-    }
+    b as u16 == optional_of(format)
 }
 
 // How many bytes at the front of s, one or none, belong to the frame before them, where one may follow it.

@@ -34,8 +34,8 @@ ghost use Rattle.frame.specs.Feeding.{Joins, Stores, Leaves, LeavesHeld,
 pub struct Reader {
     pub format: Format,
     pub held: [u8; 517],
-    pub count: usize,
     pub follows: bool,
+    pub count: usize,
     pub judged: usize,
 }
 

@@ -13,13 +13,13 @@ use crate::reader::hold;
 use crate::reader::judged_behind;
 use crate::refusal::Refusal;
 use crate::scan::find_first;
-use crate::scan::smaller;
+use crate::scan::larger;
 ghost use mathlib.Core.Path.{_≡_};
-ghost use mathlib.Core.Bool.{false};
-ghost use lib.ListN.{take, drop};
-ghost use Rattle.frame.specs.Reader.{lineBehind};
+ghost use mathlib.Core.Bool.{true, false};
+ghost use Prim.Native.Nat.{_≤_};
+ghost use lib.ListN.{length};
 ghost use Rattle.frame.specs.View.{inside, Views, Stands};
-ghost use Rattle.frame.specs.Feeding.{lineOver, judgedIn, KeepsCall, PartFed};
+ghost use Rattle.frame.specs.Feeding.{lineOver, judgedIn, KeepsCall, PartFed, pastOptional};
 
 // A reader's state, by value, whose held bytes are those of a chunk from index `from` up to `end`, which is behind them; `follows` and `judged` are the
 // reader's.
@@ -81,42 +81,67 @@ fn feed_part(format: Format, w: &[u8], count: usize, judged: usize, buf: &mut [u
     answer(format, w, found, before, found.judged)
 }
 
-// Finds the next frame where the first `count` bytes of w are held and the others are offered. An optional byte that may follow the last frame is passed
-// over at the front of w, and taken where it was not held. With no byte held or offered it may still follow.
-fn feed_view(
-    format: Format,
-    w: &[u8],
-    count: usize,
-    follows: bool,
-    judged: usize,
-    buf: &mut [u8],
-) -> Kept
-    requires { ⌜ PartFed format (now w) count (now buf) ⌝ }
-    ensures { λ r. ⌜ KeepsCall (lineBehind format follows (take count (now (w .entry))) (drop count (now (w .entry))))
-        (judgedIn format follows count judged (now (w .entry))) count (now (w .entry)) r (now (buf .entry)) (now (buf .exit)) ⌝ }
+// The answer of a view with no byte held or offered: where an optional byte might follow the last frame, it still may.
+fn waiting(view: View) -> Viewed
+    ensures { λ r. ⌜ r .view ≡ view ⌝ }
+    ensures { λ r. ⌜ r .answer ≡ FeedAnswer.NeedsMore 0 0 0 ⌝ }
 {
-    if w.len() == 0 {
-        return Kept {
-            answer: FeedAnswer::NeedsMore {
-                taken: 0,
-                noise: 0,
-                judged: 0,
-            },
-            from: 0,
-            end: 0,
-            follows: follows,
-        };
+    Viewed {
+        view: view,
+        answer: FeedAnswer::NeedsMore {
+            taken: 0,
+            noise: 0,
+            judged: 0,
+        },
     }
-    let first = absorbed(format, follows, w);
-    let held = smaller(first, count);
-    let known = judged_behind(first, judged);
-    let kept = feed_part(format, &w[first..], count - held, known, buf);
+}
+
+// The view behind an optional byte that may follow the last frame: the byte is passed over where it is held, and taken where it is offered.
+fn past_optional(view: View, chunk: &[u8]) -> View
+    requires { ⌜ inside view (length (now chunk)) ≡ true ⌝ }
+    ensures { λ r. ⌜ r ≡ pastOptional view (now (chunk .entry)) ⌝ }
+{
+    if !view.follows {
+        return view;
+    }
+    let format = view.format;
+    let from = view.from;
+    let first = absorbed(format, true, &chunk[from..]);
+    let next = from + first;
+    View {
+        format: format,
+        from: next,
+        end: larger(view.end, next),
+        follows: false,
+        judged: judged_behind(first, view.judged),
+    }
+}
+
+// The line call of a view that is not refused. An optional byte that may follow the last frame is passed over, and the rest of the chunk is fed; with no byte
+// held or offered it may still follow.
+fn feed_view(view: View, chunk: &[u8], buf: &mut [u8]) -> Viewed
+    requires { ⌜ inside view (length (now chunk)) ≡ true ⌝ }
+    requires { ⌜ length (now chunk) ≤ 65536 ⌝ }
+    requires { ⌜ 256 ≤ length (now buf) ⌝ }
+    ensures { λ r. ⌜ Views view (now (chunk .entry)) (now (buf .entry)) r (now (buf .exit)) ⌝ }
+{
+    if view.from == chunk.len() {
+        return waiting(view);
+    }
+    let at = past_optional(view, chunk);
+    let format = at.format;
+    let from = at.from;
+    let kept = feed_part(format, &chunk[from..], at.end - from, at.judged, buf);
     let answer = kept.answer;
-    Kept {
-        answer: took_first(answer, first - held),
-        from: first + kept.from,
-        end: first + kept.end,
-        follows: kept.follows,
+    Viewed {
+        view: View {
+            format: format,
+            from: from + kept.from,
+            end: from + kept.end,
+            follows: kept.follows,
+            judged: judged_held(answer, kept.end - kept.from),
+        },
+        answer: took_first(answer, at.end - view.end),
     }
 }
 
@@ -128,9 +153,6 @@ impl View {
     pub fn feed(self, chunk: &[u8], buf: &mut [u8]) -> Viewed
         ensures { λ r. ⌜ Views self (now (chunk .entry)) (now (buf .entry)) r (now (buf .exit)) ⌝ }
     {
-        let format = self.format;
-        let from = self.from;
-        let end = self.end;
         let sound = is_inside(self, chunk.len());
         if !sound {
             return refused(self, Refusal::State);
@@ -141,25 +163,7 @@ impl View {
         if 65536 < chunk.len() {
             return refused(self, Refusal::Chunk);
         }
-        let kept = feed_view(
-            format,
-            &chunk[from..],
-            end - from,
-            self.follows,
-            self.judged,
-            buf,
-        );
-        let answer = kept.answer;
-        Viewed {
-            view: View {
-                format: format,
-                from: from + kept.from,
-                end: from + kept.end,
-                follows: kept.follows,
-                judged: judged_held(answer, kept.end - kept.from),
-            },
-            answer: answer,
-        }
+        feed_view(self, chunk, buf)
     }
 
     // The reader that holds the view's bytes, with its mark and its number of judged bytes; one that holds nothing, without the mark, where the view's call is

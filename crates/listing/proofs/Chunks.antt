@@ -540,16 +540,17 @@ quiet-lists r out₀ {left} {end} {noise} {judged} {out} a more g l h e j er ea 
     er
     (front .1)
 
--- A reader that holds nothing is a view of no bytes, with its mark and its number.
+-- A reader that holds nothing, of which nothing was judged, is a view of no bytes, with its mark.
 abbrev pub viewAt : Reader → ℕ → View
-viewAt r done = record { format = r .format; from = done; end = done; follows = r .follows; judged = r .judged }
+viewAt r done = record { format = r .format; from = done; end = done; follows = r .follows; judged = 0 }
 
-pub none-viewed : (r : Reader) (chunk : List ℕ) (done : ℕ) → r .count ≡ 0 → viewed (viewAt r done) chunk ≡ stateOf r
-none-viewed r chunk done e =
-    ap (λ (l : List ℕ). holding (r .format) l (r .follows) (r .judged))
+pub none-viewed : (r : Reader) (chunk : List ℕ) (done : ℕ) → r .count ≡ 0 → r .judged ≡ 0 → viewed (viewAt r done) chunk ≡ stateOf r
+none-viewed r chunk done e j =
+    ap₂ (λ (l : List ℕ) (n : ℕ). holding (r .format) l (r .follows) n)
     (ap (λ (n : ℕ). take n (drop done chunk)) (sub-self done) ∙ sym (ap (λ (n : ℕ). take n (r .held)) e))
+    (sym j)
 
--- Where no held byte was judged, it is inside the chunk.
-pub none-inside : (r : Reader) (chunk : List ℕ) (done : ℕ) → done ≤ length chunk → r .judged ≡ 0 → inside (viewAt r done) (length chunk) ≡ true
-none-inside r chunk done l e =
-    simp (le-leb done done (le-refl done), le-leb done (length chunk) l, sub-self done, le-leb 0 (limit (r .format)) zero-le, e)
+-- It is inside the chunk.
+pub none-inside : (r : Reader) (chunk : List ℕ) (done : ℕ) → done ≤ length chunk → inside (viewAt r done) (length chunk) ≡ true
+none-inside r chunk done l =
+    simp (le-leb done done (le-refl done), le-leb done (length chunk) l, sub-self done, le-leb 0 (limit (r .format)) zero-le)

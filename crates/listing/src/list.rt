@@ -202,7 +202,7 @@ pub fn list_chunk(reader: Reader, chunk: &[u8], out: &mut [u8]) -> Listed
         from: done,
         end: done,
         follows: state.follows,
-        judged: state.judged,
+        judged: 0,
     };
     list_view(view, chunk, part, out)
 }

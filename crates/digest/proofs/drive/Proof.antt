@@ -1,40 +1,29 @@
 -- `digest::drive` is safe and ends. The invariant: the buffer keeps its length, and what is offered lies within the slice. The measure is what is left of
 -- the turns.
 -- Assumes nothing.
-use Prim.Native.Nat.{_≤_}
-use native.Mathlib.Omega.{arith}
+use Prim.Native.Nat.{_≤_, zero-le}
 use mathlib.Core.Path.{_≡_, sym, ap, _∙_}
 use mathlib.Core.Logic.{⊎-elim}
 use borrow.Author.Needs.{needs}
 use lib.ListN.{length}
-use Rattle.io.proofs.Counting.{front}
 use Rattle.digest.proofs.drive.Statement.{statement}
 use Rattle.digest.proofs.drive.Tie as tie
 
 abbrev Inv-loop : tie.InvT-loop
-Inv-loop s size buf₀ tally₀ span₀ end format fed₀ turns₀ buf tally span fed turns = (length buf ≡ 256) × (span .at ≤ span .end) × (span .end ≤ length s)
+Inv-loop s size buf₀ tally₀ span₀ format fed₀ turns₀ buf tally span fed turns = (length buf ≡ 256) × (span .at ≤ span .end) × (span .end ≤ length s)
 
 abbrev μ-loop : tie.MeasureT-loop
-μ-loop s size buf₀ tally₀ span₀ end format fed₀ turns₀ buf tally span fed turns = turns
+μ-loop s size buf₀ tally₀ span₀ format fed₀ turns₀ buf tally span fed turns = turns
 
 -- Where the turn began, from where it is known how the chunk is fed.
 abbrev turn : tie.After-is-viewed Inv-loop μ-loop → tie.At-loop Inv-loop μ-loop
 turn c = c .before .before .before .before .before .before .before
 
-smaller-requires : tie.Need-smaller-requires Inv-loop μ-loop
-smaller-requires c κs = search needs
-
-slice-aggregate-feed : tie.Need-slice-aggregate-feed Inv-loop μ-loop
-slice-aggregate-feed c = front _ (c .before .before .before .before .before .args .s .now) (c .before .before .smaller .ensures .1 .1)
-
-slice-aggregate-feed-2 : tie.Need-slice-aggregate-feed-2 Inv-loop μ-loop
-slice-aggregate-feed-2 c = search needs
-
-feed-requires : tie.Need-feed-requires Inv-loop μ-loop
-feed-requires c κs = search needs
+all-taken-requires : tie.Need-all-taken-requires Inv-loop μ-loop
+all-taken-requires c κs = search needs
 
 loop-holds : tie.Need-loop-holds Inv-loop μ-loop
-loop-holds c = (c .before .feed .kept .1 .1 .0, omega arith, omega (arith, c .before .before .before .before .before .smaller .ensures .1))
+loop-holds c = (search needs, zero-le, zero-le)
 
 slice-aggregate-with-answer : tie.Need-slice-aggregate-with-answer Inv-loop μ-loop
 slice-aggregate-with-answer c = sym (c .before .before .loop .inv .0)
@@ -69,8 +58,8 @@ slice-aggregate-drive-view c = sym (turn (c .before .before .before) .loop .inv 
 drive-view-requires : tie.Need-drive-view-requires Inv-loop μ-loop
 drive-view-requires c κs = search needs
 
-all-taken-requires : tie.Need-all-taken-requires Inv-loop μ-loop
-all-taken-requires c κs = search needs
+all-taken-requires-2 : tie.Need-all-taken-requires-2 Inv-loop μ-loop
+all-taken-requires-2 c κs = search needs
 
 sub-feed : tie.Need-sub-feed Inv-loop μ-loop
 sub-feed c = search needs
@@ -81,11 +70,11 @@ part-feed-start c = search needs
 part-feed-end : tie.Need-part-feed-end Inv-loop μ-loop
 part-feed-end c = search needs
 
-slice-aggregate-feed-3 : tie.Need-slice-aggregate-feed-3 Inv-loop μ-loop
-slice-aggregate-feed-3 c = sym (turn (c .before .before .before) .loop .inv .0)
+slice-aggregate-feed : tie.Need-slice-aggregate-feed Inv-loop μ-loop
+slice-aggregate-feed c = sym (turn (c .before .before .before) .loop .inv .0)
 
-feed-requires-2 : tie.Need-feed-requires-2 Inv-loop μ-loop
-feed-requires-2 c κs = search needs
+feed-requires : tie.Need-feed-requires Inv-loop μ-loop
+feed-requires c κs = search needs
 
 sub-turns : tie.Need-sub-turns Inv-loop μ-loop
 sub-turns c = search needs
@@ -112,10 +101,7 @@ drive-spec =
     (tie.spec
     Inv-loop
     μ-loop
-    smaller-requires
-    slice-aggregate-feed
-    slice-aggregate-feed-2
-    feed-requires
+    all-taken-requires
     loop-holds
     slice-aggregate-with-answer
     with-answer-requires
@@ -128,12 +114,12 @@ drive-spec =
     part-drive-view-end
     slice-aggregate-drive-view
     drive-view-requires
-    all-taken-requires
+    all-taken-requires-2
     sub-feed
     part-feed-start
     part-feed-end
-    slice-aggregate-feed-3
-    feed-requires-2
+    slice-aggregate-feed
+    feed-requires
     sub-turns
     loop-less
     loop-again

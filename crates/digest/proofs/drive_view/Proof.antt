@@ -19,11 +19,11 @@ loop-holds c = refl
 feed-requires : tie.Need-feed-requires Inv-loop μ-loop
 feed-requires c κs = search needs
 
-with-answer-requires : tie.Need-with-answer-requires Inv-loop μ-loop
-with-answer-requires c κs = search needs
+enum-known-answer : tie.Need-enum-known-answer Inv-loop μ-loop
+enum-known-answer c = search needs
 
-is-frame-requires : tie.Need-is-frame-requires Inv-loop μ-loop
-is-frame-requires c κs = search needs
+with-frame-requires : tie.Need-with-frame-requires Inv-loop μ-loop
+with-frame-requires c κs = search needs
 
 sub-turns : tie.Need-sub-turns Inv-loop μ-loop
 sub-turns c = search needs
@@ -34,6 +34,9 @@ loop-less c = search needs
 loop-again : tie.Need-loop-again Inv-loop μ-loop
 loop-again c = search needs
 
+with-answer-requires : tie.Need-with-answer-requires Inv-loop μ-loop
+with-answer-requires c κs = search needs
+
 reader-requires : tie.Need-reader-requires Inv-loop μ-loop
 reader-requires c κs = search needs
 
@@ -41,7 +44,7 @@ same-length : tie.Need-same-length Inv-loop μ-loop
 same-length c =
     ⊎-elim
     (λ w. ap length (w .1) ∙ c .before .before .loop .inv)
-    (λ w. ap length (w .10) ∙ (w .2 .kept .1 .1 .0 ∙ c .before .before .loop .inv))
+    (λ w. ap length (w .9) ∙ (w .2 .kept .1 .1 .0 ∙ c .before .before .loop .inv))
     (c .before .loop-test .came)
 
 returns : tie.Need-returns Inv-loop μ-loop
@@ -55,11 +58,12 @@ drive-view-spec =
     μ-loop
     loop-holds
     feed-requires
-    with-answer-requires
-    is-frame-requires
+    enum-known-answer
+    with-frame-requires
     sub-turns
     loop-less
     loop-again
+    with-answer-requires
     reader-requires
     same-length
     returns)

@@ -1,21 +1,15 @@
 -- `frame::ascii::ends_digits` meets its contract: CR ends digits under each ending, another character as the definition's case says.
 -- Assumes nothing.
-use Prim.Native.Nat.{ℕ}
-use mathlib.Core.Bool.{Bool, true, _||_}
-use mathlib.Core.Path.{_≡_, sym, ap, _∙_}
+use mathlib.Core.Bool.{Bool, _||_}
+use mathlib.Core.Path.{sym, ap, _∙_}
 use borrow.Author.Needs.{needs}
-use borrow.Author.Tests.{eq-eqb, ne-eqb}
+use borrow.Author.Tests.{ne-eqb}
 use lib.Dec.{eqb}
 use Rattle.frame.specs.Ascii.{carriageReturn, lineFeed, endsDigits}
 use Rattle.frame.specs.declared.framing.Ending.{Ending}
-use Rattle.frame.specs.declared.framing.Ending.the-variants.{CrLf, Any}
+use Rattle.frame.proofs.Endings.{return-ends}
 use Rattle.frame.proofs.ascii.ends_digits.Statement.{statement}
 use Rattle.frame.proofs.ascii.ends_digits.Tie as tie
-
--- CR ends digits under each ending.
-return-ends : (ending : Ending) (c : ℕ) → c ≡ carriageReturn → endsDigits ending c ≡ true
-return-ends CrLf c e = eq-eqb c carriageReturn e
-return-ends Any c e = ap (λ (q : Bool). q || eqb c lineFeed) (eq-eqb c carriageReturn e)
 
 returns : tie.Need-returns
 returns c = let a = c .before .args in sym (return-ends (a .ending) (a .c) (c .if1 .taken))

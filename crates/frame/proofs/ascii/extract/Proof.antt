@@ -37,7 +37,7 @@ is-short-requires c κs = search needs
 
 extract-short-requires : tie.Need-extract-short-requires
 extract-short-requires c κs =
-    (c .before .before .before .run-behind .ensures, ((c .before .before .is-short .ensures) (c .before .if1 .taken), search needs))
+    (c .before .before .before .run-behind .ensures, ((c .before .before .is-short .ensures) (c .before .if1 .taken) (c .before .before .before .before .before .before .args .ending), search needs))
 
 same-length : tie.Need-same-length
 same-length c = search needs

@@ -2,8 +2,9 @@
 -- Assumes nothing.
 use native.Mathlib.Omega.{arith}
 use mathlib.Core.Bool.{false≢true}
-use mathlib.Core.Path.{sym, _∙_}
 use borrow.Author.Needs.{needs}
+use borrow.Author.Tests.{eqb-true}
+use Rattle.frame.proofs.Endings.{return-ends}
 use Rattle.frame.proofs.ascii.is_short.Statement.{statement}
 use Rattle.frame.proofs.ascii.is_short.Tie as tie
 
@@ -32,25 +33,22 @@ shared-slice-read-if5 c = search needs
 returns-5 : tie.Need-returns-5
 returns-5 c = λ e. absurd (false≢true e)
 
-add-ends-digits : tie.Need-add-ends-digits
-add-ends-digits c = search needs
+add-result : tie.Need-add-result
+add-result c = search needs
 
-shared-slice-read-ends-digits : tie.Need-shared-slice-read-ends-digits
-shared-slice-read-ends-digits c = search needs
-
-ends-digits-requires : tie.Need-ends-digits-requires
-ends-digits-requires c κs = search needs
+shared-slice-read-result : tie.Need-shared-slice-read-result
+shared-slice-read-result c = search needs
 
 returns-6 : tie.Need-returns-6
-returns-6 c = λ e.
-    let t = c .before .before in
+returns-6 c = λ e ending.
+    let t = c .before in
     record {
       least = omega (arith, counted t .if1 .left);
       most = omega (arith, t .before .before .before .before .if2 .left);
       even = t .before .before .before .if3 .left;
       start = t .if5 .left;
       inside = omega (arith, t .before .before .if4 .left);
-      ends = sym (c .ends-digits .ensures) ∙ e;
+      ends = return-ends ending _ (eqb-true _ _ e);
     }
 
 pub is-short-spec : {M : Type 1} → statement M
@@ -64,7 +62,6 @@ is-short-spec =
     returns-4
     shared-slice-read-if5
     returns-5
-    add-ends-digits
-    shared-slice-read-ends-digits
-    ends-digits-requires
+    add-result
+    shared-slice-read-result
     returns-6)

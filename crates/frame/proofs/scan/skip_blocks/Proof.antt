@@ -18,22 +18,19 @@ abbrev μ-loop : tie.MeasureT-loop
 
 -- The start of the call, from where the block was tested.
 abbrev start : tie.After-block-lacks Inv-loop μ-loop → tie.Start Inv-loop μ-loop
-start c = c .before .before .before .before .before
+start c = c .before .before .before .before
 
 loop-holds : tie.Need-loop-holds Inv-loop μ-loop
 loop-holds c = let a = c .before .args in skips-none (other (a .b)) (a .s .now) (a .from) (a .stop) (omega arith)
 
-sub-if1 : tie.Need-sub-if1 Inv-loop μ-loop
-sub-if1 c = search needs
-
-returns : tie.Need-returns Inv-loop μ-loop
-returns c = c .before .before .loop .inv
+add-loop : tie.Need-add-loop Inv-loop μ-loop
+add-loop c = search needs
 
 block-lacks-requires : tie.Need-block-lacks-requires Inv-loop μ-loop
 block-lacks-requires c κs = search needs
 
-returns-2 : tie.Need-returns-2 Inv-loop μ-loop
-returns-2 c = c .before .before .before .before .loop .inv
+returns : tie.Need-returns Inv-loop μ-loop
+returns c = c .before .before .before .loop .inv
 
 add-at : tie.Need-add-at Inv-loop μ-loop
 add-at c = search needs
@@ -44,12 +41,12 @@ loop-less c = search needs
 loop-again : tie.Need-loop-again Inv-loop μ-loop
 loop-again c =
     let a = start (c .before) .args in
-    let l = c .before .before .before .before .loop in
+    let l = c .before .before .before .loop in
     skips-more (other (a .b)) (a .s .now) (a .from) (a .stop) (l .at) 16 (l .inv) (omega arith)
-    (sym (c .before .block-lacks .ensures) ∙ not-false _ (c .if2 .left))
+    (sym (c .before .block-lacks .ensures) ∙ not-false _ (c .if1 .left))
 
-returns-3 : tie.Need-returns-3 Inv-loop μ-loop
-returns-3 c = c .before .loop .inv
+returns-2 : tie.Need-returns-2 Inv-loop μ-loop
+returns-2 c = c .before .loop .inv
 
 pub skip-blocks-spec : {M : Type 1} → statement M
 skip-blocks-spec =
@@ -58,11 +55,10 @@ skip-blocks-spec =
     Inv-loop
     μ-loop
     loop-holds
-    sub-if1
-    returns
+    add-loop
     block-lacks-requires
-    returns-2
+    returns
     add-at
     loop-less
     loop-again
-    returns-3)
+    returns-2)

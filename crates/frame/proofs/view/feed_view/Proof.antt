@@ -1,150 +1,144 @@
--- `frame::view::feed_view` meets its contract: an optional byte in front is passed over, and the rest is a call without one.
+-- `frame::view::feed_view` meets its contract: an optional byte is passed over, and the rest of the chunk is a call without one.
 -- Assumes nothing.
-use Prim.Native.Nat.{ℕ, _-_, _≤_}
+use Prim.Native.Nat.{_-_, _≤_}
 use native.Mathlib.Omega.{arith}
-use mathlib.Core.Bool.{false}
-use mathlib.Core.Path.{ap, _∙_}
+use mathlib.Core.Path.{_≡_, sym, ap, _∙_, subst}
 use lib.ListN.{length, take, drop, length-drop}
-use Rattle.frame.specs.Feeding.{judgedIn}
 use Rattle.frame.proofs.Lists.{take-rest}
-use Rattle.frame.proofs.Optional.{absorbed-one, absorbed-there}
-use Rattle.frame.proofs.JudgedCalls.{view-behind}
-use Rattle.frame.proofs.Readers.{keeps-total}
-use Rattle.frame.proofs.Following.{few-taken, view-empty, view-follows}
+use Rattle.frame.proofs.Views.{Inside, is-inside, waiting-views, Past, past-optional, kept-views}
+use Rattle.frame.proofs.Following.{few-taken}
 use borrow.Author.Needs.{needs}
 use Rattle.frame.proofs.view.feed_view.Statement.{statement}
 use Rattle.frame.proofs.view.feed_view.Tie as tie
 
--- The start of the call, from where the optional byte was counted.
-abbrev start : tie.After-absorbed → tie.Start
-start c = c .before .before .before .before
+-- The start of the call, from where the optional byte was passed over.
+abbrev start : tie.After-past-optional → tie.Start
+start c = c .before .before .before .before .before
 
--- Where it was counted, from where the rest was fed.
-abbrev counted : tie.After-slice-known2 → tie.After-absorbed
-counted c = c .before .before .before .before .before .before .before
+-- Where it was passed over, from where the rest was fed.
+abbrev passed : tie.After-feed-part → tie.After-past-optional
+passed c = c .before .before .before .before
 
--- That byte is there.
-inside : (c : tie.After-absorbed) → c .absorbed .result ≤ length (start c .args .w .now)
-inside c =
+-- The view lies in the chunk.
+lies : (s : tie.Start) → Inside (s .args .view) (length (s .args .chunk .now))
+lies s = is-inside (s .args .view) (length (s .args .chunk .now)) (s .pre .0)
+
+-- The view behind the optional byte.
+past : (c : tie.After-past-optional) → Past (start c .args .view) (start c .args .chunk .now) (c .past-optional .result)
+past c =
     let a = start c .args in
-    omega (arith, c .absorbed .ensures, absorbed-there (a .format) (a .follows) (a .w .now))
+    let h = lies (start c) in
+    subst (Past (a .view) (a .chunk .now)) (sym (c .past-optional .ensures))
+    (past-optional (a .view) (a .chunk .now) h (omega (arith, h .onward, h .there, c .before .if1 .left)))
+
+-- It begins in the chunk.
+begins : (c : tie.After-past-optional) → c .past-optional .result .from ≤ length (start c .args .chunk .now)
+begins c = omega (arith, past c .inside .onward, past c .inside .there)
+
+-- The rest of the chunk has no more bytes than the chunk.
+rest-size : (c : tie.After-past-optional) →
+    let s = start c .args .chunk .now in
+    let from = c .past-optional .result .from in
+    length (take (length s - from) (drop from s)) ≡ length s - from
+rest-size c =
+    let s = start c .args .chunk .now in
+    let from = c .past-optional .result .from in
+    ap length (take-rest s from) ∙ length-drop from s
+
+waiting-requires : tie.Need-waiting-requires
+waiting-requires c κs = search needs
 
 returns : tie.Need-returns
 returns c =
-    let s = c .before .before .before in
+    let s = c .before .before .before .before .before in
     let a = s .args in
-    view-empty (a .format) (a .follows) (a .w .now) (a .buf .now) (a .count) (a .judged) (c .if1 .taken) (s .pre .inside)
+    waiting-views (a .view) (a .chunk .now) (a .buf .now) (c .waiting .result) (lies s) (c .before .if1 .taken) (s .pre .1 .1) (s .pre .1 .0)
+    (c .waiting .ensures .0) (c .waiting .ensures .1)
 
-absorbed-requires : tie.Need-absorbed-requires
-absorbed-requires c κs = search needs
-
-smaller-requires : tie.Need-smaller-requires
-smaller-requires c κs = search needs
-
-judged-behind-requires : tie.Need-judged-behind-requires
-judged-behind-requires c κs = search needs
+past-optional-requires : tie.Need-past-optional-requires
+past-optional-requires c κs = search needs
 
 sub-feed-part : tie.Need-sub-feed-part
-sub-feed-part c = inside (c .before .before)
+sub-feed-part c = begins c
 
 part-feed-part-start : tie.Need-part-feed-part-start
-part-feed-part-start c = inside (c .before .before)
+part-feed-part-start c = begins c
 
 part-feed-part-end : tie.Need-part-feed-part-end
 part-feed-part-end c = search needs
 
 sub-feed-part-2 : tie.Need-sub-feed-part-2
-sub-feed-part-2 c = search needs
+sub-feed-part-2 c = past (c .before .before) .inside .onward
 
 feed-part-requires : tie.Need-feed-part-requires
 feed-part-requires c κs =
-    let x = c .before .before .before .before in
-    let s = start x in
-    let w = s .args .w .now in
-    let size = ap length (take-rest w (x .absorbed .result)) ∙ length-drop (x .absorbed .result) w in
-    let h = c .before .before .before .smaller .ensures in
+    let x = c .before .before .before in
+    let p = past x .inside in
     record {
-      inside = omega (arith, size, h, s .pre .inside);
-      fits = omega (arith, s .pre .fits);
-      short = omega (arith, size, s .pre .short);
-      room = s .pre .room;
+      inside = omega (arith, rest-size x, p .onward, p .there);
+      fits = p .fits;
+      short = omega (arith, rest-size x, start x .pre .1 .0);
+      room = start x .pre .1 .1;
     }
 
+add-t9 : tie.Need-add-t9
+add-t9 c = search needs
+
+add-t14 : tie.Need-add-t14
+add-t14 c = search needs
+
+sub-judged-held : tie.Need-sub-judged-held
+sub-judged-held c = search needs
+
+judged-held-requires : tie.Need-judged-held-requires
+judged-held-requires c κs = search needs
+
 sub-took-first : tie.Need-sub-took-first
-sub-took-first c = search needs
+sub-took-first c = past (passed (c .before .before .before .before .before .before .before .before)) .onward
 
 took-first-requires : tie.Need-took-first-requires
 took-first-requires c κs =
-    let x = counted c in
-    let a = start x .args in
-    let n = x .absorbed .result in
-    let s = take (length (a .w .now) - n) (drop n (a .w .now)) in
-    let k = a .count - c .before .before .before .before .before .before .smaller .result in
-    let part = c .before .before .feed-part in (
-      few-taken (a .format) (take k s) (drop k s) _ (part .result .answer) (part .ensures .values)
-          (omega (arith, length-drop k s, ap length (take-rest (a .w .now) n), length-drop n (a .w .now), start x .pre .short)),
-      omega (arith, x .absorbed .ensures, absorbed-one (a .format) (a .follows) (a .w .now)),
+    let y = c .before .before .before .before .before .before .before .before in
+    let x = passed y in
+    let at = x .past-optional .result in
+    let s = start x .args .chunk .now in
+    let w = take (length s - at .from) (drop (at .from) s) in
+    let k = at .end - at .from in (
+      few-taken (at .format) (take k w) (drop k w) _ (y .feed-part .result .answer) (y .feed-part .ensures .values)
+          (omega (arith, length-drop k w, rest-size x, start x .pre .1 .0)),
+      omega (arith, past x .one),
     )
-
--- The rest has no more bytes than the chunk.
-rest-size : (c : tie.After-slice-known2) →
-    let x = counted c in
-    let w = start x .args .w .now in
-    length (take (length w - x .absorbed .result) (drop (x .absorbed .result) w)) ≤ 65536
-rest-size c =
-    let x = counted c in
-    let w = start x .args .w .now in
-    let n = x .absorbed .result in
-    omega (arith, ap length (take-rest w n) ∙ length-drop n w, start x .pre .short)
-
-add-t18 : tie.Need-add-t18
-add-t18 c =
-    let y = c .before .before in
-    let h = y .before .before .feed-part .ensures in
-    omega (arith, h .inside, h .there, rest-size y, inside (counted y), start (counted y) .pre .short)
-
-add-t22 : tie.Need-add-t22
-add-t22 c =
-    let y = c .before .before .before in
-    let h = y .before .before .feed-part .ensures in
-    omega (arith, h .there, rest-size y, inside (counted y), start (counted y) .pre .short)
 
 same-length : tie.Need-same-length
 same-length c = search needs
 
 returns-2 : tie.Need-returns-2
 returns-2 c =
-    let y = c .before .before .before in
-    let x = counted y in
-    let a = start x .args in
-    let part = y .before .before .feed-part in
-    let known = y .before .before .before .before .before .judged-behind in
-    let less = y .before .before .before .before .before .before .smaller in
-    let n = x .absorbed .result in
-    let s = take (length (a .w .now) - n) (drop n (a .w .now)) in
-    let rest = take-rest (a .w .now) n in
-    keeps-total _ _ _ (a .count) (a .w .now) _ (a .buf .now) _
-    (ap (λ (j : ℕ). judgedIn (a .format) false (a .count - less .result) j s) (known .ensures)
-    ∙ view-behind (a .format) (a .follows) (a .w .now) s (a .count) (less .result) (a .judged) n (x .absorbed .ensures) rest)
-    (view-follows (a .format) (a .follows) (a .w .now) s (a .buf .now) _ (a .count) n (less .result) (part .result) (c .before .before .took-first .result) _
-    (omega (arith, x .before .if1 .left)) (x .absorbed .ensures) (inside x) (less .ensures) rest (part .ensures) (c .before .before .took-first .ensures))
+    let y = c .before .before .before .before .before .before .before .before .before in
+    let x = passed y in
+    let s = start x in
+    let a = s .args in
+    let at = x .past-optional .result in
+    kept-views (a .view) (a .chunk .now) _ (a .buf .now) _ at (y .feed-part .result) (c .took-first .result) _ (lies s) (past x) (s .pre .1 .1) (s .pre .1 .0)
+    (take-rest (a .chunk .now) (at .from)) (y .feed-part .ensures) (c .before .before .before .judged-held .ensures) (c .took-first .ensures)
 
 pub feed-view-spec : {M : Type 1} → statement M
 feed-view-spec =
     tie.close
     (tie.spec
+    waiting-requires
     returns
-    absorbed-requires
-    smaller-requires
-    judged-behind-requires
+    past-optional-requires
     sub-feed-part
     part-feed-part-start
     part-feed-part-end
     sub-feed-part-2
     feed-part-requires
+    add-t9
+    add-t14
+    sub-judged-held
+    judged-held-requires
     sub-took-first
     took-first-requires
-    add-t18
-    add-t22
     same-length
     returns-2)

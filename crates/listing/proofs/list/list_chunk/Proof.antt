@@ -72,6 +72,12 @@ fits c = chunk-room (entry-at-else3 c .args .reader) (entry-at-else3 c .args .ch
 free : (c : tie.Else3) → chunkRefusal (entry-at-else3 c .args .reader) (length (entry-at-else3 c .args .out .now)) (length (entry-at-else3 c .args .chunk .now)) ≡ 0
 free c = chunk-free (entry-at-else3 c .args .reader) (length (entry-at-else3 c .args .out .now)) (length (entry-at-else3 c .args .chunk .now)) (yes (c .before .before)) (c .before .if2 .left) (c .if3 .left)
 
+-- None of its bytes was judged.
+unjudged : (c : tie.Else4) → list-held-at-else4 c .list-held .result .reader .judged ≡ 0
+unjudged c =
+    let h = list-held-at-else4 c .list-held .ensures .some (c .if4 .left) in
+    omega (arith, h .0, h .1 .known, held-few (list-held-at-else4 c .list-held .result .reader))
+
 -- Nothing is held, and the calls go on with a view.
 some : (c : tie.Else4) →
     let a = entry-at-list-held (list-held-at-else4 c) .args in
@@ -86,13 +92,7 @@ some c =
     subst
     (λ (s : State). PartlyDrained (drain (stateOf (a .reader)) (a .chunk .now)) (judgedAfter (stateOf (a .reader)) (a .chunk .now)) s
     (drop (p .done) (a .chunk .now)) (a .out .now) 0 0 (p .end) (p .noise) (p .judged) (c .before .before .before .before .list-held .last .1 .1 .0))
-    (sym (none-viewed (p .reader) (a .chunk .now) (p .done) (h .0))) (h .1)
-
--- None of its bytes was judged.
-unjudged : (c : tie.Else4) → list-held-at-else4 c .list-held .result .reader .judged ≡ 0
-unjudged c =
-    let h = list-held-at-else4 c .list-held .ensures .some (c .if4 .left) in
-    omega (arith, h .0, h .1 .known, held-few (list-held-at-else4 c .list-held .result .reader))
+    (sym (none-viewed (p .reader) (a .chunk .now) (p .done) (h .0) (unjudged c))) (h .1)
 
 is-sound-requires : tie.Need-is-sound-requires
 is-sound-requires c κs = search needs
@@ -152,7 +152,7 @@ list-view-requires c κs =
     let e = list-held-at-list-view-arg c .before .before in
     let a = entry-at-else3 e .args in
     record {
-      within = none-inside (x .list-held .result .reader) (a .chunk .now) (x .list-held .result .done) (x .list-held .ensures .inside) (unjudged (c .before));
+      within = none-inside (x .list-held .result .reader) (a .chunk .now) (x .list-held .result .done) (x .list-held .ensures .inside);
       small = e .if3 .left;
       fits = partly-drained-room m (fits e);
       count = omega (arith, m .counts, chunk-judged (a .reader) (a .chunk .now) (sound-count (a .reader) (yes (e .before .before))) (e .if3 .left));
