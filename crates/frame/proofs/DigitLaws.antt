@@ -3,12 +3,13 @@
 use Prim.Native.Nat.{ℕ, zero, suc, _+_, _-_, _*_, _/_, _%_, _≤_, _<_}
 use native.Mathlib.Nat.{zero-add, sub-zero, suc-sub-suc}
 use native.Mathlib.Omega.{arith}
-use mathlib.Core.Path.{_≡_, refl}
+use mathlib.Core.Path.{_≡_, refl, _∙_}
 use mathlib.Core.Bool.{Bool, true, false, cond, _&&_, _||_, and-false, false≢true}
 use mathlib.Core.List.{List, [], _∷_}
 use borrow.Author.Tests.{le-leb, lt-leb, leb-true, ltb-true, ltb-false}
 use lib.Dec.{leb, ltb}
-use lib.ListN.{length, getD, take, drop}
+use lib.ListN.{length, getD, take, drop, length-drop}
+use lib.Seq.{drop-drop}
 use Rattle.frame.specs.Digit.{within, isDigit, digitValue, digitOf}
 use Rattle.frame.specs.DigitRuns.{digitRun, Digits, allPass}
 use Rattle.frame.proofs.Numbers.{both-true}
@@ -101,6 +102,13 @@ run-block (suc n) (suc most) (c ∷ s) h k e =
     let both = both-true (isDigit c) (allPass isDigit (take n s)) e in
     let rest = run-block n most s (omega arith) (omega arith) (both .1) in
     rw (both .0, suc-sub-suc) (omega (arith, rest))
+
+-- 16 digits from i on are 16 more in the count from i on.
+pub run-on : (most i : ℕ) (s : List ℕ) → i + 16 ≤ most → i + 16 ≤ length s → allPass isDigit (take 16 (drop i s)) ≡ true
+    → digitRun (most - i) (drop i s) ≡ 16 + digitRun (most - (i + 16)) (drop (i + 16) s)
+run-on most i s h k e =
+    let left : most - i - 16 ≡ most - (i + 16) = omega arith in
+    run-block 16 (most - i) (drop i s) (omega arith) (simp length-drop (omega arith)) e ∙ rw (left, drop-drop)
 
 -- At the end of a list no digit stands.
 pub run-end : (most : ℕ) → digitRun most [] ≡ 0

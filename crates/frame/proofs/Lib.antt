@@ -12,7 +12,6 @@ pub mod BinaryJudge
 pub mod XorLaws
 pub mod DigitLaws
 pub mod Words
-pub mod BlockMarks
 pub mod HexLaws
 pub mod AsciiLaws
 pub mod AsciiJudge

@@ -3,7 +3,7 @@
 use Prim.Native.Nat.{ℕ, zero, suc, _+_, _-_, _≤_, _<_, min}
 use mathlib.Core.Path.{_≡_, refl, sym, ap, _∙_}
 use mathlib.Core.List.{List, [], _∷_, _++_, dropLast}
-use mathlib.Core.Bool.{Bool, true, _&&_, and-assoc}
+use mathlib.Core.Bool.{Bool, _&&_, and-assoc}
 use native.Mathlib.Nat.{le-refl, le-of-lt, zero-add, sub-zero, zero-sub, suc-sub-suc, min-zero, suc-min-suc}
 use native.Mathlib.Numerals.{add-one, add-two}
 use native.Mathlib.Omega.{arith}
@@ -12,7 +12,6 @@ use lib.Seq.{paste, take-append-le, take-take, take-add, take-nil, drop-cons, se
 use lib.Seq.{take-all, take-length, drop-append-add, drop-drop, take-suc, length-take-le}
 use Rattle.frame.specs.Elements.{Bytes}
 use Rattle.frame.specs.DigitRuns.{allPass}
-use Rattle.frame.proofs.Numbers.{both-true, and-true}
 
 -- A store just behind what is written makes it one longer.
 pub wrote-one : (w d : List ℕ) (a k : ℕ) → length w ≡ k → k < length d → set (w ++ drop k d) k a ≡ (w ++ (a ∷ [])) ++ drop (suc k) d
@@ -116,22 +115,3 @@ all-pass-next test ok n i at s h l =
     let one : n - i ≡ suc (n - (i + 1)) = omega arith in
     let next : at + i + 1 ≡ at + (i + 1) = omega arith in
     rw (one, drop-next s (at + i) (omega arith), next) (and-assoc ok (test (getD s (at + i) 0)) _)
-
--- The elements of two lists in a row.
-pub all-pass-append : (test : ℕ → Bool) (s t : List ℕ) → allPass test (s ++ t) ≡ allPass test s && allPass test t
-all-pass-append test [] t = refl
-all-pass-append test (c ∷ s) t = rw (all-pass-append test s t, ← and-assoc (test c) (allPass test s) (allPass test t))
-
--- What holds of every element holds of every one in front.
-pub all-pass-take : (test : ℕ → Bool) (n : ℕ) (s : List ℕ) → allPass test s ≡ true → allPass test (take n s) ≡ true
-all-pass-take test zero s h = refl
-all-pass-take test (suc n) [] h = refl
-all-pass-take test (suc n) (c ∷ s) h =
-    let both = both-true (test c) (allPass test s) h in
-    and-true (test c) (allPass test (take n s)) (both .0) (all-pass-take test n s (both .1))
-
--- n elements more pass the test.
-pub all-pass-more : (test : ℕ → Bool) (i n : ℕ) (s : List ℕ) → allPass test (take i s) ≡ true → allPass test (take n (drop i s)) ≡ true
-    → allPass test (take (i + n) s) ≡ true
-all-pass-more test i n s h k =
-    rw (take-add i n s, all-pass-append) (and-true (allPass test (take i s)) (allPass test (take n (drop i s))) h k)

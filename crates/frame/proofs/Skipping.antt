@@ -5,31 +5,44 @@ use native.Mathlib.Nat.{add-zero, sub-self, le-refl}
 use native.Mathlib.Numerals.{add-one}
 use native.Mathlib.Omega.{arith}
 use mathlib.Core.Path.{_≡_, refl, sym, ap, _∙_, subst}
-use mathlib.Core.List.{List, [], _∷_}
+use mathlib.Core.List.{List, [], _∷_, _++_}
 use mathlib.Core.Logic.{_⊎_, inl, inr}
-use mathlib.Core.Bool.{Bool, true, cond, not}
+use mathlib.Core.Bool.{Bool, true, cond, not, _&&_, and-assoc}
 use borrow.Author.Tests.{eq-eqb, ne-eqb, eqb-true, eqb-false, not-true}
 use lib.Dec.{eqb}
 use lib.ListN.{length, getD, take, drop}
-use lib.Seq.{take-take, drop-drop}
+use lib.Seq.{take-add, take-take, drop-drop}
 use Rattle.frame.specs.Checks.{Checks, next, fails, whole, test, Verdict, cut, refused, frame, behind, run}
 use Rattle.frame.specs.Binary.{binary}
 use Rattle.frame.specs.Digit.{isDigit, digitValue}
 use Rattle.frame.specs.Ascii.{ascii, colon, hexDigits, lineEnding}
 use Rattle.frame.specs.Framing.{judge}
 use Rattle.frame.specs.DigitRuns.{allPass}
-use Rattle.frame.specs.Judged.{startOf, doubledNumber, passedBy}
+use Rattle.frame.specs.Judged.{startOf, passedBy}
 use Rattle.frame.specs.Scan.{judging, scanFrom, other, same, Skips}
 use Rattle.frame.specs.declared.framing.Ending.{Ending}
 use Rattle.frame.specs.declared.framing.Ending.the-variants.{CrLf, Any}
 use Rattle.frame.specs.declared.framing.Format.{Format}
 use Rattle.frame.specs.declared.framing.Format.the-variants.{Binary, Ascii}
 use Rattle.frame.proofs.Numbers.{le-or-lt, both-true, and-true}
-use Rattle.frame.proofs.Lists.{drop-next, all-pass-take, all-pass-more}
+use Rattle.frame.proofs.Lists.{drop-next}
 use Rattle.frame.proofs.Trees.{pass-byte, fail-byte, cut≢refused, cut≢frame, refused≢frame}
 use Rattle.frame.proofs.Shapes.{Fails, Bars, bars-line, cut-behind}
 use Rattle.frame.proofs.Prefixes.{refused-sized}
 use Rattle.frame.proofs.Scanning.{step-refused}
+
+-- The elements of two lists in a row.
+all-pass-append : (test : ℕ → Bool) (s t : List ℕ) → allPass test (s ++ t) ≡ allPass test s && allPass test t
+all-pass-append test [] t = refl
+all-pass-append test (c ∷ s) t = rw (all-pass-append test s t, ← and-assoc (test c) (allPass test s) (allPass test t))
+
+-- What holds of every element holds of every one in front.
+all-pass-take : (test : ℕ → Bool) (n : ℕ) (s : List ℕ) → allPass test s ≡ true → allPass test (take n s) ≡ true
+all-pass-take test zero s h = refl
+all-pass-take test (suc n) [] h = refl
+all-pass-take test (suc n) (c ∷ s) h =
+    let both = both-true (test c) (allPass test s) h in
+    and-true (test c) (allPass test (take n s)) (both .0) (all-pass-take test n s (both .1))
 
 -- A byte that is not b is another.
 pub other-byte : (b c : ℕ) → (c ≡ b → ⊥) → other b c ≡ true
@@ -48,7 +61,9 @@ module _ (test : ℕ → Bool) (s : List ℕ) (from stop : ℕ) where
       record {
         onward = omega (arith, h .onward);
         inside = l;
-        others = rw size (all-pass-more test (at - from) n (drop from s) (h .others) (rw (drop-drop, there) e));
+        others =
+            rw (size, take-add (at - from) n (drop from s), drop-drop, there, all-pass-append)
+            (and-true (allPass test (take (at - from) (drop from s))) (allPass test (take n (drop at s))) (h .others) e);
       }
 
   -- One byte more is skipped.
@@ -163,6 +178,11 @@ colon-doubled : (ending : Ending) (s : List ℕ) → run (hexDigits 514 (lineEnd
 unfolding hexDigits lineEnding isDigit test
 colon-doubled CrLf s = refl
 colon-doubled Any s = refl
+
+-- The refusal of a start that another start follows, which fails there.
+abbrev pub doubledNumber : Format → ℕ
+doubledNumber (Binary footer) = 1
+doubledNumber (Ascii ending) = 6
 
 -- A start that another start follows fails at that.
 pub doubled-fails :

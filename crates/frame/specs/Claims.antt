@@ -1,6 +1,6 @@
--- What is claimed of single frames, of the leftmost rule, of line calls and of lists of calls, in that order. Claims on how lists of calls come about stand in
--- Driving.antt, those on damage in Recovery.antt, on judged bytes in Counts.antt, on where frames began in Positions.antt. proofs/Theorems.antt proves each
--- claim, one that takes a format for every format.
+-- What is claimed of single frames, of the leftmost rule, of line calls and of lists of calls, in that order. Claims on how lists of calls come about stand
+-- in Driving.antt, those on damage in Recovery.antt, on judged bytes in Counts.antt, on where frames began in Positions.antt, on views in Views.antt, and
+-- further ones in Further.antt. proofs/Theorems.antt proves each claim, one that takes a format for every format.
 use Prim.Native.Nat.{ℕ, _+_, _≤_, _<_}
 use mathlib.Core.Path.{_≡_}
 use mathlib.Core.List.{List, [], _∷_, _++_, map, List·Memᴰ}
@@ -35,8 +35,8 @@ endings (Binary Required) = binaryEnding ∷ []
 endings (Ascii CrLf) = asciiEnding ∷ []
 endings (Ascii Any) = asciiEnding ∷ (carriageReturn ∷ []) ∷ (lineFeed ∷ []) ∷ []
 
--- The front of a frame and any of its endings, where the first byte of what follows, if there is one, does not make that ending a longer one of the format, are
--- read as a frame of just that length with just that payload.
+-- The front of a frame and any of its endings, where the first byte of what follows, if there is one, does not make that ending a longer one of the format,
+-- are read as a frame of just that length with just that payload.
 abbrev pub EndingsRead : Format → Type 0
 EndingsRead m =
     (p ending more : List ℕ) → Payload p → List·Memᴰ ending (endings m) →
@@ -63,8 +63,8 @@ FrameIsFrontAndEnding m = (s p : List ℕ) (used : ℕ) → Bytes s → read m s
 abbrev pub BytesAddUp : Format → Type 0
 BytesAddUp f = (s : List ℕ) → sumOf (map (λ (x : Found). x .used) (rule f s .frames)) + rule f s .noise ≡ length s
 
--- It takes no byte that it can do without: of a chunk cut before the last byte that it takes, it hands out no frame. (That it hands out those that are
--- there is NeedsMoreIsTrue and CallsFollowRule.)
+-- A line call takes no byte that it can do without: of a chunk cut before the last byte that it takes, it hands out no frame. (That it hands out those that
+-- are there is NeedsMoreIsTrue and CallsFollowRule.)
 abbrev pub TakenIsNeeded : Type 0
 TakenIsNeeded = (s : State) (chunk : List ℕ) (n : ℕ) → n < line s chunk .taken → line s (take n chunk) .out .frames ≡ []
 
@@ -75,17 +75,17 @@ NeedsMoreIsTrue =
     let c : Called = line s chunk in
     c .out .frames ≡ [] → (c .taken ≡ length chunk) × ((c .held ≡ []) ⊎ (judge (s .format) (c .held) ≡ cut))
 
--- The call c over a chunk, where `count` bytes were held, gives what another gives that is offered `all`, held bytes too: what comes out, noise too, what is left
--- and the mark. And the frame begins at the same index of `all`: the bytes held and taken, less how far back it began, are the same number; it is written
--- without subtraction.
+-- The call c over a chunk, where `count` bytes were held, gives what another gives that is offered `all`, held bytes too: what comes out, noise too, what is
+-- left and the mark. And the frame begins at the same index of `all`: the bytes held and taken, less how far back it began, are the same number; it is
+-- written without subtraction.
 pub record AsOffered (count : ℕ) (c : Called) (chunk : List ℕ) (whole : Called) (all : List ℕ) : Type 0 where
   pub out : c .out ≡ whole .out
   pub rest : c .held ++ drop (c .taken) chunk ≡ whole .held ++ drop (whole .taken) all
   pub follows : c .follows ≡ whole .follows
   pub index : count + c .taken + whole .began ≡ whole .taken + c .began
 
--- A line call's answer, but for the bytes taken, those judged and how far back the frame began, is that of the held bytes followed by the chunk: of a call that
--- has the same mark, holds nothing and is offered both.
+-- A line call's answer, but for the bytes taken, those judged and how far back the frame began, is that of the held bytes followed by the chunk: of a call
+-- that has the same mark, holds nothing and is offered both.
 abbrev pub HeldThenChunk : Type 0
 HeldThenChunk =
     (s : State) (chunk : List ℕ) →

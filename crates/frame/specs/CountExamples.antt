@@ -14,7 +14,8 @@ use Rattle.frame.specs.declared.framing.Ending.{Ending}
 use Rattle.frame.specs.declared.framing.Ending.the-variants.{CrLf, Any}
 use Rattle.frame.specs.declared.framing.Format.the-variants.{Binary, Ascii}
 
--- How near segments come to it. In ASCII framing within one: at each colon but the last, it and the next one are judged; at the last, itself.
+-- How near segments come to the bound (mostJudged). In ASCII framing within one: at each colon but the last, it and the next one are judged; at the last,
+-- itself.
 abbrev pub ColonsCount : Ending → Type 0
 ColonsCount ending = (n : ℕ) → ruleJudged (Ascii ending) (replicate (suc n) colon) ≡ 2 * n + 1
 

@@ -1,5 +1,4 @@
--- How many bytes are judged: by any list of calls as many as by the rule, at most so many for each byte of a segment, and how near segments come to that.
--- Document 02, CR 7.
+-- How many bytes are judged: by any list of calls as many as by the rule, and at most so many for each byte of a segment. Document 02, CR 7.
 use Prim.Native.Nat.{ℕ, _*_, _≤_}
 use mathlib.Core.Path.{_≡_}
 use mathlib.Core.List.{List, map}
@@ -20,7 +19,8 @@ judgedBy calls = sumOf (map (λ (a : Reply). a .values .judged) (repliesOf calls
 abbrev pub CallsCount : Format → Type 0
 CallsCount f = (segment : List ℕ) (out : Output (List ℕ)) (calls : Calls offering (newReader f) segment out) → judgedBy calls ≡ ruleJudged f segment
 
--- The bound: so many judged bytes for each byte.
+-- The bound, so many judged bytes for each byte, and that what any list of calls reports keeps it. How near segments come to it is shown in
+-- CountExamples.antt.
 abbrev pub mostJudged : Format → ℕ
 mostJudged (Binary footer) = 262
 mostJudged (Ascii ending) = 2

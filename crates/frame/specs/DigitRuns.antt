@@ -33,16 +33,6 @@ digitRun zero s = 0
 digitRun (suc most) [] = 0
 digitRun (suc most) (c ∷ s) = cond (isDigit c) (suc (digitRun most s)) 0
 
--- A mark for each element of s: 0 where it passes the test, and 0x80 where not.
-abbrev pub marksOf : (ℕ → Bool) → List ℕ → List ℕ
-marksOf test s = map (λ c. cond (test c) 0 0x80) s
-
--- The count of zeros at the front of s.
-abbrev pub zeroRun : List ℕ → ℕ
-zeroRun [] = 0
-zeroRun (zero ∷ s) = suc (zeroRun s)
-zeroRun (suc m ∷ s) = 0
-
 -- The bytes that the characters of s stand for, two to a byte.
 abbrev pub decoded : List ℕ → List ℕ
 decoded s = pairs (map digitValue s)

@@ -72,6 +72,6 @@ abbrev pub judgedAfter : State → List ℕ → ℕ
 judgedAfter s todo = countFrom s (ruleJudged (s .format)) (s .held ++ todo)
 
 -- What the line calls over a chunk judge together: what the rule judges as if the segment ended with the chunk, but for what it judges at the places behind the
--- first byte that stays. That it is the sum of the calls' counts is DrainSums, Counts.antt.
+-- first byte that stays. That it is the sum of the calls' counts is DrainSums, Draining.antt.
 abbrev pub drainJudged : State → List ℕ → ℕ
 drainJudged s chunk = judgedAfter s chunk - judgedAfter (afterDrain s (drain s chunk)) []

@@ -102,7 +102,8 @@ DrainIsSized =
 abbrev pub RuleIsSized : Format → Type 0
 RuleIsSized m = (s : List ℕ) → sizeOf m (payloads (rule m s)) ≤ length s
 
--- The line calls over a chunk do so together, whatever bytes follow it.
+-- The line calls over a chunk count together the first part of what the rule judges from a state on, and later calls the rest, whatever bytes follow the
+-- chunk: in any state that says of no more bytes than it holds that they were judged.
 abbrev pub DrainCounts : Type 0
 DrainCounts =
     (s : State) (chunk more : List ℕ) → s .judged ≤ length (s .held) →

@@ -1,6 +1,6 @@
 -- That there are lists of calls, and what any of them has in common: however a segment is cut into chunks, one offers these chunks; every one that does is
--- short; and in none is the reader's own state refused. That the answers of every program make such a list is FeedsAgree and QuietsAgree, Further.antt: the
--- promises leave no answer open. Document 01, "The leftmost rule and the line reader" and last section.
+-- short; and in none is the reader's own state refused. That the answers of every program make such a list follows, call by call, from FeedsAgree and
+-- QuietsAgree, Further.antt: the promises leave no answer open. Document 01, "The leftmost rule and the line reader" and last section.
 use Prim.Native.Nat.{ℕ, _+_, _≤_}
 use mathlib.Core.Path.{_≡_}
 use mathlib.Core.List.{List, [], _∷_, flatten}

@@ -1,4 +1,5 @@
--- Further claims: what the definitions and the claims before come to at single points. Nothing else is stated by them.
+-- Further claims: on decisions and sizes of frames, on single calls, on the rule over damage, and on calls from states made by hand. Document 00's demands
+-- are stated without them.
 use Prim.Native.Nat.{ℕ, _+_, _*_, _≤_, _<_}
 use mathlib.Core.Path.{_≡_}
 use mathlib.Core.List.{List, [], _∷_, _++_, flatten, List·Memᴰ}
@@ -68,8 +69,8 @@ pub record SameButMark (a b : Called) : Type 0 where
   pub began : a .began ≡ b .began
   pub held : a .held ≡ b .held
 
--- What follows from document 02, CR 2 and 9, for a format in which no byte is optional: the mark means nothing. With it and without, a line call gives the same
--- but for the mark, and a quiet call the same, and they judge as many bytes.
+-- What follows from document 02, CR 2 and 9, for a format in which no byte is optional: the mark means nothing. With it and without, a line call gives the
+-- same but for the mark, and a quiet call the same, and they judge as many bytes.
 pub record SameWithMark (m : Format) (h : List ℕ) (judged : ℕ) (chunk : List ℕ) : Type 0 where
   pub atLine : SameButMark (line (holding m h true judged) chunk) (line (holding m h false judged) chunk)
   pub lineCounts : lineJudged (holding m h true judged) chunk ≡ lineJudged (holding m h false judged) chunk
@@ -84,8 +85,8 @@ pub record Alike (r r′ : Reader) : Type 0 where
   pub state : stateOf r ≡ stateOf r′
   pub count : r .count ≡ r′ .count
 
--- The promises leave no answer open: from readers with the same state, with the same chunk and buffer, two answers that keep the promise have the same values,
--- and leave the same buffer and readers with the same state.
+-- The promises leave no answer open: from readers with the same state, with the same chunk and buffer, two answers that keep the promise have the same
+-- values, and leave the same buffer and readers with the same state.
 abbrev pub FeedsAgree : Type 0
 FeedsAgree =
     (r r′ : Reader) (chunk buf : List ℕ) (a a′ : Fed) (b b′ : List ℕ) → Alike r r′ → Feeds r chunk buf a b → Feeds r′ chunk buf a′ b′ →
@@ -108,7 +109,7 @@ QuietStaysSound =
     (r : Reader) (buf : List ℕ) (a : Quieted) (buf′ : List ℕ) → Quiets r buf a buf′ → sound r ≡ true →
     (a .reader .format ≡ r .format) × (sound (a .reader) ≡ true)
 
--- The state at its end.
+-- The state at the end of a list of calls.
 abbrev pub lastState : {phase : Phase} {r : Reader} {todo : List ℕ} {out : Output (List ℕ)} → Calls phase r todo out → Reader
 lastState (fed chunk more buf buf′ a p n e later) = lastState later
 lastState (taken later) = lastState later
@@ -129,35 +130,37 @@ AsciiRecovers ending =
     (damage : List ℕ) (gs : List (List ℕ)) → Stretch (Ascii ending) gs →
     rule (Ascii ending) (damage ++ flatten gs) ≡ join (rule (Ascii ending) damage) (output (foundsFrom (Ascii ending) (length damage) gs) 0)
 
+-- The rule over damage and a stretch in binary framing: what `Recovered` says (Recovery.antt).
 abbrev pub BinaryRecovers : Footer → Type 0
 BinaryRecovers footer = (damage : List ℕ) (gs : List (List ℕ)) → Stretch (Binary footer) gs → PairsBegin gs → Recovered footer damage gs
 
--- And so every good frame that begins 260 or more bytes into the stretch is handed out.
+-- In binary framing every good frame that begins 260 or more bytes into the stretch is handed out.
 abbrev pub LateFramesComeBack : Footer → Type 0
 LateFramesComeBack footer =
     (damage : List ℕ) (gs : List (List ℕ)) → Stretch (Binary footer) gs → PairsBegin gs → (x : Found) →
     List·Memᴰ x (foundsFrom (Binary footer) (length damage) gs) → length damage + 260 ≤ x .place →
     List·Memᴰ x (rule (Binary footer) (damage ++ flatten gs) .frames)
 
--- With no damage, in any format and without the proviso: every good frame, in order, and no noise.
+-- The rule over a stretch with no damage, in any format and without the proviso: every good frame, in order, and no noise.
 abbrev pub CleanLine : Format → Type 0
 CleanLine f = (gs : List (List ℕ)) → Stretch f gs → rule f (flatten gs) ≡ output (foundsFrom f 0 gs) 0
 
--- And from any other reader that says of no more bytes than it holds that they were judged, what the rule judges from its state on.
+-- From any reader that says of no more bytes than it holds that they were judged, a list of calls reports what the rule judges from its state on. From a new
+-- reader it is CallsCount, Counts.antt.
 abbrev pub CallsCountFrom : Type 0
 CallsCountFrom =
     (r : Reader) (todo : List ℕ) (out : Output (List ℕ)) (calls : Calls offering r todo out) → r .judged ≤ length (stateOf r .held) →
     judgedBy calls ≡ judgedAfter (stateOf r) todo
 
--- It holds of the rule's count over a segment, of what any list of calls reports, and of what the rule judges from any state on.
+-- The bound on judged bytes (mostJudged, Counts.antt) holds of the rule's count over a segment, and of what the rule judges from any state on.
 abbrev pub RuleBound : Format → Type 0
 RuleBound f = (s : List ℕ) → ruleJudged f s ≤ mostJudged f * length s
 
 abbrev pub StateBound : Type 0
 StateBound = (s : State) (todo : List ℕ) → judgedAfter s todo ≤ mostJudged (s .format) * (length (s .held) + length todo)
 
--- Call by call. In any state that says of no more bytes than it holds that they were judged, a line call counts the first part of what the rule judges from
--- that state on, and later calls the rest, whatever bytes follow. As each call counts by places, no byte is counted twice at one.
+-- Judged bytes call by call. In any state that says of no more bytes than it holds that they were judged, a line call counts the first part of what the rule
+-- judges from that state on, and later calls the rest, whatever bytes follow. As each call counts by places, no byte is counted twice at one.
 abbrev pub LineCounts : Type 0
 LineCounts =
     (s : State) (chunk more : List ℕ) → s .judged ≤ length (s .held) →
@@ -177,14 +180,14 @@ abbrev pub AbsorbedNotJudged : Format → Type 0
 AbsorbedNotJudged m =
     (b : ℕ) (chunk : List ℕ) → isOptional m b ≡ true → lineJudged (holding m [] true 0) (b ∷ chunk) ≡ lineJudged (holding m [] false 0) chunk
 
--- And so it is the same for every cut of the segment, whatever the calls.
+-- What is said of where frames began is the same for every cut of the segment, whatever the calls.
 abbrev pub CutsAgree : Format → Type 0
 CutsAgree f =
     (segment : List ℕ) (out out′ : Output (List ℕ)) (a : Calls offering (newReader f) segment out) (b : Calls offering (newReader f) segment out′) →
     positionsBy 0 a ≡ positionsBy 0 b
 
--- The same from any reader, where `todo` is still to come. All indices count from the first held byte, the held bytes were taken before, and the first place
--- lies behind an absorbed byte, if there is one. From a new reader it is what is claimed above.
+-- Where frames began, from any reader, where `todo` is still to come. All indices count from the first held byte, the held bytes were taken before, and the
+-- first place lies behind an absorbed byte, if there is one. From a new reader it is CallsGivePositions and CallsGivePlaces, Positions.antt.
 abbrev pub firstAfter : State → List ℕ → ℕ
 firstAfter s todo = absorbed (s .format) (s .follows) (s .held ++ todo)
 
@@ -203,7 +206,7 @@ CallsGiveAfter =
     (r : Reader) (todo : List ℕ) (out : Output (List ℕ)) (calls : Calls offering r todo out) →
     let count : ℕ = length (stateOf r .held) in GivesAfter (stateOf r) todo (positionsBy count calls)
 
--- A call that hands out no frame gives 0 there; so does every refusal or answer without a frame, by the definition of their values.
+-- A call that hands out no frame gives 0 for where it began; so does every refusal or answer without a frame, by the definition of their values.
 pub record NoneIsZero : Type 0 where
   pub lineCall : (s : State) (chunk : List ℕ) → line s chunk .out .frames ≡ [] → line s chunk .began ≡ 0
   pub quietCall : (s : State) → quiet s .out .frames ≡ [] → quiet s .began ≡ 0

@@ -57,11 +57,6 @@ abbrev pub startOf : Format → ℕ
 startOf (Binary footer) = 0xA5
 startOf (Ascii ending) = colon
 
--- The refusal of a start that another start follows, which fails there.
-abbrev pub doubledNumber : Format → ℕ
-doubledNumber (Binary footer) = 1
-doubledNumber (Ascii ending) = 6
-
 -- The places that a failed start passes over, its own the first: in ASCII framing the bytes before the failing one are digits or a CR, which
 -- start no frame.
 abbrev pub passedBy : Format → ℕ → ℕ

@@ -1,6 +1,6 @@
 -- What the frame crate is about. Document 01's "piece" is called chunk here, and its "wants more" needs more.
 --
--- First, what must be believed: the formats and the rule in document 01's order, and what each public call promises.
+-- First, what must be believed: the formats and the rule in document 01's order, and what each public call promises, but for views.
 pub mod Checks
 pub mod Binary
 pub mod Digit

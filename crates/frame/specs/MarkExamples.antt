@@ -1,5 +1,5 @@
--- Examples of the mark, and of where frames began, call by call: in binary framing with the footer optional and in ASCII framing under any ending, where the mark
--- means something, and in other formats. Document 02, CR 2, 9 and 14.
+-- Examples of the mark, and of where frames began, call by call: in binary framing with the footer optional and in ASCII framing under any ending, where the
+-- mark means something, and in other formats. Document 02, CR 2, 9 and 14.
 use mathlib.Core.Path.{_≡_}
 use mathlib.Core.List.{List, [], _∷_, _++_}
 use mathlib.Core.Bool.{true, false}

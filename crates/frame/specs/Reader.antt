@@ -20,7 +20,7 @@ use Rattle.frame.specs.declared.answer.QuietAnswer.{QuietAnswer}
 use Rattle.frame.specs.declared.answer.QuietAnswer.the-variants.{Frame as QuietFrame, Empty, Refused as QuietRefused}
 
 -- What a reader's calls depend on: its format, the bytes that it holds, and the mark of document 02, CR 2 and 9: whether an optional byte may still follow the
--- last frame and belong to it. In a format without such a byte it means nothing (MarkMeansNothing, Claims.antt). CR 7: how many of the held bytes were judged
+-- last frame and belong to it. In a format without such a byte it means nothing (MarkMeansNothing, Further.antt). CR 7: how many of the held bytes were judged
 -- at the first held place, which changes nothing but the count of judged bytes.
 pub record State : Type 0 where
   pub format : Format

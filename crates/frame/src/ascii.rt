@@ -125,8 +125,8 @@ pub(crate) fn judge(ending: Ending, s: &[u8]) -> Judged
     judge_run(ending, s, run_behind(s))
 }
 
-// Whether s begins with a colon, has room for an even count of digits, for a payload of 16 to 31 bytes and its checksum, and a CR behind them, which ends digits
-// under either ending. A frame that ends with LF alone is judged like a longer one.
+// Whether s begins with a colon, has room for an even count of digits, for a payload of 16 to 31 bytes and its checksum, and a CR behind them, which ends
+// digits under either ending. A frame that ends with LF alone is judged like a longer one.
 fn is_short(s: &[u8], count: usize) -> bool
     ensures { λ r. ⌜ ((r ≡ true) → (ending : Ending) → Short ending (now (s .entry)) count) ⌝ }
 {

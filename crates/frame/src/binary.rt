@@ -1,5 +1,5 @@
 // Binary framing.
-use crate::digit::word;
+use crate::digit;
 use crate::framing::Footer;
 use crate::framing::Judged;
 use crate::framing::judge_complete;
@@ -24,7 +24,7 @@ fn xor_words(s: &[u8]) -> u64
     let mut sum: u64 = 0;
     let mut i = 0;
     while i < count {
-        sum = sum ^ word(s, 8 * i);
+        sum = sum ^ digit::word(s, 8 * i);
         i += 1;
     }
     sum

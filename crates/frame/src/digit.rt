@@ -4,7 +4,7 @@ ghost use mathlib.Core.Bool.{true, false};
 ghost use Prim.Native.Nat.{_≤_, _<_, _+_, _-_};
 ghost use lib.ListN.{length, take, drop};
 ghost use Rattle.frame.specs.Digit.{isDigit, digitValue};
-ghost use Rattle.frame.specs.DigitRuns.{digitRun, littleEndian, allPass, marksOf, zeroRun};
+ghost use Rattle.frame.specs.DigitRuns.{digitRun, littleEndian, allPass};
 
 // Whether c is one of 0-9 A-F. Without a branch, so that a block of characters is tested at once.
 fn is_digit(c: u8) -> bool
@@ -40,7 +40,6 @@ fn block_is_digits(s: &[u8], at: usize) -> bool
 fn block_run(s: &[u8]) -> usize
     requires { ⌜ length (now s) ≤ 515 ⌝ }
     ensures { λ r. ⌜ r ≤ length (now (s .entry)) ⌝ }
-    ensures { λ r. ⌜ allPass isDigit (take r (now (s .entry))) ≡ true ⌝ }
     ensures { λ r. ⌜ r + digitRun (515 - r) (drop r (now (s .entry))) ≡ digitRun 515 (now (s .entry)) ⌝ }
     ensures { λ r. ⌜ (r + 16 ≤ length (now (s .entry)) → allPass isDigit (take 16 (drop r (now (s .entry)))) ≡ false) ⌝ }
 {
@@ -69,66 +68,29 @@ pub(crate) fn word(s: &[u8], at: usize) -> u64
         + s[at + 7] as u64 * 0x100000000000000
 }
 
-// How many of the 8 marks from `at` on are 0 before the first that is not.
-fn marks_run(marks: &[u8], at: usize) -> usize
-    requires { ⌜ at + 8 ≤ length (now marks) ⌝ }
-    ensures { λ r. ⌜ r ≡ zeroRun (take 8 (drop at (now (marks .entry)))) ⌝ }
+// How many digits stand at the front of the 8 characters from `at` on. All are tested at once, each in its own byte of a number: a byte's top bit
+// says whether a sum reached 0x80. The lowest byte that is not 0 afterwards is that of the first other character.
+fn word_run(s: &[u8], at: usize) -> usize
+    requires { ⌜ at + 8 ≤ length (now s) ⌝ }
+    ensures { λ r. ⌜ r ≡ digitRun 8 (drop at (now (s .entry))) ⌝ }
 {
-    (u64::trailing_zeros(word(marks, at)) / 8) as usize
+    let w = word(s, at);
+    let low = w & 0x7F7F7F7F7F7F7F7F;
+    let ranges = (low + 0x5050505050505050)
+        ^ (low + 0x4646464646464646)
+        ^ (low + 0x3F3F3F3F3F3F3F3F)
+        ^ (low + 0x3939393939393939);
+    let others = (ranges & (w ^ 0x8080808080808080) & 0x8080808080808080) ^ 0x8080808080808080;
+    (u64::trailing_zeros(others) / 8) as usize
 }
 
-// How many of 16 marks are 0 before the first that is not, without a branch: by the first 8, or by the last 8 where those are all 0. Since the index is not
-// constant, the compiler keeps the marks in memory, as one vector, and does not take them apart.
-pub(crate) fn first_mark(marks: &[u8]) -> usize
-    requires { ⌜ length (now marks) ≡ 16 ⌝ }
-    ensures { λ r. ⌜ r ≡ zeroRun (now (marks .entry)) ⌝ }
-{
-    let from = marks_run(marks, 0) / 8 * 8;
-    from + marks_run(marks, from)
-}
-
-// A mark for each of the 16 characters from `at` on, 0 for a digit and 0x80 for another, in a loop of fixed length, which is vectorised.
-fn block_marks(s: &[u8], at: usize) -> [u8; 16]
-    requires { ⌜ at + 16 ≤ length (now s) ⌝ }
-    ensures { λ r. ⌜ r ≡ marksOf isDigit (take 16 (drop at (now (s .entry)))) ⌝ }
-{
-    let mut marks = [0u8; 16];
-    let mut i = 0;
-    while i < 16 {
-        marks[i] = if is_digit(s[at + i]) { 0 } else { 0x80 };
-        i += 1;
-    }
-    marks
-}
-
-// How many digits stand at the front of the 16 characters from `at` on.
+// The same for 16 characters, without a branch.
 fn words_run(s: &[u8], at: usize) -> usize
     requires { ⌜ at + 16 ≤ length (now s) ⌝ }
     ensures { λ r. ⌜ r ≡ digitRun 16 (drop at (now (s .entry))) ⌝ }
 {
-    first_mark(&block_marks(s, at))
-}
-
-// The same as block_marks, repeated on purpose: each has one caller and is inlined there, which one function with two callers would not be.
-fn last_marks(s: &[u8], at: usize) -> [u8; 16]
-    requires { ⌜ at + 16 ≤ length (now s) ⌝ }
-    ensures { λ r. ⌜ r ≡ marksOf isDigit (take 16 (drop at (now (s .entry)))) ⌝ }
-{
-    let mut marks = [0u8; 16];
-    let mut i = 0;
-    while i < 16 {
-        marks[i] = if is_digit(s[at + i]) { 0 } else { 0x80 };
-        i += 1;
-    }
-    marks
-}
-
-// The same as words_run, for the last 16 characters.
-fn last_run(s: &[u8], at: usize) -> usize
-    requires { ⌜ at + 16 ≤ length (now s) ⌝ }
-    ensures { λ r. ⌜ r ≡ digitRun 16 (drop at (now (s .entry))) ⌝ }
-{
-    first_mark(&last_marks(s, at))
+    let first = word_run(s, at);
+    first + first / 8 * word_run(s, at + 8)
 }
 
 // How far the digits at the front of s go, where those before `from` are known: one by one.
@@ -147,22 +109,6 @@ fn tail_run(s: &[u8], from: usize) -> usize
     i
 }
 
-// The same where less than a block is left behind `from`: by the last 16 characters, of which those before `from` are digits, or one by one where there are
-// fewer.
-fn end_run(s: &[u8], from: usize) -> usize
-    requires { ⌜ from ≤ length (now s) ⌝ }
-    requires { ⌜ length (now s) < from + 16 ⌝ }
-    requires { ⌜ length (now s) ≤ 515 ⌝ }
-    requires { ⌜ allPass isDigit (take from (now s)) ≡ true ⌝ }
-    ensures { λ r. ⌜ r ≡ from + digitRun (515 - from) (drop from (now (s .entry))) ⌝ }
-{
-    if s.len() < 16 {
-        return tail_run(s, from);
-    }
-    let last = s.len() - 16;
-    last + last_run(s, last)
-}
-
 // How many digits stand at the front of s.
 fn front_run(s: &[u8]) -> usize
     requires { ⌜ length (now s) ≤ 515 ⌝ }
@@ -170,7 +116,7 @@ fn front_run(s: &[u8]) -> usize
 {
     let at = block_run(s);
     if s.len() < at + 16 {
-        return end_run(s, at);
+        return tail_run(s, at);
     }
     at + words_run(s, at)
 }

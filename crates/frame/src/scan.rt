@@ -1,5 +1,4 @@
 // Finding the first frame of a slice by the leftmost rule.
-use crate::digit::first_mark;
 use crate::framing::Format;
 use crate::framing::Judged;
 use crate::framing::extract;
@@ -13,7 +12,7 @@ ghost use Prim.Native.Nat.{_+_, _-_, _≤_, _<_, max, min};
 ghost use lib.ListN.{length, getD, take, drop};
 ghost use Rattle.frame.specs.Framing.{judge, judgedAt};
 ghost use Rattle.frame.specs.Reader.{judgedTo};
-ghost use Rattle.frame.specs.DigitRuns.{allPass, marksOf};
+ghost use Rattle.frame.specs.DigitRuns.{allPass};
 ghost use Rattle.frame.specs.Judged.{startOf};
 ghost use Rattle.frame.specs.Scan.{judging, scanFrom, scanJudged, scanned, other, same, stoppedAt, stopBuffer};
 ghost use Rattle.frame.specs.Scan.{Skips, Scannable, MayStart, PassesOver, LeavesOut};
@@ -88,30 +87,13 @@ fn skip_blocks(s: &[u8], b: u8, from: usize, stop: usize) -> usize
     at
 }
 
-// A mark for each of the 16 bytes from `at` on, 0x80 for b and 0 for another, in a loop of fixed length, which is vectorised.
-fn start_marks(s: &[u8], at: usize, b: u8) -> [u8; 16]
-    requires { ⌜ at + 16 ≤ length (now s) ⌝ }
-    ensures { λ r. ⌜ r ≡ marksOf (other b) (take 16 (drop at (now (s .entry)))) ⌝ }
-{
-    let mut marks = [0u8; 16];
-    let mut i = 0;
-    while i < 16 {
-        marks[i] = if s[at + i] == b { 0x80 } else { 0 };
-        i += 1;
-    }
-    marks
-}
-
-// The place of the first b from `from` on, or `stop` where there is none before it: without a branch in the block that has one, one by one at the end.
+// The place of the first b from `from` on, or `stop` where there is none before it.
 fn skip(s: &[u8], b: u8, from: usize, stop: usize) -> usize
     requires { ⌜ from ≤ stop ⌝ }
     requires { ⌜ stop ≤ length (now s) ⌝ }
     ensures { λ r. ⌜ Skips (other b) (now (s .entry)) from stop r ⌝ }
 {
     let mut at = skip_blocks(s, b, from, stop);
-    if at + 16 <= stop {
-        return at + first_mark(&start_marks(s, at, b));
-    }
     while at < stop {
         if s[at] == b {
             return at;

@@ -1,5 +1,5 @@
 -- `frame::digit::front_run` meets its contract: the digits of the whole blocks, then those of the next 16 characters, not all of which are digits, or
--- the rest behind them.
+-- the rest one by one.
 -- Assumes nothing.
 use Prim.Native.Nat.{_-_}
 use borrow.Author.Needs.{needs}
@@ -16,8 +16,8 @@ block-run-requires c κs = search needs
 add-if1 : tie.Need-add-if1
 add-if1 c = search needs
 
-end-run-requires : tie.Need-end-run-requires
-end-run-requires c κs = search needs
+tail-run-requires : tie.Need-tail-run-requires
+tail-run-requires c κs = search needs
 
 returns : tie.Need-returns
 returns c = search needs
@@ -36,7 +36,7 @@ returns-2 c =
     let s = c .before .before .before .before .args .s .now in
     let b = c .before .before .block-run in
     let rest = drop (b .result) s in
-    omega (arith, run-part 16 (515 - b .result) rest (omega arith) (run-fewer 16 rest (b .ensures .1 .1 .1 (omega arith))))
+    omega (arith, run-part 16 (515 - b .result) rest (omega arith) (run-fewer 16 rest (b .ensures .1 .1 (omega arith))))
 
 pub front-run-spec : {M : Type 1} → statement M
 front-run-spec =
@@ -44,7 +44,7 @@ front-run-spec =
     (tie.spec
     block-run-requires
     add-if1
-    end-run-requires
+    tail-run-requires
     returns
     words-run-requires
     add-result
