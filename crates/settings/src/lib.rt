@@ -1,4 +1,6 @@
 // Settings lists: the parameters of the commands F2 and F3 of the family DB (sheet 000).
+#![tactic(auto)]
+
 mod list;
 mod walk;
 
