@@ -175,8 +175,8 @@ fn extract_short(ending: Ending, s: &[u8], count: usize, buf: &mut [u8]) -> Judg
     let whole = &two[..];
     let verdict = judge_end(ending, s, count, hex::sum_of_two(whole, 48 - n));
     if let Judged::Frame { used: _, len: _ } = verdict {
-        bytes::copy(&whole[..16], buf);
-        bytes::copy(&whole[16..31], &mut buf[n - 16..]);
+        octets::copy(&whole[..16], buf);
+        octets::copy(&whole[16..31], &mut buf[n - 16..]);
     }
     verdict
 }

@@ -121,7 +121,7 @@ pub(crate) fn take_out(s: &[u8], len: usize, buf: &mut [u8])
     requires len_in_bounds_2 { len ≤ length buf.old }
     ensures { buf.new ≡ in_front (take len (drop 4 s.now)) buf.old }
 {
-    bytes::copy(&s[4..4 + len], buf);
+    octets::copy(&s[4..4 + len], buf);
 }
 
 // Judges the front of s, and puts the payload of a frame into the front of buf.
@@ -149,7 +149,7 @@ pub(crate) fn pack(p: &[u8], buf: &mut [u8])
     buf[1] = 0x5A;
     buf[2] = ((0x8000 + len) / 256 % 256) as u8;
     buf[3] = ((0x8000 + len) % 256) as u8;
-    bytes::copy(p, &mut buf[4..]);
+    octets::copy(p, &mut buf[4..]);
     buf[end] = xor_of(p);
     buf[end + 1] = 0x04;
 }

@@ -177,12 +177,12 @@ fn decode_blocks(src: &[u8], dst: &mut [u8])
     let mut i = 0;
     while i + 16 < n {
         let block = decode_block(src, 2 * i);
-        bytes::copy(&block, &mut dst[i..]);
+        octets::copy(&block, &mut dst[i..]);
         i += 16;
     }
     let last = n - 16;
     let block = decode_block(src, 2 * last);
-    bytes::copy(&block, &mut dst[last..]);
+    octets::copy(&block, &mut dst[last..]);
 }
 
 // Puts the bytes that the digits of src stand for into the front of dst.
@@ -204,9 +204,9 @@ pub(crate) fn decode_two(s: &[u8], last: usize) -> [u8; 32]
 {
     let mut two = [0u8; 32];
     let block = decode_block(s, 0);
-    bytes::copy(&block, &mut two);
+    octets::copy(&block, &mut two);
     let block = decode_block(s, last);
-    bytes::copy(&block, &mut two[16..]);
+    octets::copy(&block, &mut two[16..]);
     two
 }
 

@@ -1,4 +1,6 @@
 // Serial frames of App_Uart: payloads of 1 to 256 bytes in binary or ASCII framing.
+#![tactic(auto)]
+
 mod ascii;
 mod binary;
 mod digit;
