@@ -3,7 +3,7 @@
 use Rattle.std.proofs.Common.{◌≡◌, ℕ, suc, ◌+◌, ◌-◌, ◌*◌, ◌/◌, ◌%◌, ◌<◌, ◌≤◌, true, leb, List, [], ◌∷◌, ◌++◌, length, take, sym, ap, ◌∙◌, subst, ap₂, append_assoc, add-zero, div-add-mod', arith, length-append, le-leb, leb-true}
 use native.Mathlib.Nat.{add-sub_cancel_left}
 use lib.Arith.{digits_div, digits_mod}
-use Rattle.frame.specs.Checks.{Checks, whole, byte, test, word, bytes, frame, behind, run, last_byte}
+use Rattle.frame.specs.Checks.{Checks, whole, byte, test, word, frame, behind, run, last_byte}
 use Rattle.frame.specs.Framing.{layout}
 use Rattle.frame.specs.Binary.{xor_of, binary_front, binary_ending, footer_byte, behind_checksum, length_word, body, binary}
 use Rattle.frame.specs.Elements.{Bytes}

@@ -1,0 +1,9 @@
+-- `frame::framing::pack` meets its contract: each framing is one case.
+-- Assumes nothing.
+use Rattle.frame.proofs.framing.pack.Goals as goal
+
+pub returns-in-Binary : goal.returns-in-Binary
+returns-in-Binary c = rw c.in-Binary.is c.pack.ensures
+
+pub returns-in-Ascii : goal.returns-in-Ascii
+returns-in-Ascii c = rw c.in-Ascii.is c.pack-in-Ascii.ensures

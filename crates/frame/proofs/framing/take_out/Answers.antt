@@ -1,0 +1,15 @@
+-- `frame::framing::take_out` meets its contract: each framing is one case.
+-- Assumes nothing.
+use Rattle.frame.proofs.framing.take_out.Goals as goal
+
+pub take_out-requires : goal.take_out-requires
+take_out-requires c = rw c.in-Binary.is at c.requires
+
+pub take_out-requires-in-Ascii : goal.take_out-requires-in-Ascii
+take_out-requires-in-Ascii c = rw c.in-Ascii.is at c.requires
+
+pub returns-in-Binary : goal.returns-in-Binary
+returns-in-Binary c = rw c.in-Binary.is c.take_out.ensures
+
+pub returns-in-Ascii : goal.returns-in-Ascii
+returns-in-Ascii c = rw c.in-Ascii.is c.take_out-in-Ascii.ensures

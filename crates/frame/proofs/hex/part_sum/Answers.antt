@@ -1,0 +1,30 @@
+-- `frame::hex::part_sum` meets its contract. The loop's invariant: what is summed so far with the sum of the bytes from i to `end` is the sum of
+-- those from `from` on, and at most 255 for each byte passed. The measure is what is left up to `end`.
+-- Assumes nothing.
+use Rattle.std.proofs.Common.{arith}
+use Rattle.frame.proofs.HexLaws.{sum_next, sum_none}
+use Rattle.frame.proofs.hex.part_sum.Goals as goal
+
+pub loop-i-init : goal.loop-i-init
+loop-i-init c = omega arith
+
+pub bounds-s-i : goal.bounds-s-i
+bounds-s-i c = omega arith
+
+pub overflow_cast-sum : goal.overflow_cast-sum
+overflow_cast-sum c = omega (arith, c.shared_slice_known-1.given c.loop-i.i)
+
+pub overflow_add-sum : goal.overflow_add-sum
+overflow_add-sum c = omega (arith, c.shared_slice_known-1.given c.loop-i.i)
+
+pub overflow_add-i : goal.overflow_add-i
+overflow_add-i c = omega arith
+
+pub loop-i-smaller : goal.loop-i-smaller
+loop-i-smaller c = omega arith
+
+pub loop-i-preserved : goal.loop-i-preserved
+loop-i-preserved c = omega (arith, c.shared_slice_known-1.given c.loop-i.i, sum_next c.args.s.now c.loop-i.i c.args.end (omega arith) (omega arith))
+
+pub returns : goal.returns
+returns c = omega (arith, sum_none c.args.s.now c.loop-i.i c.args.end (omega arith))

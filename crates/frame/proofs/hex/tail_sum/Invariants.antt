@@ -1,0 +1,10 @@
+use Rattle.std.proofs.Common.{◌≡◌, ◌+◌, ◌-◌, ◌*◌, ◌≤◌, length, drop}
+use Rattle.frame.specs.Hex.{sum_of}
+use Rattle.frame.specs.Judged.{unhexed}
+use Rattle.frame.proofs.hex.tail_sum.Given as goal
+
+abbrev pub invariant-loop-i : goal.invariant-loop-i
+invariant-loop-i l = (l.i ≤ length l.s) × (l.sum + 255 * l.from ≤ 255 * l.i) × (l.sum + sum_of (unhexed (drop l.i l.s)) ≡ sum_of (unhexed (drop l.from l.s)))
+
+abbrev pub decreases-loop-i : goal.decreases-loop-i
+decreases-loop-i l = length l.s - l.i
