@@ -1,4 +1,6 @@
 // What payloads mean: the messages of App_Uart, the remote app and the standard app, in both directions.
+#![tactic(auto)]
+
 mod address;
 mod from_module;
 mod number;

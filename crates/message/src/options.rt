@@ -8,21 +8,21 @@ ghost use Rattle.message.specs.Put.{Puts};
 use crate::number::word;
 
 // An option's argument of one byte, where it is given.
-#[derive(Drop)]
+#[derive(Clone, Copy)]
 pub enum MaybeByte {
     NotGiven,
     Given(u8),
 }
 
 // An option's argument of two bytes, where it is given.
-#[derive(Drop)]
+#[derive(Clone, Copy)]
 pub enum MaybeWord {
     NotGiven,
     Given(u16),
 }
 
 // Which options are given, and their arguments.
-#[derive(Drop)]
+#[derive(Clone, Copy)]
 pub struct Options {
     // 01: enables MAC acknowledgement.
     pub mac_ack: bool,

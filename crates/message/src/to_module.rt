@@ -15,7 +15,7 @@ use crate::write::{WriteAnswer, send, write_parts};
 use frame::Framing;
 
 // The destination of an extended message to the module.
-#[derive(Drop)]
+#[derive(Clone, Copy)]
 pub enum Address {
     // A plain address: 0, 1 to 100, or 120.
     Plain(u8),

@@ -38,8 +38,8 @@ pub(crate) fn write_parts(framing: Framing, head: &[u8], data: &[u8], buf: &mut 
         return WriteAnswer::Refused(Refusal::Payload);
     }
     let mut payload = [0u8; 256];
-    bytes::copy(head, &mut payload);
-    bytes::copy(data, &mut payload[at..]);
+    octets::copy(head, &mut payload);
+    octets::copy(data, &mut payload[at..]);
     let whole = &payload[..];
     send(framing, &whole[..at + len], buf)
 }

@@ -7,7 +7,7 @@ ghost use Rattle.reader.specs.Answer.{HeldSo, TookFirst, kept_as, Answerable, Ke
 use crate::scan::{ScanEnd, ScanResult};
 use frame::{Format, Refusal, may_follow};
 
-#[derive(Drop)]
+#[derive(Clone, Copy)]
 pub enum FeedAnswer {
     // A frame: `taken` bytes of the chunk were taken, an optional one that follows the frame before this among them, `noise` bytes were settled as noise,
     // the leftmost rule judges `judged` bytes at the places where the call stood, without those that the state before said were judged, the payload of

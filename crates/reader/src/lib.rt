@@ -1,4 +1,6 @@
 // The line reader: frames of App_Uart out of chunks of a serial line, as they come.
+#![tactic(auto)]
+
 mod answer;
 mod reader;
 mod scan;

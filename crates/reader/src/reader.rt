@@ -68,7 +68,7 @@ pub(crate) fn hold(format: Format, s: &[u8], follows: bool, judged: usize) -> Re
     ensures { Holds (holding format s.now follows judged) result }
 {
     let mut held = [0u8; 517];
-    bytes::copy(s, &mut held);
+    octets::copy(s, &mut held);
     let count = s.len();
     Reader {
         format,
@@ -87,8 +87,8 @@ fn join(format: Format, held: &[u8], chunk: &[u8]) -> Joined
     let count = held.len();
     let more = smaller(chunk.len(), limit_of(format));
     let mut bytes = [0u8; 1034];
-    bytes::copy(held, &mut bytes);
-    bytes::copy(&chunk[..more], &mut bytes[count..]);
+    octets::copy(held, &mut bytes);
+    octets::copy(&chunk[..more], &mut bytes[count..]);
     let size = count + more;
     Joined { bytes, size }
 }
@@ -103,7 +103,7 @@ fn keep(held: &mut [u8], w: &[u8], kept: Kept) -> Left
     let from = kept.from;
     let end = kept.end;
     let answer = kept.answer;
-    bytes::copy(&w[from..end], held);
+    octets::copy(&w[from..end], held);
     Left {
         answer: answer,
         count: end - from,
@@ -210,7 +210,7 @@ fn put_behind(held: &mut [u8], at: usize, chunk: &[u8])
         held[at] = chunk[0];
         return;
     }
-    bytes::copy(chunk, &mut held[at..]);
+    octets::copy(chunk, &mut held[at..]);
 }
 
 // Finds the next frame where the first `count` bytes of held are held and the chunk fits behind them: it is put there.

@@ -9,7 +9,7 @@ ghost use Rattle.reader.specs.Scan.{Skips, Scannable, MayStart, PassesOver, Leav
 use frame::{Format, Judged, extract, judge, unpack};
 
 // Where a scan stopped.
-#[derive(Drop)]
+#[derive(Clone, Copy)]
 pub(crate) enum ScanEnd {
     // At a frame of `used` bytes with a payload of `len` bytes.
     Frame { used: usize, len: usize },
@@ -21,7 +21,7 @@ pub(crate) enum ScanEnd {
 
 // A scan's result: the place at which it stopped, how far bytes are taken, from the slice's first byte, by the places that failed and the frame, and how many
 // were judged, each counted once at every place where it was.
-#[derive(Drop)]
+#[derive(Clone, Copy)]
 pub(crate) struct ScanResult {
     pub(crate) place: usize,
     pub(crate) reach: usize,

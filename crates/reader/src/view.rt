@@ -10,7 +10,7 @@ use frame::{Format, Refusal, absorbed};
 
 // A reader's state, by value, whose held bytes are those of a chunk from index `from` up to `end`, which is behind them; `follows` and `judged` are the
 // reader's.
-#[derive(Drop)]
+#[derive(Clone, Copy)]
 pub struct View {
     pub format: Format,
     pub from: usize,
