@@ -1,5 +1,7 @@
 // The library for callers in C or Rust: the calls that read and write frames, lines, messages and settings lists, with numbers and flat structs in place of
 // enums. A slice crosses as a pointer and a length.
+#![tactic(auto)]
+
 mod framing;
 mod from_module;
 mod line;

@@ -11,7 +11,7 @@ use reader::{FeedAnswer, QuietAnswer, Reader};
 // 1 for yes, and how many of the held bytes were judged at the first held place. A call with a state whose mark is any other number, or whose format is none,
 // is refused with 255; one with a state that holds more bytes than a frame can have, or says that more bytes were judged than it holds, with 16.
 #[repr(C)]
-#[derive(Drop)]
+#[derive(Clone, Copy)]
 pub struct LineReader {
     pub format: u8,
     pub held: [u8; 517],

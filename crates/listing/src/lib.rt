@@ -1,4 +1,6 @@
 // The text of booth-list: a line for each frame from the module, and the total of noise.
+#![tactic(auto)]
+
 mod line;
 mod list;
 mod put;

@@ -11,7 +11,7 @@ pub(crate) fn put_text(out: &mut [u8], at: usize, text: &[u8]) -> usize
     requires { at + length text.now ≤ length out.old }
     ensures { Puts out.old at text.now result out.new }
 {
-    at + bytes::copy(text, &mut out[at..])
+    at + octets::copy(text, &mut out[at..])
 }
 
 // Puts a space into out where one is wanted.
