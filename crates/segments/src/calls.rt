@@ -10,7 +10,7 @@ use console::front;
 use reader::{FeedAnswer, QuietAnswer, Reader};
 
 // A row being run: the reader's state, and the frames, the bytes of noise and the bytes judged so far.
-#[derive(Drop)]
+#[derive(Clone, Copy)]
 struct Run {
     reader: Reader,
     frames: u64,

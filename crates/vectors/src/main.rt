@@ -45,7 +45,7 @@ enum Row {
 }
 
 // How many rows were read as a frame, and how many were refused.
-#[derive(Drop)]
+#[derive(Clone, Copy)]
 struct Count {
     frames: u64,
     refused: u64,
