@@ -1,12 +1,17 @@
 // booth-list: lists the frames of a line from the module, in ASCII framing. It reads standard input, whose end is the quiet, and prints a line for each
 // frame, then the total of noise. What is printed is worked out by the listing crate; here are the loop that reads and writes, and its counts.
+#![tactic(auto)]
+
 ghost use Rattle.std.specs.Prelude.{◌≡◌, ◌≤◌, length};
 ghost use Rattle.listing.specs.Listing.{values_of};
 
 use frame::{Framing, WriteAnswer};
-use libc::{STDIN_FILENO, STDOUT_FILENO};
 use listing::{CHUNK_ROOM, ListAnswer, list_chunk, list_quiet, list_total};
 use reader::Reader;
+use std::io::Read;
+
+// The number of standard output.
+const STDOUT_FILENO: i32 = 1;
 
 // How many reads are made at most, since every loop ends. At one byte a read, at 115,200 baud, they last for 190 years; behind them the segment ends as at
 // the input's end.
@@ -50,15 +55,15 @@ fn finish(reader: Reader, noise: u64, out: &mut [u8])
 }
 
 // Lists each chunk as it comes, so that on a live line a frame shows at once. A failed read ends the input; an output that takes no more ends the program.
-fn main() {
+fn main(rt: HostRuntime) {
+    let mut input = rt.stdin();
     let mut chunk = io::large_buffer();
     let mut out = [0u8; CHUNK_ROOM];
     let mut reader = Reader::new(Framing::Ascii);
     let mut noise: u64 = 0;
     let mut reads = READS;
     while 0 < reads {
-        let got = libc::read(STDIN_FILENO, &mut chunk);
-        let n = io::count(got, &chunk);
+        let n = input.read(&mut chunk).unwrap_or(0);
         if n == 0 {
             finish(reader, noise, &mut out);
             return;

@@ -7,6 +7,7 @@ ghost use Rattle.console.specs.Hex.{digit_of, digit_value, hex, last_digits, pai
 use crate::part::smaller;
 
 // The 16 digits of a number.
+#[tactic(auto, unfolding(crate::specs::Hex::last_digits))]
 pub fn hex_u64(x: u64) -> [u8; 16]
     ensures { result ≡ last_digits 16 x }
 {
@@ -22,6 +23,7 @@ pub fn hex_u64(x: u64) -> [u8; 16]
 }
 
 // Puts the digits of the bytes of s into the front of text, as many whole pairs as fit, and gives how many digits there are.
+#[tactic(auto, using(crate::proofs::HexLaws::hex_next))]
 pub fn put_hex(s: &[u8], text: &mut [u8]) -> usize
     ensures prefix_len { IsPrefixLen result text.new }
     ensures value { result ≡ 2 * min (length s.now) (length text.old / 2) }
@@ -57,6 +59,7 @@ pub fn hex_bytes(pairs: &[u8], bytes: &mut [u8]) -> usize
 }
 
 // The digit of a number below 16.
+#[tactic(auto, unfolding(crate::specs::Hex::digit_of))]
 fn hex_digit(x: u8) -> u8
     requires { x < 16 }
     ensures { result ≡ digit_of x }
@@ -68,6 +71,7 @@ fn hex_digit(x: u8) -> u8
 }
 
 // What a hex digit stands for; 0 for any other character.
+#[tactic(auto, unfolding(crate::specs::Hex::digit_value))]
 fn digit_value(c: u8) -> u8
     ensures upper_bound { result < 16 }
     ensures value { result ≡ digit_value c }

@@ -1,5 +1,7 @@
 // Text for the test programs: the lines of a text, the numbers and bytes that stand in a line, numbers and bytes as hex digits, and parts of slices. No
 // function asks anything of its caller. A bound in a contract follows from the equations beside it, and is there for the proofs of callers.
+#![tactic(auto)]
+
 mod hex;
 mod part;
 mod text;

@@ -1,7 +1,6 @@
 // The lines of a text, and the words and numbers of a line.
 ghost use Rattle.std.specs.Prelude.{◌≡◌, ◌-◌, ◌≤◌, ◌<◌, length, drop};
-ghost use Rattle.bytes.specs.Bytes.{index_of};
-ghost use Rattle.console.specs.Text.{first_line, behind_space, number_from};
+ghost use Rattle.console.specs.Text.{index_of, first_line, behind_space, number_from};
 
 use crate::part::{front, rest};
 
@@ -26,7 +25,12 @@ fn find(s: &[u8], byte: u8) -> usize
     ensures value { result ≡ index_of byte s.now }
     ensures upper_bound { result ≤ length s.now }
 {
-    bytes::scan::find(s, 0, s.len(), byte)
+    for (place, c) in s.iter().enumerate() {
+        if *c == byte {
+            return place;
+        }
+    }
+    s.len()
 }
 
 // The number that the decimal digits at the front of s stand for. Digits behind its sixth are left out.

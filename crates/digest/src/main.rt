@@ -1,12 +1,18 @@
 // Drives the line reader over standard input: `digest FORMAT SIZE` feeds it in chunks of SIZE bytes and prints how many frames and how many bytes of noise
 // came out, and a digest of the payloads. FORMAT is `binary`, in which the footer is optional, `required`, binary with the footer required, `ascii`, in which
 // the ending is CR LF, or `any`, ASCII with any ending. The end of the input is the quiet. bench/ compares it with other programs.
+#![tactic(auto)]
+
 ghost use Rattle.std.specs.Prelude.{◌≤◌};
 
 use console::{front, hex_u64, number, smaller};
 use frame::{Ending, Footer, Format};
-use libc::{STDIN_FILENO, STDOUT_FILENO};
 use reader::{Fed, FeedAnswer, QuietAnswer, Reader, View};
+use std::io::{Read, Stdin};
+use std::rt::Env;
+
+// The number of standard output.
+const STDOUT_FILENO: i32 = 1;
 
 // What has come out so far.
 #[derive(Drop)]
@@ -41,8 +47,8 @@ fn weighted_sum(payload: &[u8]) -> u64 {
     let mut i = payload.len();
     while 0 < i {
         i -= 1;
-        tail = std::num::wrapping_add_u64(tail, wide(payload[i]));
-        sum = std::num::wrapping_add_u64(sum, tail);
+        tail = tail.wrapping_add(wide(payload[i]));
+        sum = sum.wrapping_add(tail);
     }
     sum
 }
@@ -51,8 +57,8 @@ fn weighted_sum(payload: &[u8]) -> u64 {
 fn with_frame(tally: Tally, noise: usize, buf: &[u8], len: usize) -> Tally {
     let digest = tally.digest;
     Tally {
-        frames: std::num::wrapping_add_u64(tally.frames, 1),
-        noise: std::num::wrapping_add_u64(tally.noise, noise as u64),
+        frames: tally.frames.wrapping_add(1),
+        noise: tally.noise.wrapping_add(noise as u64),
         digest: ((digest << 5) | (digest >> 59)) ^ weighted_sum(front(buf, len)),
     }
 }
@@ -61,7 +67,7 @@ fn with_frame(tally: Tally, noise: usize, buf: &[u8], len: usize) -> Tally {
 fn with_noise(tally: Tally, noise: usize) -> Tally {
     Tally {
         frames: tally.frames,
-        noise: std::num::wrapping_add_u64(tally.noise, noise as u64),
+        noise: tally.noise.wrapping_add(noise as u64),
         digest: tally.digest,
     }
 }
@@ -235,7 +241,7 @@ fn format_named(word: &[u8]) -> Format {
 }
 
 // Reads the input to its end. No input comes near to the count of reads.
-fn drive_input(format: Format, size: usize) -> Tally {
+fn drive_input(input: &mut Stdin, format: Format, size: usize) -> Tally {
     let mut chunk = io::large_buffer();
     let mut driven = Driven {
         reader: Reader::open(format),
@@ -247,8 +253,7 @@ fn drive_input(format: Format, size: usize) -> Tally {
     };
     let mut reads: u64 = 0x400000000000;
     while 0 < reads {
-        let got = libc::read(STDIN_FILENO, &mut chunk);
-        let n = io::count(got, &chunk);
+        let n = input.read(&mut chunk).unwrap_or(0);
         if n == 0 {
             return drive_quiet(driven);
         }
@@ -259,11 +264,11 @@ fn drive_input(format: Format, size: usize) -> Tally {
 }
 
 // Takes the format and the size from the arguments, and prints what came out.
-fn main() {
+fn main(rt: HostRuntime) {
     let mut word = io::buffer();
-    let length = os::arg(1, &mut word);
+    let length = rt.arg(1, &mut word).unwrap_or(0);
     let format = format_named(&word[..length]);
-    let length = os::arg(2, &mut word);
+    let length = rt.arg(2, &mut word).unwrap_or(0);
     let size = number(&word[..length]);
     if size == 0 {
         io::write_all(
@@ -272,7 +277,7 @@ fn main() {
         );
         return;
     }
-    let tally = drive_input(format, size);
+    let tally = drive_input(&mut rt.stdin(), format, size);
     let digest = hex_u64(tally.digest);
     io::write_all(STDOUT_FILENO, b"frames ");
     io::print_decimal(STDOUT_FILENO, tally.frames);

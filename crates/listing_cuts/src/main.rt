@@ -1,9 +1,13 @@
 // Lists segments that stand in memory, whole and in every cut, through the functions that booth-list is made of.
+#![tactic(auto)]
+
 use console::{append, front, hex_bytes, rest};
 use frame::{Framing, WriteAnswer};
-use libc::STDOUT_FILENO;
 use listing::{CHUNK_ROOM, ListAnswer, list_chunk, list_quiet, list_total};
 use reader::Reader;
+
+// The number of standard output.
+const STDOUT_FILENO: i32 = 1;
 
 // A listing so far: the reader's state, the noise, and how many bytes of text there are.
 #[derive(Drop)]
@@ -18,7 +22,7 @@ fn add_answer(run: Run, reader: Reader, answer: ListAnswer, out: &[u8], text: &m
     match answer {
         ListAnswer::Lines { len, noise, .. } => {
             let end = append(text, run.end, front(out, len));
-            let noise = std::num::wrapping_add_u64(run.noise, noise as u64);
+            let noise = run.noise.wrapping_add(noise as u64);
             Run { reader, noise, end }
         }
         ListAnswer::Refused(_) => run,
@@ -66,7 +70,7 @@ fn count_cuts(framing: Framing, segment: &[u8], expected: &[u8]) -> u64 {
         let mut text = [0u8; 1024];
         let end = list_cut(framing, segment, cut, &mut text);
         if check::same(front(&text, end), expected) {
-            count = std::num::wrapping_add_u64(count, 1);
+            count = count.wrapping_add(1);
         }
         cut += 1;
     }

@@ -2,15 +2,15 @@
 ghost use Rattle.std.specs.Prelude.{◌≡◌, ◌<◌, ◌≤◌, length};
 
 use crate::show::{
-    print_counts, print_fed, print_line, show_end, show_frame, show_refusal, show_state,
+    STDOUT_FILENO, print_counts, print_fed, print_line, show_end, show_frame, show_refusal,
+    show_state,
 };
 use crate::state::{UNTOUCHED, is_new, is_untouched, same_state};
 use console::front;
-use libc::STDOUT_FILENO;
 use reader::{FeedAnswer, QuietAnswer, Reader};
 
 // A row being run: the reader's state, and the frames, the bytes of noise and the bytes judged so far.
-#[derive(Drop)]
+#[derive(Clone, Copy)]
 struct Run {
     reader: Reader,
     frames: u64,
@@ -240,8 +240,8 @@ fn refused_step(run: Run, reader: Reader) -> Step
 fn with_answer(run: Run, reader: Reader, frames: u64, noise: usize, judged: usize) -> Run {
     Run {
         reader: reader,
-        frames: std::num::wrapping_add_u64(run.frames, frames),
-        noise: std::num::wrapping_add_u64(run.noise, noise as u64),
-        judged: std::num::wrapping_add_u64(run.judged, judged as u64),
+        frames: run.frames.wrapping_add(frames),
+        noise: run.noise.wrapping_add(noise as u64),
+        judged: run.judged.wrapping_add(judged as u64),
     }
 }

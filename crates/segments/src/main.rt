@@ -23,6 +23,8 @@
 //
 // `changed` stands for `kept` where that is not so. The other lines end in `buffer wrong` where more of the buffer was written than the
 // payload, and in `state wrong` where the state after `empty` is not a new reader's, in every byte. A row ends with `total FRAMES NOISE JUDGED`.
+#![tactic(auto)]
+
 mod calls;
 mod show;
 mod state;
@@ -31,8 +33,10 @@ use crate::calls::{once_calls, refused_calls, run_calls};
 use crate::show::{print_line, show_held, show_once, show_segment, show_then};
 use console::{append, front, hex_bytes, line_at, next_word, number, rest};
 use frame::{Ending, Footer, Format, Framing};
-use libc::STDIN_FILENO;
 use reader::Reader;
+
+// The number of standard input.
+const STDIN_FILENO: i32 = 0;
 
 // Runs the rows of standard input.
 fn main() {

@@ -2,8 +2,10 @@
 use crate::state::{is_untouched, mark_number};
 use console::{front, put_hex, rest};
 use frame::{Ending, Footer, Format, Refusal};
-use libc::STDOUT_FILENO;
 use reader::Reader;
+
+// The number of standard output.
+pub const STDOUT_FILENO: i32 = 1;
 
 // Prints a line.
 pub fn print_line(line: &[u8]) {

@@ -17,16 +17,22 @@
 //
 // The last lines have the totals of the frames' rows: those of the default, and those with the footer required, which document 01's list rests on.
 // ASCII rows have one reading, which counts in both.
+#![tactic(auto)]
+
 mod meaning;
 mod show;
 
 ghost use Rattle.io.specs.Counts.{IsPrefixLen};
 
 use crate::meaning::{show_meanings, show_walk};
-use crate::show::{print_bytes, print_either, print_field, print_line, show_refusal};
+use crate::show::{
+    STDOUT_FILENO, print_bytes, print_either, print_field, print_line, show_refusal,
+};
 use console::{append, front, hex_bytes, line_at, rest};
 use frame::{Ending, Footer, Format, Framing, ReadAnswer, WriteAnswer};
-use libc::{STDIN_FILENO, STDOUT_FILENO};
+
+// The number of standard input.
+const STDIN_FILENO: i32 = 0;
 
 // What became of a line.
 #[derive(Drop)]
@@ -39,7 +45,7 @@ enum Row {
 }
 
 // How many rows were read as a frame, and how many were refused.
-#[derive(Drop)]
+#[derive(Clone, Copy)]
 struct Count {
     frames: u64,
     refused: u64,
@@ -120,13 +126,13 @@ fn with_row(totals: Totals, row: Row) -> Totals {
 fn with_reading(count: Count, is_frame: bool) -> Count {
     if is_frame {
         return Count {
-            frames: std::num::wrapping_add_u64(count.frames, 1),
+            frames: count.frames.wrapping_add(1),
             refused: count.refused,
         };
     }
     Count {
         frames: count.frames,
-        refused: std::num::wrapping_add_u64(count.refused, 1),
+        refused: count.refused.wrapping_add(1),
     }
 }
 

@@ -23,12 +23,11 @@
 // `other` where it is not, as with options that do not stand in ascending order, or a frame without its footer. Behind either: `refused` and
 // the number.
 use crate::show::{
-    byte_field, data_field, long_field, print_either, print_field, print_number, show_refusal,
-    word_field,
+    STDOUT_FILENO, byte_field, data_field, long_field, print_either, print_field, print_number,
+    show_refusal, word_field,
 };
 use console::{front, rest};
 use frame::Framing;
-use libc::STDOUT_FILENO;
 use message::{
     Address, Channel, Delivery, FromModule, Information, MaybeByte, MaybeWord, Notice, Options,
     Outcome, OutputChange, Reception, RemoteStatus, Request, Response, SetupCommand, SetupReport,

@@ -2,7 +2,9 @@
 ghost use Rattle.std.specs.Prelude.{◌≤◌};
 
 use console::{hex_u64, put_hex, rest};
-use libc::STDOUT_FILENO;
+
+// The number of standard output.
+pub const STDOUT_FILENO: i32 = 1;
 
 // Prints a line.
 pub fn print_line(line: &[u8]) {
