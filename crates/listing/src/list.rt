@@ -16,7 +16,7 @@ pub const QUIET_ROOM: usize = 1551;
 
 pub const TOTAL_ROOM: usize = 27;
 
-#[derive(Drop)]
+#[derive(Clone, Copy)]
 pub enum ListAnswer {
     // The lines of the frames are the first `len` bytes of the buffer, `noise` bytes were settled as noise, and the reader's calls judged `judged` bytes.
     Lines {

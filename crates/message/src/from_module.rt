@@ -20,7 +20,7 @@ use crate::write::{WriteAnswer, send, write_parts};
 use frame::Framing;
 
 // An extended message from the module. Both addresses are carried unjudged.
-#[derive(Drop)]
+#[derive(Clone, Copy)]
 pub struct Reception {
     pub sender: u8,
     pub response_id: u8,
@@ -30,7 +30,7 @@ pub struct Reception {
 }
 
 // The messages from the module that carry data.
-#[derive(Drop)]
+#[derive(Clone, Copy)]
 pub enum Delivery {
     Simple(Simple),
     Extended(Reception),
@@ -38,21 +38,21 @@ pub enum Delivery {
     Settings,
 }
 
-#[derive(Drop)]
+#[derive(Clone, Copy)]
 pub enum Outcome {
     Failure,
     Success,
 }
 
 // The module's response to a transmission.
-#[derive(Drop)]
+#[derive(Clone, Copy)]
 pub struct Response {
     pub id: u8,
     pub outcome: Outcome,
 }
 
 // The messages from the module that carry no data.
-#[derive(Drop)]
+#[derive(Clone, Copy)]
 pub enum Notice {
     Response(Response),
     Standard(StandardStatus),

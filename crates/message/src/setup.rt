@@ -13,7 +13,7 @@ use crate::write::{WriteAnswer, send, write_parts};
 use frame::Framing;
 
 // The commands to the module itself with nothing after them.
-#[derive(Drop)]
+#[derive(Clone, Copy)]
 pub enum SetupCommand {
     // F0: asks for an acknowledgement.
     EnableAck,
@@ -37,7 +37,7 @@ pub enum NamedCommand {
 }
 
 // The information of F1. Every field is carried unjudged.
-#[derive(Drop)]
+#[derive(Clone, Copy)]
 pub struct Information {
     pub application: u32,
     // 00010407 stands for 1.4.7.
@@ -52,7 +52,7 @@ pub struct Information {
 }
 
 // What the module reports of itself, but for its settings: those are data.
-#[derive(Drop)]
+#[derive(Clone, Copy)]
 pub enum SetupReport {
     // F0.
     Acknowledged,

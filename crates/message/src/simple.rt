@@ -8,7 +8,7 @@ use crate::write::{WriteAnswer, write_parts};
 use frame::Framing;
 
 // A simple message: the other side's address and a command below 80.
-#[derive(Drop)]
+#[derive(Clone, Copy)]
 pub struct Simple {
     pub address: u8,
     pub command: u8,

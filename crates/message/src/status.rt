@@ -3,7 +3,7 @@ ghost use Rattle.std.specs.Prelude.{◌≡◌};
 ghost use Rattle.message.specs.Status.{millivolts};
 
 // The standard app's status. Every field that is not fixed is carried, the unused one too.
-#[derive(Drop)]
+#[derive(Clone, Copy)]
 pub struct StandardStatus {
     pub sender: u8,
     pub identifier: u8,
@@ -27,7 +27,7 @@ pub struct StandardStatus {
 }
 
 // The remote app's status. Every field that is not fixed is carried, the unused one too.
-#[derive(Drop)]
+#[derive(Clone, Copy)]
 pub struct RemoteStatus {
     pub sender: u8,
     pub lqi: u8,

@@ -24,7 +24,7 @@ pub enum Address {
 }
 
 // An extended message to the module.
-#[derive(Drop)]
+#[derive(Clone, Copy)]
 pub struct Transmission {
     pub address: Address,
     pub response_id: u8,
@@ -32,7 +32,7 @@ pub struct Transmission {
 }
 
 // The messages to the module that carry data.
-#[derive(Drop)]
+#[derive(Clone, Copy)]
 pub enum Request {
     Simple(Simple),
     Extended(Transmission),
@@ -41,7 +41,7 @@ pub enum Request {
 }
 
 // The message of the remote app that sets outputs. It carries no data.
-#[derive(Drop)]
+#[derive(Clone, Copy)]
 pub struct OutputChange {
     pub address: u8,
     pub signals: u16,
