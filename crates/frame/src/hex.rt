@@ -109,7 +109,8 @@ fn tail_sum(s: &[u8], from: usize) -> u32
 fn rest_sum(s: &[u8], from: usize) -> u32
     requires from_in_bounds { from ≤ length s.now }
     requires s_len_bound { length s.now ≤ 514 }
-    ensures { result ≡ sum_of (unhexed (drop from s.now)) }
+    ensures value { result ≡ sum_of (unhexed (drop from s.now)) }
+    ensures from_bound { result + 255 * from ≤ 255 * length s.now }
 {
     if from + 16 <= s.len() {
         return block_sum(s, from) + tail_sum(s, from + 16);
