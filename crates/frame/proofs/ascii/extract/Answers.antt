@@ -34,7 +34,7 @@ returns-in-Frame-clause-s_value c =
 pub returns-in-Frame-clause-buf_after : goal.returns-in-Frame-clause-buf_after
 returns-in-Frame-clause-buf_after c =
     let named : judge (Ascii c.args.ending) c.args.s.now ≡ verdict_of (Ascii c.args.ending) c.args.s.now (Frame c.in-Frame.used c.in-Frame.len) = c.judge_run-verdict.ensures ∙ ap (verdict_of (Ascii c.args.ending) c.args.s.now) c.in-Frame.is in
-    let h = payload_named (Ascii c.args.ending) c.args.s.now c.in-Frame.used c.in-Frame.len (named) in c.take_out.ensures
+    let h = payload_named (Ascii c.args.ending) c.args.s.now c.in-Frame.used c.in-Frame.len (named) in c.take_out.ensures.value
     ∙ ap (λ (p : List ℕ). in_front p c.args.buf.now) h.taken
     ∙ sym (ap (λ (w : Verdict). in_front (payload_in w) c.args.buf.now) (named))
 

@@ -9,7 +9,7 @@ pub take_out-requires-in-Ascii : goal.take_out-requires-in-Ascii
 take_out-requires-in-Ascii c = rw c.in-Ascii.is at c.requires
 
 pub returns-in-Binary : goal.returns-in-Binary
-returns-in-Binary c = rw c.in-Binary.is c.take_out.ensures
+returns-in-Binary c = rw c.in-Binary.is (record { value = c.take_out.ensures; payload = λ h. c.take_out.ensures })
 
 pub returns-in-Ascii : goal.returns-in-Ascii
-returns-in-Ascii c = rw c.in-Ascii.is c.take_out-in-Ascii.ensures
+returns-in-Ascii c = rw c.in-Ascii.is (record { value = c.take_out-in-Ascii.ensures.value; payload = λ h. c.take_out-in-Ascii.ensures.digits h.1 })
