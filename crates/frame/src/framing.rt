@@ -208,8 +208,8 @@ pub(crate) fn take_out(format: Format, s: &[u8], len: usize, buf: &mut [u8])
     ensures payload { HasPayload format s.now len → buf.new ≡ in_front (payload_at format s.now len) buf.old }
 {
     match format {
-        Format::Binary(_) => binary::take_out(s, len, buf),
-        Format::Ascii(_) => ascii::take_out(s, len, buf),
+        Format::Binary(_) => binary::unpack(s, len, buf),
+        Format::Ascii(_) => ascii::unpack(s, len, buf),
     }
 }
 

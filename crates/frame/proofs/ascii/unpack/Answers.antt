@@ -1,11 +1,11 @@
--- `frame::ascii::take_out` meets its contract: the bytes are computed of the characters, and are those that digits stand for.
+-- `frame::ascii::unpack` meets its contract: the bytes are computed of the characters, and are those that digits stand for.
 -- Assumes nothing.
 use Rattle.std.proofs.Common.{ℕ, ◌+◌, ◌-◌, ◌*◌, List, take, drop, ap, ◌∙◌, arith, length-take}
 use native.Mathlib.Nat.{add-sub_cancel_left}
 use Rattle.frame.specs.Framing.{in_front}
 use Rattle.frame.specs.Judged.{unhexed}
 use Rattle.frame.proofs.HexLaws.{unhexed_digits}
-use Rattle.frame.proofs.ascii.take_out.Goals as goal
+use Rattle.frame.proofs.ascii.unpack.Goals as goal
 
 pub decode-requires : goal.decode-requires
 decode-requires c = omega (arith, length-take (1 + 2 * c.args.len - 1) (drop 1 c.args.s.now))
