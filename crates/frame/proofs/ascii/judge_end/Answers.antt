@@ -15,11 +15,11 @@ returns-in-CrLf c =
     let summed : Summed c.args.s.now c.args.count c.args.total = search rules in
     let ended : Ending → Verdict = λ ending. ending_at (behind_digits ending) (decoded (take (2 * (c.args.count / 2 - 1)) (drop 1 c.args.s.now))) c.args.s.now (1 + c.args.count) (eqb (c.args.total % 256) 0) in
     let left : behind 1 (run (hex_digits 514 (line_ending c.args.ending)) (drop 1 c.args.s.now)) ≡ ended c.args.ending = line_ending_lem c.args.ending (summed) (line_judges c.args.ending c.args.s.now c.args.count (search rules)) _ refl in
-    left ∙ ap (ended) c.in-CrLf.is ∙ c.judge_ending.ensures (Ascii c.args.ending)
+    left ∙ ap (ended) c.in-CrLf.is ∙ search rules
 
 pub returns-in-Any : goal.returns-in-Any
 returns-in-Any c =
     let summed : Summed c.args.s.now c.args.count c.args.total = search rules in
     let ended : Ending → Verdict = λ ending. ending_at (behind_digits ending) (decoded (take (2 * (c.args.count / 2 - 1)) (drop 1 c.args.s.now))) c.args.s.now (1 + c.args.count) (eqb (c.args.total % 256) 0) in
     let left : behind 1 (run (hex_digits 514 (line_ending c.args.ending)) (drop 1 c.args.s.now)) ≡ ended c.args.ending = line_ending_lem c.args.ending (summed) (line_judges c.args.ending c.args.s.now c.args.count (search rules)) _ refl in
-    left ∙ ap (ended) c.in-Any.is ∙ c.judge_complete.ensures c.args.s.now (Ascii c.args.ending)
+    left ∙ ap (ended) c.in-Any.is ∙ search rules
