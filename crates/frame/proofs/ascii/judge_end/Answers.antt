@@ -5,7 +5,6 @@ use Rattle.frame.specs.Checks.{Verdict, behind, run}
 use Rattle.frame.specs.Ascii.{hex_digits, behind_digits, line_ending}
 use Rattle.frame.specs.Judged.{decoded}
 use Rattle.frame.specs.declared.framing.Ending.{Ending}
-use Rattle.frame.specs.declared.framing.Format.TheVariants.{Ascii}
 use Rattle.frame.proofs.AsciiJudge.{Summed, line_judges}
 use Rattle.frame.proofs.Endings.{ending_at, line_ending_lem}
 use Rattle.frame.proofs.ascii.judge_end.Goals as goal
