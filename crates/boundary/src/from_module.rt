@@ -366,8 +366,7 @@ fn notice_in(n: FromModuleNumbers) -> NamedNotice
 }
 
 // Reads a payload as a message from the module, as `message::read_from_module` does.
-#[unsafe(no_mangle)]
-pub extern "C" fn boundary_read_from_module(payload: &[u8]) -> FromModuleNumbers
+pub fn boundary_read_from_module(payload: &[u8]) -> FromModuleNumbers
     ensures { result ≡ from_module_numbers (read_from_module payload.now) }
 {
     from_module_numbers(message::read_from_module(payload))
@@ -375,8 +374,7 @@ pub extern "C" fn boundary_read_from_module(payload: &[u8]) -> FromModuleNumbers
 
 // Writes a message from the module with its data as a frame, as `message::write_delivery` does. A framing or a kind that stands for none, or for a message
 // without data, is refused with 255, and buf stays.
-#[unsafe(no_mangle)]
-pub extern "C" fn boundary_write_delivery(
+pub fn boundary_write_delivery(
     framing: u8,
     delivery: FromModuleNumbers,
     data: &[u8],
@@ -396,12 +394,7 @@ pub extern "C" fn boundary_write_delivery(
 // Writes a message from the module without data as a frame, as `message::write_notice` does. A framing or a kind that stands for none, or for a message
 // with data, is refused with 255, a report whose command is none of F0, F1, F3, F8 with 9, a response or a state of silent mode whose result is neither 0
 // nor 1 with 11; then buf stays.
-#[unsafe(no_mangle)]
-pub extern "C" fn boundary_write_notice(
-    framing: u8,
-    notice: FromModuleNumbers,
-    buf: &mut [u8],
-) -> FlatWriting
+pub fn boundary_write_notice(framing: u8, notice: FromModuleNumbers, buf: &mut [u8]) -> FlatWriting
     ensures { WritesNotice (framing_of framing) (notice_in notice) buf.old result buf.new }
 {
     let NamedFraming::Known(f) = framing_of(framing) else {

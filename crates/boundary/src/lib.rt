@@ -1,5 +1,5 @@
 // The library for callers in C or Rust: the calls that read and write frames, lines, messages and settings lists, with numbers and flat structs in place of
-// enums. A slice crosses as a pointer and a length.
+// enums. The crate boundary_c exports them.
 #![tactic(auto)]
 
 mod framing;

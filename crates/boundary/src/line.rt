@@ -166,8 +166,7 @@ fn reader_in(format: Format, reader: LineReader) -> Reader
 }
 
 // A new reader's state. Where the format is none of 0 to 3 every call with the state is refused.
-#[unsafe(no_mangle)]
-pub extern "C" fn boundary_new_reader(format: u8) -> LineReader
+pub fn boundary_new_reader(format: u8) -> LineReader
     ensures { result ≡ new_flat format }
 {
     LineReader {
@@ -181,8 +180,7 @@ pub extern "C" fn boundary_new_reader(format: u8) -> LineReader
 
 // Takes bytes of a chunk until the next frame is settled, as `Reader::feed` does. A state whose format is none of 0 to 3, or whose mark is
 // neither 0 nor 1, is refused with 255; state and buf stay.
-#[unsafe(no_mangle)]
-pub extern "C" fn boundary_feed(reader: LineReader, chunk: &[u8], buf: &mut [u8]) -> LineFed
+pub fn boundary_feed(reader: LineReader, chunk: &[u8], buf: &mut [u8]) -> LineFed
     ensures { FeedsFlat (format_in reader) reader chunk.now buf.old result buf.new }
 {
     match format_in(reader) {
@@ -204,8 +202,7 @@ pub extern "C" fn boundary_feed(reader: LineReader, chunk: &[u8], buf: &mut [u8]
 
 // The line was quiet: gives the next frame of the held bytes, as `Reader::quiet` does. A state whose format is none of 0 to 3, or whose
 // mark is neither 0 nor 1, is refused with 255; state and buf stay.
-#[unsafe(no_mangle)]
-pub extern "C" fn boundary_quiet(reader: LineReader, buf: &mut [u8]) -> LineFed
+pub fn boundary_quiet(reader: LineReader, buf: &mut [u8]) -> LineFed
     ensures { QuietsFlat (format_in reader) reader buf.old result buf.new }
 {
     match format_in(reader) {

@@ -47,8 +47,7 @@ fn no_setting(number: u8) -> FlatSetting
 }
 
 // The setting of a list with this index, counted from 0, as `settings::setting_at` gives it.
-#[unsafe(no_mangle)]
-pub extern "C" fn boundary_setting_at(list: &[u8], index: usize) -> FlatSetting
+pub fn boundary_setting_at(list: &[u8], index: usize) -> FlatSetting
     ensures { result ≡ flat_setting (finding list.now index) }
 {
     flat_setting(settings::setting_at(list, index))

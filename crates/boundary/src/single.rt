@@ -65,8 +65,7 @@ fn writing_of(answer: WriteAnswer) -> FlatWriting
 
 // Reads the frame at the front of s into the front of buf, as `frame::read_frame_as` does. A format that is none of 0 to 3 is refused with 255, and buf
 // stays.
-#[unsafe(no_mangle)]
-pub extern "C" fn boundary_read_frame(format: u8, s: &[u8], buf: &mut [u8]) -> FlatReading
+pub fn boundary_read_frame(format: u8, s: &[u8], buf: &mut [u8]) -> FlatReading
     ensures { ReadsFlat (format_of format) s.now buf.old result buf.new }
 {
     match format_of(format) {
@@ -80,8 +79,7 @@ pub extern "C" fn boundary_read_frame(format: u8, s: &[u8], buf: &mut [u8]) -> F
 }
 
 // Writes a payload as a frame into the front of buf, as `frame::write_frame` does. A framing that is neither 0 nor 1 is refused with 255, and buf stays.
-#[unsafe(no_mangle)]
-pub extern "C" fn boundary_write_frame(framing: u8, payload: &[u8], buf: &mut [u8]) -> FlatWriting
+pub fn boundary_write_frame(framing: u8, payload: &[u8], buf: &mut [u8]) -> FlatWriting
     ensures { WritesFlat (framing_of framing) 0 payload.now buf.old result buf.new }
 {
     match framing_of(framing) {

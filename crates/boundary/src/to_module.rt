@@ -162,8 +162,7 @@ fn request_in(n: ToModuleNumbers) -> NamedRequest
 }
 
 // Reads a payload as a message to the module, as `message::read_to_module` does.
-#[unsafe(no_mangle)]
-pub extern "C" fn boundary_read_to_module(payload: &[u8]) -> ToModuleNumbers
+pub fn boundary_read_to_module(payload: &[u8]) -> ToModuleNumbers
     ensures { result ≡ to_module_numbers (read_to_module payload.now) }
 {
     to_module_numbers(message::read_to_module(payload))
@@ -171,8 +170,7 @@ pub extern "C" fn boundary_read_to_module(payload: &[u8]) -> ToModuleNumbers
 
 // Writes a message to the module with its data as a frame, as `message::write_request` does. A framing or a kind that stands for none, or for a message
 // without data, is refused with 255, and buf stays.
-#[unsafe(no_mangle)]
-pub extern "C" fn boundary_write_request(
+pub fn boundary_write_request(
     framing: u8,
     request: ToModuleNumbers,
     data: &[u8],
@@ -191,8 +189,7 @@ pub extern "C" fn boundary_write_request(
 
 // Writes a change of outputs as a frame, as `message::write_output_change` does. A framing that stands for none, or a kind that is not 4, is refused with
 // 255, and buf stays.
-#[unsafe(no_mangle)]
-pub extern "C" fn boundary_write_output_change(
+pub fn boundary_write_output_change(
     framing: u8,
     change: ToModuleNumbers,
     buf: &mut [u8],
@@ -215,12 +212,7 @@ pub extern "C" fn boundary_write_output_change(
 
 // Writes a command to the module itself as a frame, as `message::write_setup` does. A framing that stands for none, or a kind that is not 6, is refused with
 // 255, a command that is none of F0, F1, F3, FD, FE, FF with 9; then buf stays.
-#[unsafe(no_mangle)]
-pub extern "C" fn boundary_write_setup(
-    framing: u8,
-    command: ToModuleNumbers,
-    buf: &mut [u8],
-) -> FlatWriting
+pub fn boundary_write_setup(framing: u8, command: ToModuleNumbers, buf: &mut [u8]) -> FlatWriting
     ensures { WritesSetup (framing_of framing) command buf.old result buf.new }
 {
     let NamedFraming::Known(f) = framing_of(framing) else {
