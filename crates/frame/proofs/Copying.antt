@@ -1,4 +1,4 @@
--- Laws of copies: what `bytes::copy` leaves in the slice that it fills, in the words of `paste`, and of what a verdict leaves in the buffer.
+-- Laws of copies: what `octets::copy` leaves in the slice that it fills, in the words of `paste`, and of what a verdict leaves in the buffer.
 -- Assumes nothing.
 use Rattle.std.proofs.Common.{◌≡◌, ℕ, ◌+◌, ◌-◌, ◌≤◌, List, [], ◌++◌, length, take, drop, sym, refl, ap, ◌∙◌, ap₂, append_assoc, append-nil, zero-add, arith, length-drop, drop-drop, le-leb}
 use borrow.Rule.Slice.PartMut.{put_mid}

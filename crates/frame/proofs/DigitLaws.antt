@@ -29,6 +29,23 @@ range_end a b c e = leb-true c b (last (leb a c) (leb c b) e)
 pub range_start : (a b c : ℕ) → within a b c ≡ true → a ≤ c
 range_start a b c e = leb-true a c (both_true (leb a c) (leb c b) e).0
 
+-- Where all characters are digits, the one at an index is.
+pub digit_at : (s : List ℕ) (i : ℕ) → Digits s → i < length s → is_digit (get_or s i 0) ≡ true
+digit_at [] i d h = absurd (omega arith)
+digit_at (c ∷ s) zero d h = d.0
+digit_at (c ∷ s) (suc i) d h = digit_at s i d.1 (omega arith)
+
+-- So are those from an index on, and those before one.
+pub digits_drop : (i : ℕ) (s : List ℕ) → Digits s → Digits (drop i s)
+digits_drop zero s d = d
+digits_drop (suc i) [] d = tt
+digits_drop (suc i) (c ∷ s) d = digits_drop i s d.1
+
+pub digits_take : (n : ℕ) (s : List ℕ) → Digits s → Digits (take n s)
+digits_take zero s d = tt
+digits_take (suc n) [] d = tt
+digits_take (suc n) (c ∷ s) d = (d.0, digits_take n s d.1)
+
 -- The value of a digit is below 16.
 pub digit_small : (c : ℕ) → digit_value c < 16
 unfolding digit_value

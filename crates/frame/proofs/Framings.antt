@@ -8,7 +8,7 @@ use Rattle.frame.specs.Ascii.{line_ending, ascii_ending}
 use Rattle.frame.specs.Framing.{checks, judge, front, layout, limit, in_front}
 use Rattle.frame.specs.Judged.{decoded, payload_at, payload_end, bytes_at, unpacks, unpacked, verdict_of}
 use Rattle.frame.specs.DigitRuns.{Digits}
-use Rattle.frame.specs.Parts.{frame_length}
+use Rattle.frame.specs.Parts.{HasPayload, frame_length}
 use Rattle.frame.specs.Further.{UndecidedIsShort, FrameIsSized}
 use Rattle.frame.specs.declared.framing.Framing.{Framing}
 use Rattle.frame.specs.declared.framing.Framing.TheVariants.{Binary as BinaryFraming, Ascii as AsciiFraming}
@@ -121,6 +121,16 @@ payload_taken (Ascii ending) s used len e =
     let long = (payload_there (Ascii ending) s used len e).1 in
     let same : take (2 * len) (drop 1 s) ≡ hex p = ap (λ (k : ℕ). take (2 * k) (drop 1 s)) (sym long) ∙ front_payload (line_ending ending) s p used h in
     unhexed_digits (take (2 * len) (drop 1 s)) (subst Digits (sym same) (hex_digits_lem p h.payload.bytes))
+
+-- So it can be taken out.
+pub payload_held : (f : Format) (s : List ℕ) (used len : ℕ) → judge f s ≡ frame used (payload_at f s len) → HasPayload f s len
+payload_held (Binary footer) s used len e = (payload_there (Binary footer) s used len e).0
+payload_held (Ascii ending) s used len e =
+    let p : List ℕ = decoded (take (2 * len) (drop 1 s)) in
+    let h = took_ascii (line_ending ending) (line_keeps ending) s p used e in
+    let t = payload_there (Ascii ending) s used len e in
+    let same : take (2 * len) (drop 1 s) ≡ hex p = ap (λ (k : ℕ). take (2 * k) (drop 1 s)) (sym t.1) ∙ front_payload (line_ending ending) s p used h in
+    (t.0, subst Digits (sym same) (hex_digits_lem p h.payload.bytes))
 
 -- What a frame that was judged says of the payload that its answer names.
 pub record PayloadNamed (f : Format) (s : List ℕ) (len : ℕ) : Type 0 where

@@ -1,12 +1,12 @@
 -- Laws on what digits and bytes stand for, and on the bytes that are computed of characters.
 -- Assumes nothing.
-use Rattle.std.proofs.Common.{◌≡◌, ℕ, zero, suc, ◌+◌, ◌-◌, ◌*◌, ◌/◌, ◌%◌, ◌<◌, ◌≤◌, Bool, ◌&&◌, eqb, List, [], ◌∷◌, ◌++◌, length, get_or, take, drop, set, sym, refl, ap, ◌∙◌, ap₂, append_assoc, append-nil, add-zero, div-add-mod', mul-suc, add-one, arith, length-append, length-drop, take-append-drop, drop_of_length-le, length-take, get_or-drop, take_all, get_or-take, take-suc, take-take, drop-drop, take_at, eqb-true}
+use Rattle.std.proofs.Common.{◌≡◌, ℕ, zero, suc, ◌+◌, ◌-◌, ◌*◌, ◌/◌, ◌%◌, ◌<◌, ◌≤◌, Bool, true, ◌&&◌, eqb, List, [], ◌∷◌, ◌++◌, length, get_or, take, drop, set, sym, refl, ap, ◌∙◌, ap₂, append_assoc, append-nil, add-zero, div-add-mod', mul-suc, add-one, arith, length-append, length-drop, take-append-drop, drop_of_length-le, length-take, get_or-drop, take_all, get_or-take, take-suc, take-take, drop-drop, take_at, eqb-true}
 use native.Mathlib.Numerals.{add-two}
 use lib.Bits.{bit_and}
 use Rattle.frame.proofs.Numbers.{both_true, below_at}
 use lib.Arith.{digits_div, digits_mod}
 use lib.Seq.{paste, drop-nil, take-nil, take-length}
-use Rattle.frame.specs.Digit.{digit_value, digit_of}
+use Rattle.frame.specs.Digit.{is_digit, digit_value, digit_of}
 use Rattle.frame.specs.Hex.{hex, sum_of}
 use Rattle.frame.specs.Elements.{Bytes}
 use Rattle.frame.specs.DigitRuns.{Digits}
@@ -120,6 +120,32 @@ decoded_hex [] h = refl
 decoded_hex (b ∷ s) h =
     rw (digit_of_value (b / 16) (omega arith), digit_of_value (b % 16) (omega arith), div-add-mod' b 16, decoded_hex s h.1)
 
+-- Two characters stand for one byte.
+pub decoded_next : (s : List ℕ) (i : ℕ) → i + 1 < length s
+    → decoded (drop i s) ≡ (digit_value (get_or s i 0) * 16 + digit_value (get_or s (i + 1) 0)) ∷ decoded (drop (i + 2) s)
+decoded_next s i h =
+    let two : i + 2 ≡ i + 1 + 1 = omega arith in rw (drop_next s i (omega arith), drop_next s (i + 1) h, two)
+
+-- Fewer than two characters stand for no byte.
+pub decoded_short : (s : List ℕ) → length s ≤ 1 → decoded s ≡ []
+decoded_short [] h = refl
+decoded_short (a ∷ []) h = refl
+decoded_short (a ∷ b ∷ s) h = absurd (omega arith)
+
+-- Behind 2 i characters stand the bytes behind i bytes.
+pub decoded_drop : (i : ℕ) (s : List ℕ) → decoded (drop (2 * i) s) ≡ drop i (decoded s)
+decoded_drop zero s = refl
+decoded_drop (suc i) [] = rw drop-nil
+decoded_drop (suc i) (a ∷ []) = rw (mul-suc, add-two)
+decoded_drop (suc i) (a ∷ b ∷ s) = rw (mul-suc, add-two) (decoded_drop i s)
+
+-- The byte at i, of the characters that stand for it.
+pub decoded_at : (s : List ℕ) (i : ℕ) → 2 * i + 1 < length s
+    → get_or (decoded s) i 0 ≡ digit_value (get_or s (2 * i) 0) * 16 + digit_value (get_or s (2 * i + 1) 0)
+decoded_at s i h =
+    ap (λ (k : ℕ). get_or (decoded s) k 0) (sym (add-zero i)) ∙ sym (get_or-drop i (decoded s) 0 0)
+    ∙ ap (λ (l : List ℕ). get_or l 0 0) (sym (decoded_drop i s) ∙ decoded_next s (2 * i) h)
+
 -- An even count of digits is the characters of the bytes that they stand for.
 pub hex_decoded : (s : List ℕ) → Digits s → length s % 2 ≡ 0 → hex (decoded s) ≡ s
 hex_decoded [] h e = refl
@@ -133,15 +159,15 @@ hex_decoded (a ∷ b ∷ s) h e =
       hex_decoded s h.1.1 (omega arith),
     )
 
+-- Of two digits, the byte that is computed is the one that they stand for.
+pub byte_digits : (a b : ℕ) → is_digit a ≡ true → is_digit b ≡ true → byte_of a b ≡ digit_value a * 16 + digit_value b
+byte_digits a b h k = rw (digit_halves a h, digit_halves b k) (omega (arith, digit_small a, digit_small b))
+
 -- Of digits, the bytes that are computed are those that they stand for.
 pub unhexed_digits : (s : List ℕ) → Digits s → unhexed s ≡ decoded s
 unhexed_digits [] h = refl
 unhexed_digits (a ∷ []) h = refl
-unhexed_digits (a ∷ b ∷ s) h =
-    let one : byte_of a b ≡ digit_value a * 16 + digit_value b =
-    rw (digit_halves a h.0, digit_halves b h.1.0) (omega (arith, digit_small a, digit_small b))
-    in
-    ap₂ ◌∷◌ one (unhexed_digits s h.1.1)
+unhexed_digits (a ∷ b ∷ s) h = ap₂ ◌∷◌ (byte_digits a b h.0 h.1.0) (unhexed_digits s h.1.1)
 
 -- What is computed of characters, and what they stand for, are bytes.
 pub unhexed_bytes : (s : List ℕ) → Bytes (unhexed s)

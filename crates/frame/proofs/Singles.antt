@@ -62,6 +62,12 @@ module _ (f : Framing) (p buf : List ℕ) where
         leaves = ap (λ (q : Bool). cond (q && leb (length (layout f p)) (length buf)) (in_front (layout f p) buf) buf) (sym not);
       }
 
+  pub writes_empty : length p ≡ 0 → Writes f p buf (WriteRefused Payload) buf
+  writes_empty h = writes_payload (inl h)
+
+  pub writes_long : 256 < length p → Writes f p buf (WriteRefused Payload) buf
+  writes_long h = writes_payload (inr h)
+
   module _ (some : 1 ≤ length p) (most : length p ≤ 256) where
     may : writable p ≡ true
     may = and_true (leb 1 (length p)) (leb (length p) 256) (le-leb 1 (length p) some) (le-leb (length p) 256 most)

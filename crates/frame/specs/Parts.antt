@@ -1,13 +1,20 @@
 -- Behind the public calls: what functions of ascii.rt and framing.rt ask for and answer.
-use Rattle.std.specs.Prelude.{◌≡◌, ℕ, ◌+◌, ◌*◌, ◌%◌, ◌<◌, ◌≤◌, Bool, true, List, length, drop, slice_index, slice_index_or}
+use Rattle.std.specs.Prelude.{◌≡◌, ℕ, ◌+◌, ◌*◌, ◌%◌, ◌<◌, ◌≤◌, Bool, true, List, length, take, drop, slice_index, slice_index_or}
 use Rattle.frame.specs.Checks.{Checks, whole, last_byte, test, behind, run}
 use Rattle.frame.specs.Ascii.{colon, ends_digits}
-use Rattle.frame.specs.Judged.{payload_at, verdict_of}
+use Rattle.frame.specs.DigitRuns.{Digits}
+use Rattle.frame.specs.Judged.{payload_at, payload_end, verdict_of}
 use Rattle.frame.specs.declared.framing.Ending.{Ending}
 use Rattle.frame.specs.declared.framing.Framing.{Framing}
 use Rattle.frame.specs.declared.framing.Framing.TheVariants.{Binary as BinaryFraming, Ascii as AsciiFraming}
 use Rattle.frame.specs.declared.framing.Format.{Format}
+use Rattle.frame.specs.declared.framing.Format.TheVariants.{Binary, Ascii}
 use Rattle.frame.specs.declared.framing.Judged.{Judged}
+
+-- A payload of n bytes can be taken out of s: it is there, and in digits where they are decoded.
+abbrev pub HasPayload : Format → List ℕ → ℕ → Type 0
+HasPayload (Binary footer) s n = payload_end (Binary footer) n ≤ length s
+HasPayload (Ascii ending) s n = (payload_end (Ascii ending) n ≤ length s) × Digits (take (2 * n) (drop 1 s))
 
 -- The length of a frame with a payload of n bytes.
 abbrev pub frame_length : Framing → ℕ → ℕ

@@ -7,7 +7,7 @@ ghost use Rattle.frame.specs.Checks.{run, behind, payload_in};
 ghost use Rattle.frame.specs.Hex.{sum_of};
 ghost use Rattle.frame.specs.Ascii.{ends_digits, hex_digits, line_ending};
 ghost use Rattle.frame.specs.Framing.{judge, in_front, layout};
-ghost use Rattle.frame.specs.DigitRuns.{digit_run};
+ghost use Rattle.frame.specs.DigitRuns.{Digits, digit_run};
 ghost use Rattle.frame.specs.Judged.{decoded, unhexed, verdict_of};
 ghost use Rattle.frame.specs.Parts.{Short};
 
@@ -182,10 +182,11 @@ fn extract_short(ending: Ending, s: &[u8], count: usize, buf: &mut [u8]) -> Judg
 }
 
 // Puts the bytes that the `len` pairs of characters behind the first stand for into the front of buf.
-pub(crate) fn take_out(s: &[u8], len: usize, buf: &mut [u8])
+pub(crate) fn unpack(s: &[u8], len: usize, buf: &mut [u8])
     requires len_in_bounds { 1 + 2 * len ≤ length s.now }
     requires len_in_bounds_2 { len ≤ length buf.old }
-    ensures { buf.new ≡ in_front (unhexed (take (2 * len) (drop 1 s.now))) buf.old }
+    ensures value { buf.new ≡ in_front (unhexed (take (2 * len) (drop 1 s.now))) buf.old }
+    ensures digits { Digits (take (2 * len) (drop 1 s.now)) → buf.new ≡ in_front (decoded (take (2 * len) (drop 1 s.now))) buf.old }
 {
     hex::decode(&s[1..1 + 2 * len], buf);
 }
@@ -202,7 +203,7 @@ pub(crate) fn extract(ending: Ending, s: &[u8], buf: &mut [u8]) -> Judged
     }
     let verdict = judge_run(ending, s, count);
     if let Judged::Frame { used: _, len } = verdict {
-        take_out(s, len, buf);
+        unpack(s, len, buf);
     }
     verdict
 }

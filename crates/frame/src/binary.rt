@@ -116,7 +116,7 @@ pub(crate) fn judge(footer: Footer, s: &[u8]) -> Judged
 }
 
 // Puts the `len` bytes behind the first four into the front of buf.
-pub(crate) fn take_out(s: &[u8], len: usize, buf: &mut [u8])
+pub(crate) fn unpack(s: &[u8], len: usize, buf: &mut [u8])
     requires len_in_bounds { 4 + len ≤ length s.now }
     requires len_in_bounds_2 { len ≤ length buf.old }
     ensures { buf.new ≡ in_front (take len (drop 4 s.now)) buf.old }
@@ -132,7 +132,7 @@ pub(crate) fn extract(footer: Footer, s: &[u8], buf: &mut [u8]) -> Judged
 {
     let verdict = judge(footer, s);
     if let Judged::Frame { used: _, len } = verdict {
-        take_out(s, len, buf);
+        unpack(s, len, buf);
     }
     verdict
 }

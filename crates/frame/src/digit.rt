@@ -1,6 +1,6 @@
 // Digits, 0-9 and A-F: their values, and how many stand at the front of a slice.
 ghost use Rattle.std.specs.Prelude.{◌≡◌, ◌+◌, ◌-◌, ◌<◌, ◌≤◌, true, false, length, take, drop};
-ghost use Rattle.frame.specs.Digit.{is_digit};
+ghost use Rattle.frame.specs.Digit.{is_digit, digit_value};
 ghost use Rattle.frame.specs.DigitRuns.{digit_run, little_endian, all_pass};
 ghost use Rattle.frame.specs.Judged.{half_of};
 
@@ -15,6 +15,8 @@ fn is_digit(c: u8) -> bool
 pub(crate) fn digit_value(c: u8) -> u8
     ensures value { result ≡ half_of c }
     ensures upper_bound { result < 43 }
+    ensures digit { is_digit c ≡ true → result ≡ digit_value c }
+    ensures digit_bound { is_digit c ≡ true → result < 16 }
 {
     c % 16 + 9 * (c / 64)
 }

@@ -3,8 +3,8 @@ ghost use Rattle.std.specs.Prelude.{◌≡◌, ℕ, ◌-◌, ◌<◌, ◌≤◌,
 ghost use Rattle.frame.specs.Checks.{payload_in};
 ghost use Rattle.frame.specs.Ascii.{carriage_return};
 ghost use Rattle.frame.specs.Framing.{format_of, judge, layout, in_front, may_follow, is_open, is_optional, absorbed};
-ghost use Rattle.frame.specs.Judged.{verdict_of, payload_end, bytes_at, unpacks, unpacked, with_room};
-ghost use Rattle.frame.specs.Parts.{frame_length, Ended, Completed};
+ghost use Rattle.frame.specs.Judged.{verdict_of, payload_at, payload_end, bytes_at, unpacks, unpacked, with_room};
+ghost use Rattle.frame.specs.Parts.{HasPayload, frame_length, Ended, Completed};
 ghost use Rattle.frame.specs.declared.framing.Format.TheVariants.{Binary, Ascii};
 
 use crate::refusal::Refusal;
@@ -204,11 +204,12 @@ fn payload_end(format: Format, len: usize) -> usize
 pub(crate) fn take_out(format: Format, s: &[u8], len: usize, buf: &mut [u8])
     requires len_in_bounds { payload_end format len ≤ length s.now }
     requires len_in_bounds_2 { len ≤ length buf.old }
-    ensures { buf.new ≡ in_front (bytes_at format s.now len) buf.old }
+    ensures value { buf.new ≡ in_front (bytes_at format s.now len) buf.old }
+    ensures payload { HasPayload format s.now len → buf.new ≡ in_front (payload_at format s.now len) buf.old }
 {
     match format {
-        Format::Binary(_) => binary::take_out(s, len, buf),
-        Format::Ascii(_) => ascii::take_out(s, len, buf),
+        Format::Binary(_) => binary::unpack(s, len, buf),
+        Format::Ascii(_) => ascii::unpack(s, len, buf),
     }
 }
 
@@ -247,6 +248,8 @@ pub fn judge(format: Format, s: &[u8]) -> Judged
 pub fn extract(format: Format, s: &[u8], buf: &mut [u8]) -> Judged
     ensures s_value { with_room buf.old (judge format s.now) ≡ verdict_of format s.now result }
     ensures buf_after { buf.new ≡ in_front (payload_in (with_room buf.old (judge format s.now))) buf.old }
+    ensures room_value { 256 ≤ length buf.old → judge format s.now ≡ verdict_of format s.now result }
+    ensures room_buf_after { 256 ≤ length buf.old → buf.new ≡ in_front (payload_in (judge format s.now)) buf.old }
 {
     if buf.len() < 256 {
         return Judged::Failed {

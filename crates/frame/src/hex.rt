@@ -1,10 +1,11 @@
 // Bytes as two digits each, the upper half first.
 ghost use Rattle.std.specs.Prelude.{◌≡◌, ◌+◌, ◌-◌, ◌*◌, ◌/◌, ◌%◌, ◌<◌, ◌≤◌, [], ◌∷◌, ◌++◌, length, take, drop, slice_index, slice_range, slice_set};
 ghost use Rattle.std.proofs.Math.Seq.{paste};
-ghost use Rattle.frame.specs.Digit.{digit_of};
+ghost use Rattle.frame.specs.Digit.{digit_value, digit_of};
 ghost use Rattle.frame.specs.Hex.{hex, sum_of};
 ghost use Rattle.frame.specs.Framing.{in_front};
-ghost use Rattle.frame.specs.Judged.{byte_of, unhexed};
+ghost use Rattle.frame.specs.DigitRuns.{Digits};
+ghost use Rattle.frame.specs.Judged.{decoded, byte_of, unhexed};
 
 use crate::digit::digit_value;
 use std::num::wrapping_add_u8;
@@ -12,7 +13,8 @@ use std::num::wrapping_add_u8;
 // The byte that two digits stand for. Of other characters it is some byte, so that nothing is asked of them.
 fn byte_at(s: &[u8], i: usize) -> u8
     requires { i + 1 < length s.now }
-    ensures { result ≡ byte_of (slice_index s.now i) (slice_index s.now (i + 1)) }
+    ensures value { result ≡ byte_of (slice_index s.now i) (slice_index s.now (i + 1)) }
+    ensures digits { Digits s.now → result ≡ digit_value (slice_index s.now i) * 16 + digit_value (slice_index s.now (i + 1)) }
 {
     wrapping_add_u8(digit_value(s[i]) % 16 * 16, digit_value(s[i + 1]))
 }
@@ -20,7 +22,8 @@ fn byte_at(s: &[u8], i: usize) -> u8
 // The 16 bytes whose digits begin at `at`, in an array of their own: such a loop is vectorised, stores into a slice are not.
 fn decode_block(s: &[u8], at: usize) -> [u8; 16]
     requires { at + 32 ≤ length s.now }
-    ensures { result ≡ unhexed (take 32 (drop at s.now)) }
+    ensures value { result ≡ unhexed (take 32 (drop at s.now)) }
+    ensures digits { Digits s.now → result ≡ decoded (take 32 (drop at s.now)) }
 {
     let mut block = [0u8; 16];
     let mut i = 0;
@@ -79,6 +82,7 @@ fn block_sum(s: &[u8], at: usize) -> u32
     requires { at + 16 ≤ length s.now }
     ensures s_value { result + sum_of (unhexed (drop (at + 16) s.now)) ≡ sum_of (unhexed (drop at s.now)) }
     ensures upper_bound { result ≤ 2040 }
+    ensures digits { Digits s.now → result + sum_of (decoded (drop (at + 16) s.now)) ≡ sum_of (decoded (drop at s.now)) }
 {
     let mut sum: u32 = 0;
     let mut i = 0;
@@ -95,6 +99,7 @@ fn tail_sum(s: &[u8], from: usize) -> u32
     requires s_len_bound { length s.now ≤ 514 }
     ensures value { result ≡ sum_of (unhexed (drop from s.now)) }
     ensures from_bound { result + 255 * from ≤ 255 * length s.now }
+    ensures digits { Digits s.now → result ≡ sum_of (decoded (drop from s.now)) }
 {
     let mut sum: u32 = 0;
     let mut i = from;
@@ -109,7 +114,9 @@ fn tail_sum(s: &[u8], from: usize) -> u32
 fn rest_sum(s: &[u8], from: usize) -> u32
     requires from_in_bounds { from ≤ length s.now }
     requires s_len_bound { length s.now ≤ 514 }
-    ensures { result ≡ sum_of (unhexed (drop from s.now)) }
+    ensures value { result ≡ sum_of (unhexed (drop from s.now)) }
+    ensures from_bound { result + 255 * from ≤ 255 * length s.now }
+    ensures digits { Digits s.now → result ≡ sum_of (decoded (drop from s.now)) }
 {
     if from + 16 <= s.len() {
         return block_sum(s, from) + tail_sum(s, from + 16);
@@ -142,7 +149,8 @@ fn behind_sum(s: &[u8], from: usize) -> u32
 // of blocks is vectorised across the blocks, byte by byte.
 pub(crate) fn pair_sum(s: &[u8]) -> u32
     requires { length s.now ≤ 514 }
-    ensures { result ≡ sum_of (unhexed s.now) }
+    ensures value { result ≡ sum_of (unhexed s.now) }
+    ensures digits { Digits s.now → result ≡ sum_of (decoded s.now) }
 {
     let mut sum: u32 = 0;
     let mut i = 0;
@@ -157,7 +165,8 @@ pub(crate) fn pair_sum(s: &[u8]) -> u32
 // Puts the bytes that the digits of src stand for into the front of dst, one by one.
 fn decode_bytes(src: &[u8], dst: &mut [u8])
     requires { length src.now / 2 ≤ length dst.old }
-    ensures { dst.new ≡ in_front (unhexed src.now) dst.old }
+    ensures value { dst.new ≡ in_front (unhexed src.now) dst.old }
+    ensures digits { Digits src.now → dst.new ≡ in_front (decoded src.now) dst.old }
 {
     let n = src.len() / 2;
     let mut i = 0;
@@ -171,7 +180,8 @@ fn decode_bytes(src: &[u8], dst: &mut [u8])
 fn decode_blocks(src: &[u8], dst: &mut [u8])
     requires in_bounds { 32 ≤ length src.now }
     requires src_in_bounds { length src.now / 2 ≤ length dst.old }
-    ensures { dst.new ≡ in_front (unhexed src.now) dst.old }
+    ensures value { dst.new ≡ in_front (unhexed src.now) dst.old }
+    ensures digits { Digits src.now → dst.new ≡ in_front (decoded src.now) dst.old }
 {
     let n = src.len() / 2;
     let mut i = 0;
@@ -188,7 +198,8 @@ fn decode_blocks(src: &[u8], dst: &mut [u8])
 // Puts the bytes that the digits of src stand for into the front of dst.
 pub(crate) fn decode(src: &[u8], dst: &mut [u8])
     requires { length src.now / 2 ≤ length dst.old }
-    ensures { dst.new ≡ in_front (unhexed src.now) dst.old }
+    ensures value { dst.new ≡ in_front (unhexed src.now) dst.old }
+    ensures digits { Digits src.now → dst.new ≡ in_front (decoded src.now) dst.old }
 {
     if src.len() < 32 {
         decode_bytes(src, dst);
@@ -200,7 +211,8 @@ pub(crate) fn decode(src: &[u8], dst: &mut [u8])
 // The 16 bytes whose digits are in the front of s, and the 16 whose digits begin at `last`.
 pub(crate) fn decode_two(s: &[u8], last: usize) -> [u8; 32]
     requires { last + 32 ≤ length s.now }
-    ensures { result ≡ unhexed (take 32 s.now) ++ unhexed (take 32 (drop last s.now)) }
+    ensures value { result ≡ unhexed (take 32 s.now) ++ unhexed (take 32 (drop last s.now)) }
+    ensures digits { Digits s.now → result ≡ decoded (take 32 s.now) ++ decoded (take 32 (drop last s.now)) }
 {
     let mut two = [0u8; 32];
     let block = decode_block(s, 0);

@@ -51,6 +51,7 @@ pub fn read_frame(framing: Framing, s: &[u8], buf: &mut [u8]) -> ReadAnswer
 
 // Writes a payload as a frame to the front of buf, whose other bytes stay. A refusal leaves all of buf: 14 where the payload is
 // empty or longer than 256 bytes, then 13 where buf is shorter than the frame.
+#[tactic(auto, using(crate::proofs::Singles::writes_empty, crate::proofs::Singles::writes_long))]
 pub fn write_frame(framing: Framing, payload: &[u8], buf: &mut [u8]) -> WriteAnswer
     ensures { Writes framing payload.now buf.old result buf.new }
 {

@@ -173,7 +173,7 @@ abbrev doubled_start : List ℕ
 doubled_start = 0xA5 ∷ 0x5A ∷ 0xA5 ∷ 0x5A ∷ 0x80 ∷ 0x04 ∷ 0xDB ∷ 0xA1 ∷ 0x01 ∷ 0x01 ∷ 0x7A ∷ 0x04 ∷ []
 
 -- The starred rows, with what the payloads of their frames mean, and the rows beside them that concern a single frame or payload. Frames in binary framing are
--- read in both formats; the rows of 2 for the missing footer and of 5 are those of the format that requires it, and footerRows has what the default says there.
+-- read in both formats; the rows of 2 for the missing footer and of 5 are those of the format that requires it, and footer_rows has what the default says there.
 abbrev pub rows : List Row
 rows =
     reads ascii (text ":00010203FA\r\n") 13 (0x00 ∷ 0x01 ∷ 0x02 ∷ 0x03 ∷ [])

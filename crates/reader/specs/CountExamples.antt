@@ -10,7 +10,7 @@ use Rattle.frame.specs.declared.framing.Ending.{Ending}
 use Rattle.frame.specs.declared.framing.Ending.TheVariants.{CrLf, Any}
 use Rattle.frame.specs.declared.framing.Format.TheVariants.{Binary, Ascii}
 
--- How near segments come to the bound (mostJudged). In ASCII framing within one: at each colon but the last, it and the next one are judged; at the last,
+-- How near segments come to the bound (most_judged). In ASCII framing within one: at each colon but the last, it and the next one are judged; at the last,
 -- itself.
 abbrev pub ColonsCount : Ending → Type 0
 ColonsCount ending = (n : ℕ) → rule_judged (Ascii ending) (replicate (suc n) colon) ≡ 2 * n + 1

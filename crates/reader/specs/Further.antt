@@ -115,7 +115,7 @@ CallsCountFrom =
     (r : Reader) (todo : List ℕ) (out : Output (List ℕ)) (calls : Calls offering r todo out) → r.judged ≤ length (state_of r).held →
     judged_by calls ≡ judged_after (state_of r) todo
 
--- The bound on judged bytes (mostJudged, Counts.antt) holds of the rule's count over a segment, and of what the rule judges from any state on.
+-- The bound on judged bytes (most_judged, Counts.antt) holds of the rule's count over a segment, and of what the rule judges from any state on.
 abbrev pub RuleBound : Format → Type 0
 RuleBound f = (s : List ℕ) → rule_judged f s ≤ most_judged f * length s
 

@@ -16,13 +16,13 @@ extract_short-requires-clause-count_value c = c.run_behind-count.ensures
 pub extract_short-requires-clause-short : goal.extract_short-requires-clause-short
 extract_short-requires-clause-short c = c.is_short.ensures c.if-is_short.true c.args.ending
 
-pub take_out-requires-clause-len_in_bounds : goal.take_out-requires-clause-len_in_bounds
-take_out-requires-clause-len_in_bounds c =
+pub unpack-requires-clause-len_in_bounds : goal.unpack-requires-clause-len_in_bounds
+unpack-requires-clause-len_in_bounds c =
     let named : judge (Ascii c.args.ending) c.args.s.now ≡ verdict_of (Ascii c.args.ending) c.args.s.now (Frame c.in-Frame.used c.in-Frame.len) = c.judge_run-verdict.ensures ∙ ap (verdict_of (Ascii c.args.ending) c.args.s.now) c.in-Frame.is in
     let h = payload_named (Ascii c.args.ending) c.args.s.now c.in-Frame.used c.in-Frame.len (named) in h.there
 
-pub take_out-requires-clause-len_in_bounds_2 : goal.take_out-requires-clause-len_in_bounds_2
-take_out-requires-clause-len_in_bounds_2 c =
+pub unpack-requires-clause-len_in_bounds_2 : goal.unpack-requires-clause-len_in_bounds_2
+unpack-requires-clause-len_in_bounds_2 c =
     let named : judge (Ascii c.args.ending) c.args.s.now ≡ verdict_of (Ascii c.args.ending) c.args.s.now (Frame c.in-Frame.used c.in-Frame.len) = c.judge_run-verdict.ensures ∙ ap (verdict_of (Ascii c.args.ending) c.args.s.now) c.in-Frame.is in
     let h = payload_named (Ascii c.args.ending) c.args.s.now c.in-Frame.used c.in-Frame.len (named) in omega (arith, h.most)
 
@@ -34,7 +34,7 @@ returns-in-Frame-clause-s_value c =
 pub returns-in-Frame-clause-buf_after : goal.returns-in-Frame-clause-buf_after
 returns-in-Frame-clause-buf_after c =
     let named : judge (Ascii c.args.ending) c.args.s.now ≡ verdict_of (Ascii c.args.ending) c.args.s.now (Frame c.in-Frame.used c.in-Frame.len) = c.judge_run-verdict.ensures ∙ ap (verdict_of (Ascii c.args.ending) c.args.s.now) c.in-Frame.is in
-    let h = payload_named (Ascii c.args.ending) c.args.s.now c.in-Frame.used c.in-Frame.len (named) in c.take_out.ensures
+    let h = payload_named (Ascii c.args.ending) c.args.s.now c.in-Frame.used c.in-Frame.len (named) in c.unpack.ensures.value
     ∙ ap (λ (p : List ℕ). in_front p c.args.buf.now) h.taken
     ∙ sym (ap (λ (w : Verdict). in_front (payload_in w) c.args.buf.now) (named))
 

@@ -24,7 +24,7 @@ decode_two-two-requires c =
 
 pub slice_bounds-whole-end : goal.slice_bounds-whole-end
 slice_bounds-whole-end c =
-    let is : (let ds = take c.args.count (drop 1 c.args.s.now) in c.decode_two-two.result ≡ unhexed (take 32 ds) ++ unhexed (take 32 (drop (c.args.count - 32) ds))) = rw (add-sub_cancel_left 1 c.args.count) at c.decode_two-two.ensures in
+    let is : (let ds = take c.args.count (drop 1 c.args.s.now) in c.decode_two-two.result ≡ unhexed (take 32 ds) ++ unhexed (take 32 (drop (c.args.count - 32) ds))) = rw (add-sub_cancel_left 1 c.args.count) at c.decode_two-two.ensures.value in
     let long : length c.decode_two-two.result ≡ 32 = short_long c.args.ending c.args.s.now c.args.count c.requires.count_value c.requires.short c.decode_two-two.result (is) in
     sym (long)
 
@@ -33,77 +33,77 @@ overflow_sub-n c = omega (arith, c.requires.short.most)
 
 pub sum_of_two-requires-clause-two_len : goal.sum_of_two-requires-clause-two_len
 sum_of_two-requires-clause-two_len c =
-    let is : (let ds = take c.args.count (drop 1 c.args.s.now) in c.decode_two-two.result ≡ unhexed (take 32 ds) ++ unhexed (take 32 (drop (c.args.count - 32) ds))) = rw (add-sub_cancel_left 1 c.args.count) at c.decode_two-two.ensures in
+    let is : (let ds = take c.args.count (drop 1 c.args.s.now) in c.decode_two-two.result ≡ unhexed (take 32 ds) ++ unhexed (take 32 (drop (c.args.count - 32) ds))) = rw (add-sub_cancel_left 1 c.args.count) at c.decode_two-two.ensures.value in
     let long : length c.decode_two-two.result ≡ 32 = short_long c.args.ending c.args.s.now c.args.count c.requires.count_value c.requires.short c.decode_two-two.result (is) in long
 
 pub sum_of_two-requires-clause-le_from : goal.sum_of_two-requires-clause-le_from
 sum_of_two-requires-clause-le_from c =
-    let is : (let ds = take c.args.count (drop 1 c.args.s.now) in c.decode_two-two.result ≡ unhexed (take 32 ds) ++ unhexed (take 32 (drop (c.args.count - 32) ds))) = rw (add-sub_cancel_left 1 c.args.count) at c.decode_two-two.ensures in
+    let is : (let ds = take c.args.count (drop 1 c.args.s.now) in c.decode_two-two.result ≡ unhexed (take 32 ds) ++ unhexed (take 32 (drop (c.args.count - 32) ds))) = rw (add-sub_cancel_left 1 c.args.count) at c.decode_two-two.ensures.value in
     let long : length c.decode_two-two.result ≡ 32 = short_long c.args.ending c.args.s.now c.args.count c.requires.count_value c.requires.short c.decode_two-two.result (is) in omega (arith, c.requires.short.most)
 
 pub sum_of_two-requires-clause-from_bound : goal.sum_of_two-requires-clause-from_bound
 sum_of_two-requires-clause-from_bound c =
-    let is : (let ds = take c.args.count (drop 1 c.args.s.now) in c.decode_two-two.result ≡ unhexed (take 32 ds) ++ unhexed (take 32 (drop (c.args.count - 32) ds))) = rw (add-sub_cancel_left 1 c.args.count) at c.decode_two-two.ensures in
+    let is : (let ds = take c.args.count (drop 1 c.args.s.now) in c.decode_two-two.result ≡ unhexed (take 32 ds) ++ unhexed (take 32 (drop (c.args.count - 32) ds))) = rw (add-sub_cancel_left 1 c.args.count) at c.decode_two-two.ensures.value in
     let long : length c.decode_two-two.result ≡ 32 = short_long c.args.ending c.args.s.now c.args.count c.requires.count_value c.requires.short c.decode_two-two.result (is) in omega (arith, c.requires.short.least)
 
 pub judge_end-verdict-requires-clause-count_value : goal.judge_end-verdict-requires-clause-count_value
 judge_end-verdict-requires-clause-count_value c =
-    let is : (let ds = take c.args.count (drop 1 c.args.s.now) in c.decode_two-two.result ≡ unhexed (take 32 ds) ++ unhexed (take 32 (drop (c.args.count - 32) ds))) = rw (add-sub_cancel_left 1 c.args.count) at c.decode_two-two.ensures in
+    let is : (let ds = take c.args.count (drop 1 c.args.s.now) in c.decode_two-two.result ≡ unhexed (take 32 ds) ++ unhexed (take 32 (drop (c.args.count - 32) ds))) = rw (add-sub_cancel_left 1 c.args.count) at c.decode_two-two.ensures.value in
     let total : c.sum_of_two.result ≡ sum_of (decoded (take c.args.count (drop 1 c.args.s.now))) = c.sum_of_two.ensures ∙ short_sum c.args.ending c.args.s.now c.args.count c.requires.count_value c.requires.short c.decode_two-two.result (is) in c.requires.count_value
 
 pub judge_end-verdict-requires-clause-le_count : goal.judge_end-verdict-requires-clause-le_count
 judge_end-verdict-requires-clause-le_count c =
-    let is : (let ds = take c.args.count (drop 1 c.args.s.now) in c.decode_two-two.result ≡ unhexed (take 32 ds) ++ unhexed (take 32 (drop (c.args.count - 32) ds))) = rw (add-sub_cancel_left 1 c.args.count) at c.decode_two-two.ensures in
+    let is : (let ds = take c.args.count (drop 1 c.args.s.now) in c.decode_two-two.result ≡ unhexed (take 32 ds) ++ unhexed (take 32 (drop (c.args.count - 32) ds))) = rw (add-sub_cancel_left 1 c.args.count) at c.decode_two-two.ensures.value in
     let total : c.sum_of_two.result ≡ sum_of (decoded (take c.args.count (drop 1 c.args.s.now))) = c.sum_of_two.ensures ∙ short_sum c.args.ending c.args.s.now c.args.count c.requires.count_value c.requires.short c.decode_two-two.result (is) in omega (arith, c.requires.short.least)
 
 pub judge_end-verdict-requires-clause-count_bound : goal.judge_end-verdict-requires-clause-count_bound
 judge_end-verdict-requires-clause-count_bound c =
-    let is : (let ds = take c.args.count (drop 1 c.args.s.now) in c.decode_two-two.result ≡ unhexed (take 32 ds) ++ unhexed (take 32 (drop (c.args.count - 32) ds))) = rw (add-sub_cancel_left 1 c.args.count) at c.decode_two-two.ensures in
+    let is : (let ds = take c.args.count (drop 1 c.args.s.now) in c.decode_two-two.result ≡ unhexed (take 32 ds) ++ unhexed (take 32 (drop (c.args.count - 32) ds))) = rw (add-sub_cancel_left 1 c.args.count) at c.decode_two-two.ensures.value in
     let total : c.sum_of_two.result ≡ sum_of (decoded (take c.args.count (drop 1 c.args.s.now))) = c.sum_of_two.ensures ∙ short_sum c.args.ending c.args.s.now c.args.count c.requires.count_value c.requires.short c.decode_two-two.result (is) in omega (arith, c.requires.short.most)
 
 pub judge_end-verdict-requires-clause-count_value_2 : goal.judge_end-verdict-requires-clause-count_value_2
 judge_end-verdict-requires-clause-count_value_2 c =
-    let is : (let ds = take c.args.count (drop 1 c.args.s.now) in c.decode_two-two.result ≡ unhexed (take 32 ds) ++ unhexed (take 32 (drop (c.args.count - 32) ds))) = rw (add-sub_cancel_left 1 c.args.count) at c.decode_two-two.ensures in
+    let is : (let ds = take c.args.count (drop 1 c.args.s.now) in c.decode_two-two.result ≡ unhexed (take 32 ds) ++ unhexed (take 32 (drop (c.args.count - 32) ds))) = rw (add-sub_cancel_left 1 c.args.count) at c.decode_two-two.ensures.value in
     let total : c.sum_of_two.result ≡ sum_of (decoded (take c.args.count (drop 1 c.args.s.now))) = c.sum_of_two.ensures ∙ short_sum c.args.ending c.args.s.now c.args.count c.requires.count_value c.requires.short c.decode_two-two.result (is) in c.requires.short.even
 
 pub judge_end-verdict-requires-clause-count_in_bounds : goal.judge_end-verdict-requires-clause-count_in_bounds
 judge_end-verdict-requires-clause-count_in_bounds c =
-    let is : (let ds = take c.args.count (drop 1 c.args.s.now) in c.decode_two-two.result ≡ unhexed (take 32 ds) ++ unhexed (take 32 (drop (c.args.count - 32) ds))) = rw (add-sub_cancel_left 1 c.args.count) at c.decode_two-two.ensures in
+    let is : (let ds = take c.args.count (drop 1 c.args.s.now) in c.decode_two-two.result ≡ unhexed (take 32 ds) ++ unhexed (take 32 (drop (c.args.count - 32) ds))) = rw (add-sub_cancel_left 1 c.args.count) at c.decode_two-two.ensures.value in
     let total : c.sum_of_two.result ≡ sum_of (decoded (take c.args.count (drop 1 c.args.s.now))) = c.sum_of_two.ensures ∙ short_sum c.args.ending c.args.s.now c.args.count c.requires.count_value c.requires.short c.decode_two-two.result (is) in c.requires.short.inside
 
 pub judge_end-verdict-requires-clause-count_value_3 : goal.judge_end-verdict-requires-clause-count_value_3
 judge_end-verdict-requires-clause-count_value_3 c =
-    let is : (let ds = take c.args.count (drop 1 c.args.s.now) in c.decode_two-two.result ≡ unhexed (take 32 ds) ++ unhexed (take 32 (drop (c.args.count - 32) ds))) = rw (add-sub_cancel_left 1 c.args.count) at c.decode_two-two.ensures in
+    let is : (let ds = take c.args.count (drop 1 c.args.s.now) in c.decode_two-two.result ≡ unhexed (take 32 ds) ++ unhexed (take 32 (drop (c.args.count - 32) ds))) = rw (add-sub_cancel_left 1 c.args.count) at c.decode_two-two.ensures.value in
     let total : c.sum_of_two.result ≡ sum_of (decoded (take c.args.count (drop 1 c.args.s.now))) = c.sum_of_two.ensures ∙ short_sum c.args.ending c.args.s.now c.args.count c.requires.count_value c.requires.short c.decode_two-two.result (is) in c.requires.short.ends
 
 pub judge_end-verdict-requires-clause-total_value : goal.judge_end-verdict-requires-clause-total_value
 judge_end-verdict-requires-clause-total_value c =
-    let is : (let ds = take c.args.count (drop 1 c.args.s.now) in c.decode_two-two.result ≡ unhexed (take 32 ds) ++ unhexed (take 32 (drop (c.args.count - 32) ds))) = rw (add-sub_cancel_left 1 c.args.count) at c.decode_two-two.ensures in
+    let is : (let ds = take c.args.count (drop 1 c.args.s.now) in c.decode_two-two.result ≡ unhexed (take 32 ds) ++ unhexed (take 32 (drop (c.args.count - 32) ds))) = rw (add-sub_cancel_left 1 c.args.count) at c.decode_two-two.ensures.value in
     let total : c.sum_of_two.result ≡ sum_of (decoded (take c.args.count (drop 1 c.args.s.now))) = c.sum_of_two.ensures ∙ short_sum c.args.ending c.args.s.now c.args.count c.requires.count_value c.requires.short c.decode_two-two.result (is) in total
 
 pub slice_bounds-copy-end : goal.slice_bounds-copy-end
 slice_bounds-copy-end c =
-    let is : (let ds = take c.args.count (drop 1 c.args.s.now) in c.decode_two-two.result ≡ unhexed (take 32 ds) ++ unhexed (take 32 (drop (c.args.count - 32) ds))) = rw (add-sub_cancel_left 1 c.args.count) at c.decode_two-two.ensures in
+    let is : (let ds = take c.args.count (drop 1 c.args.s.now) in c.decode_two-two.result ≡ unhexed (take 32 ds) ++ unhexed (take 32 (drop (c.args.count - 32) ds))) = rw (add-sub_cancel_left 1 c.args.count) at c.decode_two-two.ensures.value in
     let long : length c.decode_two-two.result ≡ 32 = short_long c.args.ending c.args.s.now c.args.count c.requires.count_value c.requires.short c.decode_two-two.result (is) in
     let front_long : length (take 16 c.decode_two-two.result) ≡ 16 = length-take-le 16 c.decode_two-two.result (omega (arith, long)) in
     sym (front_long)
 
 pub copy-requires : goal.copy-requires
 copy-requires c =
-    let is : (let ds = take c.args.count (drop 1 c.args.s.now) in c.decode_two-two.result ≡ unhexed (take 32 ds) ++ unhexed (take 32 (drop (c.args.count - 32) ds))) = rw (add-sub_cancel_left 1 c.args.count) at c.decode_two-two.ensures in
+    let is : (let ds = take c.args.count (drop 1 c.args.s.now) in c.decode_two-two.result ≡ unhexed (take 32 ds) ++ unhexed (take 32 (drop (c.args.count - 32) ds))) = rw (add-sub_cancel_left 1 c.args.count) at c.decode_two-two.ensures.value in
     let long : length c.decode_two-two.result ≡ 32 = short_long c.args.ending c.args.s.now c.args.count c.requires.count_value c.requires.short c.decode_two-two.result (is) in
     let front_long : length (take 16 c.decode_two-two.result) ≡ 16 = length-take-le 16 c.decode_two-two.result (omega (arith, long)) in
     omega (arith, front_long)
 
 pub slice_bounds-copy-start : goal.slice_bounds-copy-start
 slice_bounds-copy-start c =
-    let is : (let ds = take c.args.count (drop 1 c.args.s.now) in c.decode_two-two.result ≡ unhexed (take 32 ds) ++ unhexed (take 32 (drop (c.args.count - 32) ds))) = rw (add-sub_cancel_left 1 c.args.count) at c.decode_two-two.ensures in
+    let is : (let ds = take c.args.count (drop 1 c.args.s.now) in c.decode_two-two.result ≡ unhexed (take 32 ds) ++ unhexed (take 32 (drop (c.args.count - 32) ds))) = rw (add-sub_cancel_left 1 c.args.count) at c.decode_two-two.ensures.value in
     let long : length c.decode_two-two.result ≡ 32 = short_long c.args.ending c.args.s.now c.args.count c.requires.count_value c.requires.short c.decode_two-two.result (is) in
     omega (arith, long)
 
 pub slice_bounds-copy-end-in-Frame : goal.slice_bounds-copy-end-in-Frame
 slice_bounds-copy-end-in-Frame c =
-    let is : (let ds = take c.args.count (drop 1 c.args.s.now) in c.decode_two-two.result ≡ unhexed (take 32 ds) ++ unhexed (take 32 (drop (c.args.count - 32) ds))) = rw (add-sub_cancel_left 1 c.args.count) at c.decode_two-two.ensures in
+    let is : (let ds = take c.args.count (drop 1 c.args.s.now) in c.decode_two-two.result ≡ unhexed (take 32 ds) ++ unhexed (take 32 (drop (c.args.count - 32) ds))) = rw (add-sub_cancel_left 1 c.args.count) at c.decode_two-two.ensures.value in
     let long : length c.decode_two-two.result ≡ 32 = short_long c.args.ending c.args.s.now c.args.count c.requires.count_value c.requires.short c.decode_two-two.result (is) in
     omega (arith, long)
 
@@ -118,14 +118,14 @@ slice_bounds-copy-start-in-Frame c = omega (arith, c.requires.short.most)
 
 pub copy-requires-in-Frame : goal.copy-requires-in-Frame
 copy-requires-in-Frame c =
-    let is : (let ds = take c.args.count (drop 1 c.args.s.now) in c.decode_two-two.result ≡ unhexed (take 32 ds) ++ unhexed (take 32 (drop (c.args.count - 32) ds))) = rw (add-sub_cancel_left 1 c.args.count) at c.decode_two-two.ensures in
+    let is : (let ds = take c.args.count (drop 1 c.args.s.now) in c.decode_two-two.result ≡ unhexed (take 32 ds) ++ unhexed (take 32 (drop (c.args.count - 32) ds))) = rw (add-sub_cancel_left 1 c.args.count) at c.decode_two-two.ensures.value in
     let long : length c.decode_two-two.result ≡ 32 = short_long c.args.ending c.args.s.now c.args.count c.requires.count_value c.requires.short c.decode_two-two.result (is) in
     let last-long : length (take 15 (drop 16 c.decode_two-two.result)) ≡ 15 = length-take-le 15 (drop 16 c.decode_two-two.result) (omega (arith, length-drop 16 c.decode_two-two.result, long)) in
     omega (arith, last-long, c.requires.short.least, c.requires.short.most)
 
 pub returns-in-Frame-clause-s_value : goal.returns-in-Frame-clause-s_value
 returns-in-Frame-clause-s_value c =
-    let is : (let ds = take c.args.count (drop 1 c.args.s.now) in c.decode_two-two.result ≡ unhexed (take 32 ds) ++ unhexed (take 32 (drop (c.args.count - 32) ds))) = rw (add-sub_cancel_left 1 c.args.count) at c.decode_two-two.ensures in
+    let is : (let ds = take c.args.count (drop 1 c.args.s.now) in c.decode_two-two.result ≡ unhexed (take 32 ds) ++ unhexed (take 32 (drop (c.args.count - 32) ds))) = rw (add-sub_cancel_left 1 c.args.count) at c.decode_two-two.ensures.value in
     let long : length c.decode_two-two.result ≡ 32 = short_long c.args.ending c.args.s.now c.args.count c.requires.count_value c.requires.short c.decode_two-two.result (is) in
     let front_long : length (take 16 c.decode_two-two.result) ≡ 16 = length-take-le 16 c.decode_two-two.result (omega (arith, long)) in
     let last-long : length (take 15 (drop 16 c.decode_two-two.result)) ≡ 15 = length-take-le 15 (drop 16 c.decode_two-two.result) (omega (arith, length-drop 16 c.decode_two-two.result, long)) in
@@ -138,7 +138,7 @@ returns-in-Frame-clause-s_value c =
 
 pub returns-in-Frame-clause-buf_after : goal.returns-in-Frame-clause-buf_after
 returns-in-Frame-clause-buf_after c =
-    let is : (let ds = take c.args.count (drop 1 c.args.s.now) in c.decode_two-two.result ≡ unhexed (take 32 ds) ++ unhexed (take 32 (drop (c.args.count - 32) ds))) = rw (add-sub_cancel_left 1 c.args.count) at c.decode_two-two.ensures in
+    let is : (let ds = take c.args.count (drop 1 c.args.s.now) in c.decode_two-two.result ≡ unhexed (take 32 ds) ++ unhexed (take 32 (drop (c.args.count - 32) ds))) = rw (add-sub_cancel_left 1 c.args.count) at c.decode_two-two.ensures.value in
     let long : length c.decode_two-two.result ≡ 32 = short_long c.args.ending c.args.s.now c.args.count c.requires.count_value c.requires.short c.decode_two-two.result (is) in
     let front_long : length (take 16 c.decode_two-two.result) ≡ 16 = length-take-le 16 c.decode_two-two.result (omega (arith, long)) in
     let last-long : length (take 15 (drop 16 c.decode_two-two.result)) ≡ 15 = length-take-le 15 (drop 16 c.decode_two-two.result) (omega (arith, length-drop 16 c.decode_two-two.result, long)) in

@@ -10,13 +10,13 @@ use Rattle.frame.proofs.Framings.{payload_named}
 use Rattle.frame.proofs.Copying.{stays}
 use Rattle.frame.proofs.binary.extract.Goals as goal
 
-pub take_out-requires-clause-len_in_bounds : goal.take_out-requires-clause-len_in_bounds
-take_out-requires-clause-len_in_bounds c =
+pub unpack-requires-clause-len_in_bounds : goal.unpack-requires-clause-len_in_bounds
+unpack-requires-clause-len_in_bounds c =
     let named : judge (Binary c.args.footer) c.args.s.now ≡ verdict_of (Binary c.args.footer) c.args.s.now (Frame c.in-Frame.used c.in-Frame.len) = c.judge-verdict.ensures ∙ ap (verdict_of (Binary c.args.footer) c.args.s.now) c.in-Frame.is in
     let h = payload_named (Binary c.args.footer) c.args.s.now c.in-Frame.used c.in-Frame.len (named) in h.there
 
-pub take_out-requires-clause-len_in_bounds_2 : goal.take_out-requires-clause-len_in_bounds_2
-take_out-requires-clause-len_in_bounds_2 c =
+pub unpack-requires-clause-len_in_bounds_2 : goal.unpack-requires-clause-len_in_bounds_2
+unpack-requires-clause-len_in_bounds_2 c =
     let named : judge (Binary c.args.footer) c.args.s.now ≡ verdict_of (Binary c.args.footer) c.args.s.now (Frame c.in-Frame.used c.in-Frame.len) = c.judge-verdict.ensures ∙ ap (verdict_of (Binary c.args.footer) c.args.s.now) c.in-Frame.is in
     let h = payload_named (Binary c.args.footer) c.args.s.now c.in-Frame.used c.in-Frame.len (named) in omega (arith, h.most)
 
@@ -24,7 +24,7 @@ pub returns-in-Frame-clause-s_value : goal.returns-in-Frame-clause-s_value
 returns-in-Frame-clause-s_value c = let named : judge (Binary c.args.footer) c.args.s.now ≡ verdict_of (Binary c.args.footer) c.args.s.now (Frame c.in-Frame.used c.in-Frame.len) = c.judge-verdict.ensures ∙ ap (verdict_of (Binary c.args.footer) c.args.s.now) c.in-Frame.is in named
 
 pub returns-in-Frame-clause-buf_after : goal.returns-in-Frame-clause-buf_after
-returns-in-Frame-clause-buf_after c = let named : judge (Binary c.args.footer) c.args.s.now ≡ verdict_of (Binary c.args.footer) c.args.s.now (Frame c.in-Frame.used c.in-Frame.len) = c.judge-verdict.ensures ∙ ap (verdict_of (Binary c.args.footer) c.args.s.now) c.in-Frame.is in c.take_out.ensures ∙ sym (ap (λ (w : Verdict). in_front (payload_in w) c.args.buf.now) (named))
+returns-in-Frame-clause-buf_after c = let named : judge (Binary c.args.footer) c.args.s.now ≡ verdict_of (Binary c.args.footer) c.args.s.now (Frame c.in-Frame.used c.in-Frame.len) = c.judge-verdict.ensures ∙ ap (verdict_of (Binary c.args.footer) c.args.s.now) c.in-Frame.is in c.unpack.ensures ∙ sym (ap (λ (w : Verdict). in_front (payload_in w) c.args.buf.now) (named))
 
 pub returns-in_default-clause-s_value : goal.returns-in_default-clause-s_value
 returns-in_default-clause-s_value c = c.judge-verdict.ensures

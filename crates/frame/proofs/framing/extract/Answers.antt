@@ -11,7 +11,13 @@ pub returns-then-buf-lt256-clause-buf_after : goal.returns-then-buf-lt256-clause
 returns-then-buf-lt256-clause-buf_after c = rw (lt-leb 256 (length c.args.buf.now) c.if-buf-lt256.true) refl
 
 pub returns-in-Binary : goal.returns-in-Binary
-returns-in-Binary c = rw (le-leb 256 (length c.args.buf.now) c.if-buf-lt256.false, c.in-Binary.is) c.extract.ensures
+returns-in-Binary c =
+    let e = c.extract.ensures in
+    rw (le-leb 256 (length c.args.buf.now) c.if-buf-lt256.false, c.in-Binary.is)
+    (record { s_value = e.s_value; buf_after = e.buf_after; room_value = λ h. e.s_value; room_buf_after = λ h. e.buf_after })
 
 pub returns-in-Ascii : goal.returns-in-Ascii
-returns-in-Ascii c = rw (le-leb 256 (length c.args.buf.now) c.if-buf-lt256.false, c.in-Ascii.is) c.extract-in-Ascii.ensures
+returns-in-Ascii c =
+    let e = c.extract-in-Ascii.ensures in
+    rw (le-leb 256 (length c.args.buf.now) c.if-buf-lt256.false, c.in-Ascii.is)
+    (record { s_value = e.s_value; buf_after = e.buf_after; room_value = λ h. e.s_value; room_buf_after = λ h. e.buf_after })

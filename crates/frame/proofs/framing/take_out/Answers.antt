@@ -2,14 +2,14 @@
 -- Assumes nothing.
 use Rattle.frame.proofs.framing.take_out.Goals as goal
 
-pub take_out-requires : goal.take_out-requires
-take_out-requires c = rw c.in-Binary.is at c.requires
+pub unpack-requires : goal.unpack-requires
+unpack-requires c = rw c.in-Binary.is at c.requires
 
-pub take_out-requires-in-Ascii : goal.take_out-requires-in-Ascii
-take_out-requires-in-Ascii c = rw c.in-Ascii.is at c.requires
+pub unpack-requires-in-Ascii : goal.unpack-requires-in-Ascii
+unpack-requires-in-Ascii c = rw c.in-Ascii.is at c.requires
 
 pub returns-in-Binary : goal.returns-in-Binary
-returns-in-Binary c = rw c.in-Binary.is c.take_out.ensures
+returns-in-Binary c = rw c.in-Binary.is (record { value = c.unpack.ensures; payload = λ h. c.unpack.ensures })
 
 pub returns-in-Ascii : goal.returns-in-Ascii
-returns-in-Ascii c = rw c.in-Ascii.is c.take_out-in-Ascii.ensures
+returns-in-Ascii c = rw c.in-Ascii.is (record { value = c.unpack-in-Ascii.ensures.value; payload = λ h. c.unpack-in-Ascii.ensures.digits h.1 })

@@ -46,4 +46,4 @@ returns c =
       le-leb 256 (length c.args.buf.now) c.if-buf-lt256.false,
       le-leb c.args.len 256 c.if-len-gt256.false,
       le-leb (payload_end c.args.format c.args.len) (length c.args.s.now) (there),
-    ) (record { value = refl; buf_after = c.take_out.ensures })
+    ) (record { value = refl; buf_after = c.take_out.ensures.value })

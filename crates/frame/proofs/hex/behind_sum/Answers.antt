@@ -9,5 +9,5 @@ pub returns : goal.returns
 returns c =
     let k = length c.args.s.now / 2 % 16 in
     c.end_sum.ensures
-    ∙ ap (λ (b : List ℕ). sum_of (take k (drop (16 - k) b))) c.decode_block-last.ensures
+    ∙ ap (λ (b : List ℕ). sum_of (take k (drop (16 - k) b))) c.decode_block-last.ensures.value
     ∙ ap sum_of (behind_blocks c.args.s.now c.args.from (omega arith) (omega arith) (omega arith) (omega arith))

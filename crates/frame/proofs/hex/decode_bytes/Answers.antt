@@ -1,11 +1,12 @@
 -- `frame::hex::decode_bytes` meets its contract. The loop's invariant: dst begins with the bytes before i, and is else as it came. The measure is what
 -- is left of the count of bytes.
 -- Assumes nothing.
-use Rattle.std.proofs.Common.{◌≡◌, ◌<◌, length, refl, arith, length-set}
+use Rattle.std.proofs.Common.{◌≡◌, ℕ, ◌<◌, List, length, refl, ap, ◌∙◌, arith, length-set}
 use lib.Seq.{take-length}
+use Rattle.frame.specs.Framing.{in_front}
 use Rattle.frame.specs.Judged.{unhexed}
 use Rattle.frame.proofs.Lists.{wrote_next}
-use Rattle.frame.proofs.HexLaws.{unhexed_at, length_unhexed}
+use Rattle.frame.proofs.HexLaws.{unhexed_at, length_unhexed, unhexed_digits}
 use Rattle.frame.proofs.hex.decode_bytes.Goals as goal
 
 pub loop-i-init : goal.loop-i-init
@@ -36,4 +37,5 @@ pub returns : goal.returns
 returns c =
     let s = unhexed c.args.src.now in
     let all : c.loop-i.i ≡ length s = omega (arith, length_unhexed c.args.src.now) in
-    cc (c.loop-i.invariant.2, take-length s)
+    let value : c.loop-i.dst ≡ in_front s c.args.dst.now = cc (c.loop-i.invariant.2, take-length s) in
+    record { value = value; digits = λ d. value ∙ ap (λ (l : List ℕ). in_front l c.args.dst.now) (unhexed_digits c.args.src.now d) }

@@ -3,7 +3,8 @@
 -- Assumes nothing.
 use Rattle.std.proofs.Common.{drop, ap, arith, length-drop}
 use Rattle.frame.specs.Hex.{sum_of}
-use Rattle.frame.proofs.HexLaws.{unhexed_next, unhexed_short}
+use Rattle.frame.proofs.DigitLaws.{digits_drop}
+use Rattle.frame.proofs.HexLaws.{unhexed_next, unhexed_short, unhexed_digits}
 use Rattle.frame.proofs.hex.tail_sum.Goals as goal
 
 pub loop-i-init : goal.loop-i-init
@@ -21,5 +22,13 @@ loop-i-smaller c = omega arith
 pub loop-i-preserved : goal.loop-i-preserved
 loop-i-preserved c = omega (arith, ap sum_of (unhexed_next c.args.s.now c.loop-i.i (omega arith)))
 
-pub returns : goal.returns
-returns c = omega (arith, ap sum_of (unhexed_short (drop c.loop-i.i c.args.s.now) (simp length-drop (omega arith))))
+pub returns-clause-value : goal.returns-clause-value
+returns-clause-value c = omega (arith, ap sum_of (unhexed_short (drop c.loop-i.i c.args.s.now) (simp length-drop (omega arith))))
+
+pub returns-clause-from_bound : goal.returns-clause-from_bound
+returns-clause-from_bound c = omega arith
+
+pub returns-clause-digits : goal.returns-clause-digits
+returns-clause-digits c =
+    let none = ap sum_of (unhexed_short (drop c.loop-i.i c.args.s.now) (simp length-drop (omega arith))) in
+    λ d. omega (arith, none, ap sum_of (unhexed_digits _ (digits_drop c.args.from c.args.s.now d)))

@@ -72,7 +72,7 @@ returns-else-buf-len c =
     let follows : c.absorbed-more.result ≡ behind_frame c.args.format c.args.s.now c.in-Frame.used = c.absorbed-more.ensures
     ∙ ap₂ (absorbed c.args.format) c.may_follow.ensures (take_rest c.args.s.now c.in-Frame.used) in
     let p = payload_at c.args.format c.args.s.now c.in-Frame.len in
-    subst (Reads c.args.format c.args.s.now c.args.buf.now _) (sym (c.take_out.ensures ∙ ap (λ (l : List ℕ). in_front l c.args.buf.now) (named).taken))
+    subst (Reads c.args.format c.args.s.now c.args.buf.now _) (sym (c.take_out.ensures.value ∙ ap (λ (l : List ℕ). in_front l c.args.buf.now) (named).taken))
     (reads_frame c.args.format c.args.s.now c.args.buf.now (c.in-Frame.used + c.absorbed-more.result) c.in-Frame.len p
     (whole ∙ ap (λ (n : ℕ). frame (c.in-Frame.used + n) p) (sym (follows)))
     (named).long c.if-buf-len.false)

@@ -1,16 +1,10 @@
 -- `frame::single::write_frame` meets its contract: each answer is one of the cases of its promise.
 -- Assumes nothing.
-use Rattle.std.proofs.Common.{sym, ◌∙◌, subst, inl, inr, arith}
+use Rattle.std.proofs.Common.{sym, ◌∙◌, subst, arith}
 use Rattle.frame.specs.Single.{Writes}
 use Rattle.frame.proofs.Framings.{length_layout}
-use Rattle.frame.proofs.Singles.{writes_payload, writes_short, writes_frame}
+use Rattle.frame.proofs.Singles.{writes_short, writes_frame}
 use Rattle.frame.proofs.single.write_frame.Goals as goal
-
-pub returns-then-len-eq0 : goal.returns-then-len-eq0
-returns-then-len-eq0 c = writes_payload c.args.framing c.args.payload.now c.args.buf.now (inl c.if-len-eq0.true)
-
-pub returns-then-len-gt256 : goal.returns-then-len-gt256
-returns-then-len-gt256 c = writes_payload c.args.framing c.args.payload.now c.args.buf.now (inr c.if-len-gt256.true)
 
 pub returns-then-buf-size : goal.returns-then-buf-size
 returns-then-buf-size c =

@@ -1,11 +1,11 @@
--- `frame::binary::take_out` meets its contract: the payload is copied.
+-- `frame::binary::unpack` meets its contract: the payload is copied.
 -- Assumes nothing.
 use Rattle.std.proofs.Common.{ℕ, ◌+◌, ◌-◌, take, drop, ap, ◌∙◌}
 use native.Mathlib.Nat.{add-sub_cancel_left}
 use Rattle.frame.specs.Framing.{in_front}
 use Rattle.frame.proofs.Copying.{copied}
 use Rattle.frame.proofs.Lists.{paste_front}
-use Rattle.frame.proofs.binary.take_out.Goals as goal
+use Rattle.frame.proofs.binary.unpack.Goals as goal
 
 pub returns : goal.returns
 returns c =
