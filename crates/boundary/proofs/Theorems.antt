@@ -7,7 +7,7 @@ use mathlib.Core.List.{List}
 use mathlib.Core.Bool.{Bool, true, false, cond, true≢false}
 use lib.Dec.{eqb, leb}
 use borrow.Author.Tests.{leb-true, ne_eqb}
-use Rattle.frame.specs.Framing.{format_of as defaultFormat}
+use Rattle.frame.specs.Framing.{format_of as default_format}
 use Rattle.frame.specs.declared.framing.Framing.{Framing}
 use Rattle.frame.specs.declared.framing.Framing.TheVariants.{Binary as BinaryFraming, Ascii as AsciiFraming}
 use Rattle.frame.specs.declared.framing.Footer.TheVariants.{Optional, Required}
@@ -69,7 +69,7 @@ format (Binary Required) = refl
 format (Ascii CrLf) = refl
 format (Ascii Any) = refl
 
-framing : (f : Framing) → framing_of (format_number (defaultFormat f)) ≡ KnownFraming f
+framing : (f : Framing) → framing_of (format_number (default_format f)) ≡ KnownFraming f
 unfolding framing_of
 framing BinaryFraming = refl
 framing AsciiFraming = refl

@@ -2,7 +2,7 @@
 -- to a write: its numbers stand for it, and for no message of another call. An answer without a frame has 0 in the fields that speak of one.
 -- proofs/Theorems.antt proves each claim.
 use Rattle.std.specs.Prelude.{ℕ, ◌<◌, ◌≡◌, List, false}
-use Rattle.frame.specs.Framing.{format_of as defaultFormat}
+use Rattle.frame.specs.Framing.{format_of as default_format}
 use Rattle.reader.specs.Reader.{new_reader}
 use Rattle.frame.specs.declared.framing.Framing.{Framing}
 use Rattle.frame.specs.declared.framing.Footer.TheVariants.{Required}
@@ -35,7 +35,7 @@ use Rattle.boundary.specs.declared.from_module.NamedNotice.TheVariants.{Known as
 pub record CrossesBack : Type 0 where
   -- The number of a format stands for it; that of a framing's default stands for the framing in a write.
   pub format : (m : Format) → format_of (format_number m) ≡ KnownFormat m
-  pub framing : (f : Framing) → framing_of (format_number (defaultFormat f)) ≡ KnownFraming f
+  pub framing : (f : Framing) → framing_of (format_number (default_format f)) ≡ KnownFraming f
   -- Binary with the footer required is 2, ASCII with any ending 3; numbers above it stand for no format, numbers above 1 for no framing.
   pub required : format_number (Binary Required) ≡ 2
   pub any_ending : format_number (Ascii Any) ≡ 3

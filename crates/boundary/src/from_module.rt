@@ -18,7 +18,7 @@ use message::{
 
 // The information of F1, its fields as in `message::Information`.
 #[repr(C)]
-#[derive(Drop)]
+#[derive(Clone, Copy)]
 pub struct InformationNumbers {
     pub application: u32,
     pub version: u32,
@@ -45,7 +45,7 @@ const NO_INFORMATION: InformationNumbers = InformationNumbers {
 // and 0 not. Fields that the kind, or the report, does not have are 0 in an answer, and are not looked at in a write; `refusal` and `start`, the index at
 // which the data begin, belong to answers alone.
 #[repr(C)]
-#[derive(Drop)]
+#[derive(Clone, Copy)]
 pub struct FromModuleNumbers {
     pub kind: u8,
     pub refusal: u8,

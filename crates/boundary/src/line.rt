@@ -23,7 +23,7 @@ pub struct LineReader {
 // The answer's numbers: the refusal's, 0 for none, whether there is a frame, bytes taken, noise, bytes judged, the payload's length, and how far before the
 // first byte that is not taken, at a quiet before the segment's end, the frame began, 0 where there is none.
 #[repr(C)]
-#[derive(Drop)]
+#[derive(Clone, Copy)]
 pub struct LineAnswer {
     pub refusal: u8,
     pub is_frame: bool,
@@ -36,7 +36,7 @@ pub struct LineAnswer {
 
 // An answer with the state that follows.
 #[repr(C)]
-#[derive(Drop)]
+#[derive(Clone, Copy)]
 pub struct LineFed {
     pub reader: LineReader,
     pub answer: LineAnswer,

@@ -7,7 +7,7 @@ use message::{MaybeByte, MaybeWord, Options};
 
 // For each option whether it is given, and its argument, which is 0 where it is not.
 #[repr(C)]
-#[derive(Drop)]
+#[derive(Clone, Copy)]
 pub struct OptionNumbers {
     pub mac_ack: bool,
     pub has_retries: bool,

@@ -8,7 +8,7 @@ use settings::SettingAnswer;
 // What a list has at an index: the refusal's number, 0 for none, whether there is a setting, its identifier, the index in the list at which its data begin,
 // and their length. All but the number are 0 where there is no setting.
 #[repr(C)]
-#[derive(Drop)]
+#[derive(Clone, Copy)]
 pub struct FlatSetting {
     pub refusal: u8,
     pub is_found: bool,

@@ -9,7 +9,7 @@ use frame::{ReadAnswer, WriteAnswer};
 
 // A read's answer: the refusal's number, 0 for none, the bytes used and the payload's length.
 #[repr(C)]
-#[derive(Drop)]
+#[derive(Clone, Copy)]
 pub struct FlatReading {
     pub refusal: u8,
     pub used: usize,
@@ -18,7 +18,7 @@ pub struct FlatReading {
 
 // A write's answer: the refusal's number, 0 for none, and the length of the frame.
 #[repr(C)]
-#[derive(Drop)]
+#[derive(Clone, Copy)]
 pub struct FlatWriting {
     pub refusal: u8,
     pub len: usize,

@@ -6,7 +6,7 @@ use message::{RemoteStatus, StandardStatus};
 
 // What a status has beside its sender and its LQI. Fields that a status does not have are 0.
 #[repr(C)]
-#[derive(Drop)]
+#[derive(Clone, Copy)]
 pub struct StatusNumbers {
     pub identifier: u8,
     pub serial: u32,

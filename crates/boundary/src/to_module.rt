@@ -18,7 +18,7 @@ use message::{
 // Fields that the kind does not have are 0 in an answer, and are not looked at in a write; `refusal` and `start`, the index at which the data begin, belong
 // to answers alone.
 #[repr(C)]
-#[derive(Drop)]
+#[derive(Clone, Copy)]
 pub struct ToModuleNumbers {
     pub kind: u8,
     pub refusal: u8,

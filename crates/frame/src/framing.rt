@@ -57,7 +57,7 @@ impl Framing {
 }
 
 // What stands at the front of a slice.
-#[derive(Drop)]
+#[derive(Clone, Copy)]
 pub enum Judged {
     // The bytes end before a decision.
     Undecided,

@@ -7,14 +7,14 @@ use crate::framing::{
 };
 use crate::refusal::Refusal;
 
-#[derive(Drop)]
+#[derive(Clone, Copy)]
 pub enum ReadAnswer {
     // A frame of `used` bytes, with a payload of `len` bytes in the front of the buffer.
     Frame { used: usize, len: usize },
     Refused(Refusal),
 }
 
-#[derive(Drop)]
+#[derive(Clone, Copy)]
 pub enum WriteAnswer {
     // The length of what was put into the front of the buffer.
     Written(usize),

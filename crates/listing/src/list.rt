@@ -28,7 +28,7 @@ pub enum ListAnswer {
 }
 
 // An answer, and the reader's state that follows.
-#[derive(Drop)]
+#[derive(Clone, Copy)]
 pub struct Listed {
     pub reader: Reader,
     pub answer: ListAnswer,

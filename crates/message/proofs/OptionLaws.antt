@@ -17,7 +17,7 @@ use Rattle.message.specs.declared.options.MaybeWord.{MaybeWord}
 use Rattle.message.specs.declared.options.MaybeWord.TheVariants.{NotGiven as NoWord, Given as Word}
 use Rattle.message.specs.declared.options.Options.{Options}
 use Rattle.message.specs.Options.{has_option, give_flag, give_retries, give_word, is_retry, is_option, expected_after, given_after}
-use Rattle.message.specs.Options.{Expected, option, retryByte, first_of, second_of, bad, opted, options_from}
+use Rattle.message.specs.Options.{Expected, option, retry_byte, first_of, second_of, bad, opted, options_from}
 use Rattle.message.specs.Options.{flag_bytes, retry_bytes, word_bytes, option_bytes}
 use Rattle.message.specs.Put.{Puts}
 use Rattle.message.proofs.Putting.{puts_none, puts_append, puts_length}
@@ -214,7 +214,7 @@ unfolding given_after
 given_flag o id h = simp (le-leb 2 id (omega arith), lt-leb id 5 h)
 
 -- Behind 02 the retry byte is expected.
-after_two : (id : ℕ) → id ≡ 2 → expected_after id ≡ retryByte
+after_two : (id : ℕ) → id ≡ 2 → expected_after id ≡ retry_byte
 unfolding expected_after
 after_two id e = rw e
 
@@ -230,14 +230,14 @@ given_argument o id h k = simp (le-leb 2 id h, le-leb id 5 k)
 
 -- A good retry byte.
 take_retry : (o : Options) (at b : ℕ) (l : List ℕ) → is_retry b ≡ true
-    → options_from retryByte o (at + 1) (b ∷ l) ≡ options_from option (give_retries o b) (at + 2) l
+    → options_from retry_byte o (at + 1) (b ∷ l) ≡ options_from option (give_retries o b) (at + 2) l
 unfolding options_from
 take_retry o at b l h =
     let two : at + 1 + 1 ≡ at + 2 = omega arith in
     rw h (ap (λ (k : ℕ). options_from option (give_retries o b) k l) two)
 
 -- A wrong retry byte.
-take_wrong : (o : Options) (at b : ℕ) (l : List ℕ) → is_retry b ≡ false → options_from retryByte o at (b ∷ l) ≡ bad
+take_wrong : (o : Options) (at b : ℕ) (l : List ℕ) → is_retry b ≡ false → options_from retry_byte o at (b ∷ l) ≡ bad
 unfolding options_from
 take_wrong o at b l h = rw h
 
@@ -297,16 +297,16 @@ module _ (s : List ℕ) (at : ℕ) (o : Options) (there : at < length s) where
 
   -- A new 02.
   read_two : (l : List ℕ) → drop at s ≡ get_or s at 0 ∷ l → get_or s at 0 ≡ 2 → has_option o (get_or s at 0) ≡ false
-      → options_from option o at (drop at s) ≡ options_from retryByte o (at + 1) l
+      → options_from option o at (drop at s) ≡ options_from retry_byte o (at + 1) l
   read_two l d e h =
-      read_new l retryByte o d (λ k. omega arith) h (is_option_lem (get_or s at 0) (omega arith) (omega arith))
+      read_new l retry_byte o d (λ k. omega arith) h (is_option_lem (get_or s at 0) (omega arith) (omega arith))
       (after_two (get_or s at 0) e) (given_argument o (get_or s at 0) (omega arith) (omega arith))
 
   -- A new 02 with no byte behind it.
   pub read_retry_cut : length s ≤ at + 1 → get_or s at 0 ≡ 2 → has_option o (get_or s at 0) ≡ false → options_from option o at (drop at s) ≡ bad
   read_retry_cut k e h =
       read_two (drop (at + 1) s) (drop_one s at there) e h
-      ∙ options_cut retryByte o (at + 1) (drop (at + 1) s) (simp length-drop (omega arith))
+      ∙ options_cut retry_byte o (at + 1) (drop (at + 1) s) (simp length-drop (omega arith))
 
   -- A new 02 with a wrong byte behind it.
   pub read_retry_wrong : at + 1 < length s → get_or s at 0 ≡ 2 → has_option o (get_or s at 0) ≡ false → is_retry (get_or s (at + 1) 0) ≡ false

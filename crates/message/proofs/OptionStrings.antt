@@ -14,7 +14,7 @@ use borrow.Author.Tests.{leb-true, eqb-true}
 use Rattle.frame.specs.Elements.{Bytes}
 use Rattle.message.specs.Number.{bytes2}
 use Rattle.message.specs.Options.{no_options, has_option, give_flag, give_retries, word_or, give_word, is_retry, is_option, retry_allowed}
-use Rattle.message.specs.Options.{bad, opted, Expected, option, retryByte, first_of, second_of, expected_after, given_after, options_from}
+use Rattle.message.specs.Options.{bad, opted, Expected, option, retry_byte, first_of, second_of, expected_after, given_after, options_from}
 use Rattle.message.specs.Options.{byte_given, word_given, flag_bytes, retry_bytes, word_bytes, option_bytes, option_groups, option_string}
 use Rattle.message.specs.declared.options.MaybeByte.{MaybeByte}
 use Rattle.message.specs.declared.options.MaybeByte.TheVariants.{NotGiven as NoByte, Given as Byte}
@@ -44,14 +44,14 @@ Adds o g given = Permutation (g ∷ full (option_groups o)) (full (option_groups
 -- The bytes of an option that were read when this is expected.
 abbrev begun : Expected → List ℕ
 begun option = []
-begun retryByte = 0x02 ∷ []
+begun retry_byte = 0x02 ∷ []
 begun (first_of id) = id ∷ []
 begun (second_of id a) = id ∷ a ∷ []
 
 -- The option whose argument is expected is not given yet: its argument adds its group.
 abbrev Open : Expected → Options → Type 0
 Open option o = Unit {0}
-Open retryByte o = (b : ℕ) → Adds o (0x02 ∷ b ∷ []) (give_retries o b)
+Open retry_byte o = (b : ℕ) → Adds o (0x02 ∷ b ∷ []) (give_retries o b)
 Open (first_of id) o = (v : ℕ) → Adds o (id ∷ bytes2 v) (give_word o id v)
 Open (second_of id a) o = (v : ℕ) → Adds o (id ∷ bytes2 v) (give_word o id v)
 
@@ -138,7 +138,7 @@ follows o id known =
     one_to_eight
     (λ id. has_option o id ≡ false → Follows o id (expected_after id) (given_after o id))
     (λ h. flag_follows o 1 (give_flag o 1) refl (filled gs 0 1 [] (flag_empty 1 o.mac_ack h)))
-    (λ h. argument_follows o 2 retryByte (λ l. refl) (λ b. filled gs 1 2 (b ∷ []) (byte_empty o.retries h)))
+    (λ h. argument_follows o 2 retry_byte (λ l. refl) (λ b. filled gs 1 2 (b ∷ []) (byte_empty o.retries h)))
     (λ h. argument_follows o 3 (first_of 3) (λ l. refl) (λ v. filled gs 2 3 (bytes2 v) (word_empty 3 o.lower_delay h)))
     (λ h. argument_follows o 4 (first_of 4) (λ l. refl) (λ v. filled gs 3 4 (bytes2 v) (word_empty 4 o.upper_delay h)))
     (λ h. argument_follows o 5 (first_of 5) (λ l. refl) (λ v. filled gs 4 5 (bytes2 v) (word_empty 5 o.interval h)))
@@ -195,10 +195,10 @@ encoded (id ∷ s) option given at o end free allowed r =
     f.extends (encoded s (expected_after id) (given_after given id) (at + 1) o end f.free
     (subst (λ x. retry_allowed x ≡ true) (sym f.retries) allowed) rest))
     (λ unknown wrong. never wrong)))
-encoded (b ∷ s) retryByte given at o end free allowed r =
+encoded (b ∷ s) retry_byte given at o end free allowed r =
     choose (is_retry b) r
     (λ retry rest.
-    gives retryByte given b (0x02 ∷ b ∷ []) (give_retries given b) (λ l. omega arith) (λ l h. (refl, h.1.1)) (free b)
+    gives retry_byte given b (0x02 ∷ b ∷ []) (give_retries given b) (λ l. omega arith) (λ l h. (refl, h.1.1)) (free b)
     (encoded s option (give_retries given b) (at + 1) o end tt retry rest))
     (λ bare wrong. never wrong)
 encoded (a ∷ s) (first_of id) given at o end free allowed r =

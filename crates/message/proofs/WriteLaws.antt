@@ -11,7 +11,7 @@ use lib.Dec.{leb, eqb}
 use lib.ListN.{length, take, drop, set}
 use lib.Seq.{paste, take_at, take-length, take-paste, take-append-add, length-paste}
 use Rattle.frame.specs.Framing.{layout, in_front}
-use Rattle.frame.specs.Refusal.{number_of as frameNumber}
+use Rattle.frame.specs.Refusal.{number_of as frame_number}
 use Rattle.frame.specs.Single.{Writing, length_writing, no_writing, writing, writing_of, Writes as FrameWrites}
 use Rattle.frame.specs.declared.framing.Framing.{Framing}
 use Rattle.frame.specs.declared.refusal.Refusal.{Refusal as FrameRefusal}
@@ -51,7 +51,7 @@ refusal_numbered Payload = refl
 refusal_numbered Identifier = refl
 
 -- No refusal of a frame has the number 0.
-frame_numbered : (r : FrameRefusal) → 1 ≤ frameNumber r
+frame_numbered : (r : FrameRefusal) → 1 ≤ frame_number r
 frame_numbered Start = omega arith
 frame_numbered Cut = omega arith
 frame_numbered FrameLength = omega arith
@@ -109,9 +109,9 @@ module _ (f : Framing) (p buf : List ℕ) where
 
   -- The frame's write refuses with 13 where it does not refuse with 14.
   pub refused_buffer : (answer : FrameAnswer) (r : FrameRefusal) (after : List ℕ) → answer ≡ FrameRefused r
-      → FrameWrites f p buf answer after → (frameNumber r ≡ 14 → ⊥) → frameNumber r ≡ 13
+      → FrameWrites f p buf answer after → (frame_number r ≡ 14 → ⊥) → frame_number r ≡ 13
   refused_buffer answer r after e h k =
-      only_buffer (leb 1 (length p) && leb (length p) 256) (leb (length (layout f p)) (length buf)) (frameNumber r) (length (layout f p))
+      only_buffer (leb 1 (length p) && leb (length p) 256) (leb (length (layout f p)) (length buf)) (frame_number r) (length (layout f p))
       (ap writing_of (sym e) ∙ h.answers) (frame_numbered r) k
 
 -- Two copies into a buffer: h to its front, d behind it.

@@ -101,13 +101,13 @@ is_option id = leb 0x01 id && leb id 0x08
 
 -- What is expected next in an option string: an option, the retry byte of 02, or the first or the second byte of the argument of id.
 pub data Expected : Type 0 where
-  option retryByte : Expected
+  option retry_byte : Expected
   first_of : ℕ → Expected
   second_of : ℕ → ℕ → Expected
 
 -- Behind the option id its argument is expected, or where it has none the next option.
 unfoldable pub expected_after : ℕ → Expected
-expected_after id = cond (eqb id 0x02) retryByte (cond (leb 0x03 id && leb id 0x05) (first_of id) option)
+expected_after id = cond (eqb id 0x02) retry_byte (cond (leb 0x03 id && leb id 0x05) (first_of id) option)
 
 -- An option without an argument is given at once; one with an argument when its argument is read.
 unfoldable pub given_after : Options → ℕ → Options
@@ -120,7 +120,7 @@ options_from e o at [] = bad
 options_from option o at (id ∷ s) =
     let rest : Opted = options_from (expected_after id) (given_after o id) (at + 1) s in
     cond (eqb id 0xFF) (opted o (at + 1)) (cond (has_option o id) bad (cond (is_option id) rest bad))
-options_from retryByte o at (b ∷ s) = let rest : Opted = options_from option (give_retries o b) (at + 1) s in cond (is_retry b) rest bad
+options_from retry_byte o at (b ∷ s) = let rest : Opted = options_from option (give_retries o b) (at + 1) s in cond (is_retry b) rest bad
 options_from (first_of id) o at (a ∷ s) = options_from (second_of id a) o (at + 1) s
 options_from (second_of id a) o at (b ∷ s) = options_from option (give_word o id (a * 256 + b)) (at + 1) s
 

@@ -62,7 +62,7 @@ pub enum Notice {
 }
 
 // What a payload from the module is.
-#[derive(Drop)]
+#[derive(Clone, Copy)]
 pub enum FromModule {
     // A message whose data are the payload's bytes from `start` on.
     Delivery { delivery: Delivery, start: usize },

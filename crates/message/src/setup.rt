@@ -30,7 +30,7 @@ pub enum SetupCommand {
 }
 
 // The command that a number names, if any.
-#[derive(Drop)]
+#[derive(Clone, Copy)]
 pub enum NamedCommand {
     Known(SetupCommand),
     Unknown,

@@ -43,7 +43,7 @@ pub struct RemoteStatus {
 }
 
 // An analog channel of a standard status.
-#[derive(Drop)]
+#[derive(Clone, Copy)]
 pub enum Channel {
     One,
     Two,

@@ -49,7 +49,7 @@ pub struct OutputChange {
 }
 
 // What a payload to the module is.
-#[derive(Drop)]
+#[derive(Clone, Copy)]
 pub enum ToModule {
     // A message whose data are the payload's bytes from `start` on.
     Request { request: Request, start: usize },

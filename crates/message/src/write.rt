@@ -5,7 +5,7 @@ ghost use Rattle.message.specs.Write.{Writes};
 use crate::refusal::Refusal;
 use frame::Framing;
 
-#[derive(Drop)]
+#[derive(Clone, Copy)]
 pub enum WriteAnswer {
     // The length of the frame in the front of the buffer.
     Written(usize),

@@ -168,7 +168,7 @@ view_keeps f w count x total k buf buf' l r is h b =
 usable :
     (stop : Stop) (f : Format) (w : List ℕ) (n place reach : ℕ) → reach ≤ place + 517 → Ends false f w n place reach stop →
     Usable stop f w place reach × (place ≤ n)
-usable (found used p) f w n place reach h e = ((e.is_frame_lem, e.inside, h), omega (arith, e.before))
+usable (found used p) f w n place reach h e = ((e.is_frame, e.inside, h), omega (arith, e.before))
 usable undecided f w n place reach h e = (e.is_cut, omega (arith, e.before))
 usable passed f w n place reach h e = (tt, omega (arith, e))
 

@@ -287,7 +287,7 @@ module _ (f : Format) (held chunk : List ℕ) where
       (take-take (x.reach - next) (length held + limit f - next) (drop next w) (omega (arith, facts.there)))
       in
       let at : AtFrame f (joined f held chunk) (length held) x.place x.reach used p = rw q at facts.ends in
-      let sized = frame_sized f (drop x.place (joined f held chunk)) p used at.is_frame_lem in
+      let sized = frame_sized f (drop x.place (joined f held chunk)) p used at.is_frame in
       let marks : is_open f used (drop x.place (joined f held chunk)) ≡ is_open f used (drop x.place w) =
       rw (joined_front, drop_take)
       (open_take f used sized.some (length held + limit f - x.place) (drop x.place w) (omega (arith, sized.most, at.before)))

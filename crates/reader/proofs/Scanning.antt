@@ -75,7 +75,7 @@ module _ (f : Format) (stop place far : ℕ) (s : List ℕ) (l : place < stop) (
 
 -- A scan of s over n places stopped at `place`, having judged bytes up to `reach`: at a frame.
 pub record AtFrame (f : Format) (s : List ℕ) (n place reach used : ℕ) (p : List ℕ) : Type 0 where
-  pub is_frame_lem : judge f (drop place s) ≡ frame used p
+  pub is_frame : judge f (drop place s) ≡ frame used p
   pub inside : place + used ≤ reach
   pub before : place < n
 
@@ -154,7 +154,7 @@ module _ (f : Format) (s : List ℕ) (n : ℕ) (l : n ≤ length s) where
               far = omega arith;
               there = omega arith;
               near = omega arith;
-              ends = record { is_frame_lem = q; inside = omega arith; before = h };
+              ends = record { is_frame = q; inside = omega arith; before = h };
             };
         onward = le_refl place;
       })

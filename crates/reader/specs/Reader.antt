@@ -208,7 +208,7 @@ sound r = can_hold r.format r.count r.judged
 -- The refusals of a call, in their order: 16 where the state is not sound, 13 where the buffer has under `least` bytes, 15 where more than 65,536 bytes are
 -- offered. 0: none.
 abbrev pub call_refusal : Bool → ℕ → ℕ → ℕ → ℕ
-call_refusal isSound least room size = cond isSound (cond (leb least room) (cond (leb size 65536) 0 15) 13) 16
+call_refusal is_sound least room size = cond is_sound (cond (leb least room) (cond (leb size 65536) 0 15) 13) 16
 
 -- Those of a quiet call, which offers no bytes, and of a line call.
 abbrev pub quiet_refusal : Reader → ℕ → ℕ

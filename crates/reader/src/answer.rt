@@ -28,7 +28,7 @@ pub enum FeedAnswer {
     Refused(Refusal),
 }
 
-#[derive(Drop)]
+#[derive(Clone, Copy)]
 pub enum QuietAnswer {
     // A frame among the held bytes, with the same numbers but for `taken`, which is 0; it began `began` bytes before their end, which is the segment's.
     Frame {

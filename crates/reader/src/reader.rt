@@ -24,14 +24,14 @@ pub struct Reader {
 }
 
 // The answer to a chunk, with the state that follows.
-#[derive(Drop)]
+#[derive(Clone, Copy)]
 pub struct Fed {
     pub reader: Reader,
     pub answer: FeedAnswer,
 }
 
 // The answer to a quiet, with the state that follows.
-#[derive(Drop)]
+#[derive(Clone, Copy)]
 pub struct Quieted {
     pub reader: Reader,
     pub answer: QuietAnswer,

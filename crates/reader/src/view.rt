@@ -20,7 +20,7 @@ pub struct View {
 }
 
 // The answer to a chunk, with the view that follows.
-#[derive(Drop)]
+#[derive(Clone, Copy)]
 pub struct Viewed {
     pub view: View,
     pub answer: FeedAnswer,

@@ -5,7 +5,7 @@ ghost use Rattle.settings.specs.Walk.{finding, finding_of};
 use crate::list::{is_list, width_of};
 
 // A setting of a list: its data are the `len` bytes of the list from index `start` on.
-#[derive(Drop)]
+#[derive(Clone, Copy)]
 pub struct Setting {
     pub identifier: u8,
     pub start: usize,
@@ -13,7 +13,7 @@ pub struct Setting {
 }
 
 // What a list has at an index.
-#[derive(Drop)]
+#[derive(Clone, Copy)]
 pub enum SettingAnswer {
     Found(Setting),
     // The index is past the last setting.

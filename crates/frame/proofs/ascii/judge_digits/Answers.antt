@@ -1,7 +1,6 @@
 -- `frame::ascii::judge_digits` meets its contract: each way out is one of the laws on what stands behind the colon.
 -- Assumes nothing.
 use Rattle.std.proofs.Common.{◌≡◌, ◌+◌, true, get_or, drop, sym, ◌∙◌, subst, inl, inr, arith}
-use borrow.Author.Tests.{not-true, not-false}
 use Rattle.frame.specs.Ascii.{ends_digits, behind_digits, line_ending}
 use Rattle.frame.specs.declared.framing.Ending.{Ending}
 use Rattle.frame.specs.declared.framing.Ending.TheVariants.{CrLf, Any}
@@ -21,32 +20,32 @@ returns-then-n-end c = line_short c.args.s.now c.args.count c.requires.count_val
 pub returns-then-not-ends_digits : goal.returns-then-not-ends_digits
 returns-then-not-ends_digits c =
     let stopped : Stopped c.args.s.now c.args.count = record { count_is = c.requires.count_value; room = omega arith; there = omega arith } in
-    line_character c.args.ending (stopped) (sym c.ends_digits.ensures ∙ not-true c.ends_digits.result c.if-not-ends_digits.true-raw)
+    line_character c.args.ending (stopped) (sym c.ends_digits.ensures ∙ c.if-not-ends_digits.true)
 
 pub returns-then-count-lt4 : goal.returns-then-count-lt4
 returns-then-count-lt4 c =
     let stopped : Stopped c.args.s.now c.args.count = record { count_is = c.requires.count_value; room = omega arith; there = omega arith } in
-    let ends : ends_digits c.args.ending (get_or c.args.s.now (1 + c.args.count) 0) ≡ true = sym c.ends_digits.ensures ∙ not-false c.ends_digits.result c.if-not-ends_digits.false-raw in
+    let ends : ends_digits c.args.ending (get_or c.args.s.now (1 + c.args.count) 0) ≡ true = sym c.ends_digits.ensures ∙ c.if-not-ends_digits.false in
     let judges : JudgesAt (line_ending c.args.ending) (behind_digits c.args.ending) c.args.s.now c.args.count = line_judges c.args.ending c.args.s.now c.args.count (ends) in
     line_count (line_ending c.args.ending) (behind_digits c.args.ending) (stopped) (judges) (inl c.if-count-lt4.true)
 
 pub returns-then-count-ne0 : goal.returns-then-count-ne0
 returns-then-count-ne0 c =
     let stopped : Stopped c.args.s.now c.args.count = record { count_is = c.requires.count_value; room = omega arith; there = omega arith } in
-    let ends : ends_digits c.args.ending (get_or c.args.s.now (1 + c.args.count) 0) ≡ true = sym c.ends_digits.ensures ∙ not-false c.ends_digits.result c.if-not-ends_digits.false-raw in
+    let ends : ends_digits c.args.ending (get_or c.args.s.now (1 + c.args.count) 0) ≡ true = sym c.ends_digits.ensures ∙ c.if-not-ends_digits.false in
     let judges : JudgesAt (line_ending c.args.ending) (behind_digits c.args.ending) c.args.s.now c.args.count = line_judges c.args.ending c.args.s.now c.args.count (ends) in
     line_count (line_ending c.args.ending) (behind_digits c.args.ending) (stopped) (judges) (inr c.if-count-ne0.true)
 
 pub judge_sum-requires-clause-count_value_3 : goal.judge_sum-requires-clause-count_value_3
 judge_sum-requires-clause-count_value_3 c =
-    let ends : ends_digits c.args.ending (get_or c.args.s.now (1 + c.args.count) 0) ≡ true = sym c.ends_digits.ensures ∙ not-false c.ends_digits.result c.if-not-ends_digits.false-raw in
+    let ends : ends_digits c.args.ending (get_or c.args.s.now (1 + c.args.count) 0) ≡ true = sym c.ends_digits.ensures ∙ c.if-not-ends_digits.false in
     let at : ends_digits CrLf (get_or c.args.s.now (1 + c.args.count) 0) ≡ true =
     subst (λ (x : Ending). ends_digits x (get_or c.args.s.now (1 + c.args.count) 0) ≡ true) c.in-CrLf.is (ends)
     in at
 
 pub judge_sum-requires-in-Any-clause-count_value_3 : goal.judge_sum-requires-in-Any-clause-count_value_3
 judge_sum-requires-in-Any-clause-count_value_3 c =
-    let ends : ends_digits c.args.ending (get_or c.args.s.now (1 + c.args.count) 0) ≡ true = sym c.ends_digits.ensures ∙ not-false c.ends_digits.result c.if-not-ends_digits.false-raw in
+    let ends : ends_digits c.args.ending (get_or c.args.s.now (1 + c.args.count) 0) ≡ true = sym c.ends_digits.ensures ∙ c.if-not-ends_digits.false in
     let at : ends_digits Any (get_or c.args.s.now (1 + c.args.count) 0) ≡ true =
     subst (λ (x : Ending). ends_digits x (get_or c.args.s.now (1 + c.args.count) 0) ≡ true) c.in-Any.is (ends)
     in at

@@ -2,7 +2,6 @@
 -- left of the length.
 -- Assumes nothing.
 use Rattle.std.proofs.Common.{sym, ◌∙◌, arith}
-use borrow.Author.Tests.{not-true, not-false}
 use Rattle.frame.proofs.DigitLaws.{run_on}
 use Rattle.frame.proofs.digit.block_run.Goals as goal
 
@@ -16,11 +15,11 @@ pub returns-then-not-block_is_digits-clause-s_value : goal.returns-then-not-bloc
 returns-then-not-block_is_digits-clause-s_value c = let (there, count) = c.loop-i.invariant in count
 
 pub returns-then-not-block_is_digits-clause-s_value_2 : goal.returns-then-not-block_is_digits-clause-s_value_2
-returns-then-not-block_is_digits-clause-s_value_2 c = let (there, count) = c.loop-i.invariant in λ h. sym c.block_is_digits.ensures ∙ not-true _ c.if-not-block_is_digits.true-raw
+returns-then-not-block_is_digits-clause-s_value_2 c = let (there, count) = c.loop-i.invariant in λ h. sym c.block_is_digits.ensures ∙ c.if-not-block_is_digits.true
 
 pub loop-i-preserved : goal.loop-i-preserved
 loop-i-preserved c =
-    let found = sym c.block_is_digits.ensures ∙ not-false _ c.if-not-block_is_digits.false-raw in
+    let found = sym c.block_is_digits.ensures ∙ c.if-not-block_is_digits.false in
     omega (arith, run_on 515 c.loop-i.i c.args.s.now (omega arith) (omega arith) found)
 
 pub returns-clause-upper_bound : goal.returns-clause-upper_bound

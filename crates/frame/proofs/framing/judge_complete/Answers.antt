@@ -1,7 +1,6 @@
 -- `frame::framing::judge_complete` meets its contract: the checksum is wrong, or nothing is left.
 -- Assumes nothing.
 use Rattle.std.proofs.Common.{ap, ◌∙◌}
-use borrow.Author.Tests.{not-true, not-false}
 use Rattle.frame.specs.Checks.{whole}
 use Rattle.frame.specs.Judged.{payload_at}
 use Rattle.frame.proofs.Endings.{ending_at, ending_wrong, ending_complete}
@@ -11,10 +10,10 @@ pub returns-then-not-right : goal.returns-then-not-right
 returns-then-not-right c =
     λ s m.
     let p = payload_at m s c.args.len in
-    ap (ending_at whole p s c.args.end) (not-true c.args.right c.if-not-right.true-raw) ∙ ending_wrong whole p s c.args.end
+    ap (ending_at whole p s c.args.end) c.if-not-right.true ∙ ending_wrong whole p s c.args.end
 
 pub returns : goal.returns
 returns c =
     λ s m.
     let p = payload_at m s c.args.len in
-    ap (ending_at whole p s c.args.end) (not-false c.args.right c.if-not-right.false-raw) ∙ ending_complete p s c.args.end
+    ap (ending_at whole p s c.args.end) c.if-not-right.false ∙ ending_complete p s c.args.end

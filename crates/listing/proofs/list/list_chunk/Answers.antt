@@ -5,7 +5,6 @@ use native.Mathlib.Nat.{zero-add}
 use native.Mathlib.Omega.{arith}
 use mathlib.Core.Bool.{true}
 use mathlib.Core.Path.{◌≡◌, sym, ap, ◌∙◌, subst}
-use borrow.Author.Tests.{not-true, not-false}
 use lib.ListN.{length, drop}
 use Rattle.reader.specs.Reader.{State, state_of, Holds, sound}
 use Rattle.listing.specs.Listing.{values_of, chunk_refusal}
@@ -22,25 +21,25 @@ use Rattle.listing.proofs.list.list_chunk.Goals as goal
 pub returns-then-not-is_sound : goal.returns-then-not-is_sound
 returns-then-not-is_sound c =
     refused_lists (drain (state_of c.args.reader) c.args.chunk.now).out c.args.reader c.args.out.now c.refused.result BadState
-    (chunk_state c.args.reader (length c.args.out.now) (length c.args.chunk.now) (sym c.is_sound.ensures ∙ not-true _ c.if-not-is_sound.true-raw))
+    (chunk_state c.args.reader (length c.args.out.now) (length c.args.chunk.now) (sym c.is_sound.ensures ∙ c.if-not-is_sound.true))
     c.refused.ensures.reader_value c.refused.ensures.answer_value
 
 pub returns-then-out-lt-CHUNK_ROOM : goal.returns-then-out-lt-CHUNK_ROOM
 returns-then-out-lt-CHUNK_ROOM c =
-    let yes : sound c.args.reader ≡ true = sym c.is_sound.ensures ∙ not-false _ c.if-not-is_sound.false-raw in
+    let yes : sound c.args.reader ≡ true = sym c.is_sound.ensures ∙ c.if-not-is_sound.false in
     refused_lists (drain (state_of c.args.reader) c.args.chunk.now).out c.args.reader c.args.out.now c.refused-then-out-lt-CHUNK_ROOM.result Buffer
     (chunk_buffer_lem c.args.reader (length c.args.out.now) (length c.args.chunk.now) (yes) c.if-out-lt-CHUNK_ROOM.true) c.refused-then-out-lt-CHUNK_ROOM.ensures.reader_value c.refused-then-out-lt-CHUNK_ROOM.ensures.answer_value
 
 pub returns-then-chunk-gt65536 : goal.returns-then-chunk-gt65536
 returns-then-chunk-gt65536 c =
-    let yes : sound c.args.reader ≡ true = sym c.is_sound.ensures ∙ not-false _ c.if-not-is_sound.false-raw in
+    let yes : sound c.args.reader ≡ true = sym c.is_sound.ensures ∙ c.if-not-is_sound.false in
     refused_lists (drain (state_of c.args.reader) c.args.chunk.now).out c.args.reader c.args.out.now c.refused-then-chunk-gt65536.result Chunk
     (chunk_long c.args.reader (length c.args.out.now) (length c.args.chunk.now) (yes) c.if-out-lt-CHUNK_ROOM.false c.if-chunk-gt65536.true)
     c.refused-then-chunk-gt65536.ensures.reader_value c.refused-then-chunk-gt65536.ensures.answer_value
 
 pub list_held-part-requires : goal.list_held-part-requires
 list_held-part-requires c =
-    let yes : sound c.args.reader ≡ true = sym c.is_sound.ensures ∙ not-false _ c.if-not-is_sound.false-raw in
+    let yes : sound c.args.reader ≡ true = sym c.is_sound.ensures ∙ c.if-not-is_sound.false in
     let array : length c.args.reader.held ≡ 517 = search rules in
     let known : sound c.args.reader ≡ true → c.args.reader.judged ≤ length (state_of c.args.reader).held = λ e. sound_known c.args.reader (array) e in
     let fits : Room (drain (state_of c.args.reader) c.args.chunk.now) 0 0 c.args.out.now = chunk_room c.args.reader c.args.chunk.now c.args.out.now (sound_count c.args.reader (yes)) c.if-chunk-gt65536.false c.if-out-lt-CHUNK_ROOM.false in
@@ -49,7 +48,7 @@ list_held-part-requires c =
 
 pub returns-then-part : goal.returns-then-part
 returns-then-part c =
-    let yes : sound c.args.reader ≡ true = sym c.is_sound.ensures ∙ not-false _ c.if-not-is_sound.false-raw in
+    let yes : sound c.args.reader ≡ true = sym c.is_sound.ensures ∙ c.if-not-is_sound.false in
     let free : chunk_refusal c.args.reader (length c.args.out.now) (length c.args.chunk.now) ≡ 0 = chunk_free c.args.reader (length c.args.out.now) (length c.args.chunk.now) (yes) c.if-out-lt-CHUNK_ROOM.false c.if-chunk-gt65536.false in
     let h = c.list_held-part.ensures.all c.if-part.true in
     rest_lists {s = state_of c.args.reader} (drain (state_of c.args.reader) c.args.chunk.now) c.args.reader c.args.out.now c.lines.result _ (free)
@@ -57,7 +56,7 @@ returns-then-part c =
 
 pub list_view-requires : goal.list_view-requires
 list_view-requires c =
-    let yes : sound c.args.reader ≡ true = sym c.is_sound.ensures ∙ not-false _ c.if-not-is_sound.false-raw in
+    let yes : sound c.args.reader ≡ true = sym c.is_sound.ensures ∙ c.if-not-is_sound.false in
     let fits : Room (drain (state_of c.args.reader) c.args.chunk.now) 0 0 c.args.out.now = chunk_room c.args.reader c.args.chunk.now c.args.out.now (sound_count c.args.reader (yes)) c.if-chunk-gt65536.false c.if-out-lt-CHUNK_ROOM.false in
     let unjudged : c.list_held-part.result.reader.judged ≡ 0 = let h = c.list_held-part.ensures.some c.if-part.false in
     omega (arith, h.0, h.1.known, held_few c.list_held-part.result.reader) in
@@ -76,7 +75,7 @@ list_view-requires c =
 
 pub returns : goal.returns
 returns c =
-    let yes : sound c.args.reader ≡ true = sym c.is_sound.ensures ∙ not-false _ c.if-not-is_sound.false-raw in
+    let yes : sound c.args.reader ≡ true = sym c.is_sound.ensures ∙ c.if-not-is_sound.false in
     let array : length c.args.reader.held ≡ 517 = search rules in
     let known : sound c.args.reader ≡ true → c.args.reader.judged ≤ length (state_of c.args.reader).held = λ e. sound_known c.args.reader (array) e in
     let fits : Room (drain (state_of c.args.reader) c.args.chunk.now) 0 0 c.args.out.now = chunk_room c.args.reader c.args.chunk.now c.args.out.now (sound_count c.args.reader (yes)) c.if-chunk-gt65536.false c.if-out-lt-CHUNK_ROOM.false in

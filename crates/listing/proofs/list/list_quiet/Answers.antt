@@ -6,7 +6,6 @@ use native.Mathlib.Omega.{arith}
 use mathlib.Core.Bool.{true}
 use mathlib.Core.Path.{◌≡◌, refl, sym, ap, ◌∙◌}
 use mathlib.Core.List.{List, []}
-use borrow.Author.Tests.{not-true, not-false}
 use lib.ListN.{length, take}
 use Rattle.io.proofs.Counting.{length-take_of_le}
 use Rattle.reader.specs.Draining.{Reports}
@@ -25,17 +24,17 @@ use Rattle.listing.proofs.list.list_quiet.Goals as goal
 pub returns-then-not-is_sound : goal.returns-then-not-is_sound
 returns-then-not-is_sound c =
     refused_lists (rule_after (state_of c.args.reader) []) c.args.reader c.args.out.now c.refused.result State
-    (end_state c.args.reader (length c.args.out.now) (sym c.is_sound.ensures ∙ not-true _ c.if-not-is_sound.true-raw)) c.refused.ensures.reader_value c.refused.ensures.answer_value
+    (end_state c.args.reader (length c.args.out.now) (sym c.is_sound.ensures ∙ c.if-not-is_sound.true)) c.refused.ensures.reader_value c.refused.ensures.answer_value
 
 pub returns-then-out-lt-QUIET_ROOM : goal.returns-then-out-lt-QUIET_ROOM
 returns-then-out-lt-QUIET_ROOM c =
-    let yes : sound c.args.reader ≡ true = sym c.is_sound.ensures ∙ not-false _ c.if-not-is_sound.false-raw in
+    let yes : sound c.args.reader ≡ true = sym c.is_sound.ensures ∙ c.if-not-is_sound.false in
     refused_lists (rule_after (state_of c.args.reader) []) c.args.reader c.args.out.now c.refused-then-out-lt-QUIET_ROOM.result Buffer
     (end_buffer c.args.reader (length c.args.out.now) (yes) c.if-out-lt-QUIET_ROOM.true) c.refused-then-out-lt-QUIET_ROOM.ensures.reader_value c.refused-then-out-lt-QUIET_ROOM.ensures.answer_value
 
 pub loop-noise-init : goal.loop-noise-init
 loop-noise-init c =
-    let yes : sound c.args.reader ≡ true = sym c.is_sound.ensures ∙ not-false _ c.if-not-is_sound.false-raw in
+    let yes : sound c.args.reader ≡ true = sym c.is_sound.ensures ∙ c.if-not-is_sound.false in
     (refl, yes, refl, progress (rule_after (state_of c.args.reader) []) _ _ _, zero-add _)
 
 pub slice_bounds-quiet-end : goal.slice_bounds-quiet-end
@@ -54,7 +53,7 @@ slice_bounds-put_line-end c =
 
 pub put_line-end-requires : goal.put_line-end-requires
 put_line-end-requires c =
-    let yes : sound c.args.reader ≡ true = sym c.is_sound.ensures ∙ not-false _ c.if-not-is_sound.false-raw in
+    let yes : sound c.args.reader ≡ true = sym c.is_sound.ensures ∙ c.if-not-is_sound.false in
     let reports : (let r = c.loop-noise.state in Reports (quiet_refusal r (length c.loop-noise.buf)) (quiet (state_of r)) (quiet_judged (state_of r)) (AfterQuiet r.format (quiet (state_of r)) (quiet (state_of r)).out.frames) r c.loop-noise.buf (quiet_values_of c.quiet-quieted.result.answer) c.quiet-quieted.result.reader c.quiet-quieted.new.buf) = quiet_reports c.loop-noise.state c.loop-noise.buf c.quiet-quieted.result _ c.quiet-quieted.ensures in
     let free : quiet_refusal c.loop-noise.state (length c.loop-noise.buf) ≡ 0 = quiet_free c.loop-noise.state c.loop-noise.buf c.loop-noise.invariant.1 c.loop-noise.invariant.0 in
     let room : (0 + length (lines_of (rule_after (state_of c.args.reader) []).frames) ≤ length c.args.out.now) × ((rule_after (state_of c.args.reader) []).noise ≤ 517) = quiet_room c.args.reader c.args.out.now (sound_count c.args.reader (yes)) c.if-out-lt-QUIET_ROOM.false in
@@ -64,7 +63,7 @@ put_line-end-requires c =
 pub overflow_add-noise_total : goal.overflow_add-noise_total
 unfolding join
 overflow_add-noise_total c =
-    let yes : sound c.args.reader ≡ true = sym c.is_sound.ensures ∙ not-false _ c.if-not-is_sound.false-raw in
+    let yes : sound c.args.reader ≡ true = sym c.is_sound.ensures ∙ c.if-not-is_sound.false in
     let reports : (let r = c.loop-noise.state in Reports (quiet_refusal r (length c.loop-noise.buf)) (quiet (state_of r)) (quiet_judged (state_of r)) (AfterQuiet r.format (quiet (state_of r)) (quiet (state_of r)).out.frames) r c.loop-noise.buf (quiet_values_of c.quiet-quieted.result.answer) c.quiet-quieted.result.reader c.quiet-quieted.new.buf) = quiet_reports c.loop-noise.state c.loop-noise.buf c.quiet-quieted.result _ c.quiet-quieted.ensures in
     let free : quiet_refusal c.loop-noise.state (length c.loop-noise.buf) ≡ 0 = quiet_free c.loop-noise.state c.loop-noise.buf c.loop-noise.invariant.1 c.loop-noise.invariant.0 in
     let room : (0 + length (lines_of (rule_after (state_of c.args.reader) []).frames) ≤ length c.args.out.now) × ((rule_after (state_of c.args.reader) []).noise ≤ 517) = quiet_room c.args.reader c.args.out.now (sound_count c.args.reader (yes)) c.if-out-lt-QUIET_ROOM.false in
@@ -76,7 +75,7 @@ overflow_add-noise_total c =
 
 pub overflow_add-judged_total : goal.overflow_add-judged_total
 overflow_add-judged_total c =
-    let yes : sound c.args.reader ≡ true = sym c.is_sound.ensures ∙ not-false _ c.if-not-is_sound.false-raw in
+    let yes : sound c.args.reader ≡ true = sym c.is_sound.ensures ∙ c.if-not-is_sound.false in
     let reports : (let r = c.loop-noise.state in Reports (quiet_refusal r (length c.loop-noise.buf)) (quiet (state_of r)) (quiet_judged (state_of r)) (AfterQuiet r.format (quiet (state_of r)) (quiet (state_of r)).out.frames) r c.loop-noise.buf (quiet_values_of c.quiet-quieted.result.answer) c.quiet-quieted.result.reader c.quiet-quieted.new.buf) = quiet_reports c.loop-noise.state c.loop-noise.buf c.quiet-quieted.result _ c.quiet-quieted.ensures in
     let free : quiet_refusal c.loop-noise.state (length c.loop-noise.buf) ≡ 0 = quiet_free c.loop-noise.state c.loop-noise.buf c.loop-noise.invariant.1 c.loop-noise.invariant.0 in
     let judges : (v : Values) → quiet_values_of c.quiet-quieted.result.answer ≡ v → v.judged ≡ quiet_judged (state_of c.loop-noise.state) = λ v e. sym (ap (λ (x : Values). x.judged) e) ∙ reports_judged _ (reports) (free) in
@@ -96,7 +95,7 @@ loop-noise-smaller c =
 
 pub loop-noise-preserved : goal.loop-noise-preserved
 loop-noise-preserved c =
-    let yes : sound c.args.reader ≡ true = sym c.is_sound.ensures ∙ not-false _ c.if-not-is_sound.false-raw in
+    let yes : sound c.args.reader ≡ true = sym c.is_sound.ensures ∙ c.if-not-is_sound.false in
     let reports : (let r = c.loop-noise.state in Reports (quiet_refusal r (length c.loop-noise.buf)) (quiet (state_of r)) (quiet_judged (state_of r)) (AfterQuiet r.format (quiet (state_of r)) (quiet (state_of r)).out.frames) r c.loop-noise.buf (quiet_values_of c.quiet-quieted.result.answer) c.quiet-quieted.result.reader c.quiet-quieted.new.buf) = quiet_reports c.loop-noise.state c.loop-noise.buf c.quiet-quieted.result _ c.quiet-quieted.ensures in
     let free : quiet_refusal c.loop-noise.state (length c.loop-noise.buf) ≡ 0 = quiet_free c.loop-noise.state c.loop-noise.buf c.loop-noise.invariant.1 c.loop-noise.invariant.0 in
     let still : length c.quiet-quieted.new.buf ≡ 256 = c.quiet-quieted.auto.buf ∙ c.loop-noise.invariant.0 in
@@ -117,7 +116,7 @@ loop-noise-preserved c =
 
 pub overflow_add-noise_total-in-Empty : goal.overflow_add-noise_total-in-Empty
 overflow_add-noise_total-in-Empty c =
-    let yes : sound c.args.reader ≡ true = sym c.is_sound.ensures ∙ not-false _ c.if-not-is_sound.false-raw in
+    let yes : sound c.args.reader ≡ true = sym c.is_sound.ensures ∙ c.if-not-is_sound.false in
     let reports : (let r = c.loop-noise.state in Reports (quiet_refusal r (length c.loop-noise.buf)) (quiet (state_of r)) (quiet_judged (state_of r)) (AfterQuiet r.format (quiet (state_of r)) (quiet (state_of r)).out.frames) r c.loop-noise.buf (quiet_values_of c.quiet-quieted.result.answer) c.quiet-quieted.result.reader c.quiet-quieted.new.buf) = quiet_reports c.loop-noise.state c.loop-noise.buf c.quiet-quieted.result _ c.quiet-quieted.ensures in
     let free : quiet_refusal c.loop-noise.state (length c.loop-noise.buf) ≡ 0 = quiet_free c.loop-noise.state c.loop-noise.buf c.loop-noise.invariant.1 c.loop-noise.invariant.0 in
     let room : (0 + length (lines_of (rule_after (state_of c.args.reader) []).frames) ≤ length c.args.out.now) × ((rule_after (state_of c.args.reader) []).noise ≤ 517) = quiet_room c.args.reader c.args.out.now (sound_count c.args.reader (yes)) c.if-out-lt-QUIET_ROOM.false in
@@ -129,7 +128,7 @@ overflow_add-noise_total-in-Empty c =
 
 pub overflow_add-judged_total-in-Empty : goal.overflow_add-judged_total-in-Empty
 overflow_add-judged_total-in-Empty c =
-    let yes : sound c.args.reader ≡ true = sym c.is_sound.ensures ∙ not-false _ c.if-not-is_sound.false-raw in
+    let yes : sound c.args.reader ≡ true = sym c.is_sound.ensures ∙ c.if-not-is_sound.false in
     let reports : (let r = c.loop-noise.state in Reports (quiet_refusal r (length c.loop-noise.buf)) (quiet (state_of r)) (quiet_judged (state_of r)) (AfterQuiet r.format (quiet (state_of r)) (quiet (state_of r)).out.frames) r c.loop-noise.buf (quiet_values_of c.quiet-quieted.result.answer) c.quiet-quieted.result.reader c.quiet-quieted.new.buf) = quiet_reports c.loop-noise.state c.loop-noise.buf c.quiet-quieted.result _ c.quiet-quieted.ensures in
     let free : quiet_refusal c.loop-noise.state (length c.loop-noise.buf) ≡ 0 = quiet_free c.loop-noise.state c.loop-noise.buf c.loop-noise.invariant.1 c.loop-noise.invariant.0 in
     let judges : (v : Values) → quiet_values_of c.quiet-quieted.result.answer ≡ v → v.judged ≡ quiet_judged (state_of c.loop-noise.state) = λ v e. sym (ap (λ (x : Values). x.judged) e) ∙ reports_judged _ (reports) (free) in
@@ -143,7 +142,7 @@ shape_of-out-in-Empty c = c.loop-noise.invariant.3.text.long
 
 pub returns-in-Empty : goal.returns-in-Empty
 returns-in-Empty c =
-    let yes : sound c.args.reader ≡ true = sym c.is_sound.ensures ∙ not-false _ c.if-not-is_sound.false-raw in
+    let yes : sound c.args.reader ≡ true = sym c.is_sound.ensures ∙ c.if-not-is_sound.false in
     let reports : (let r = c.loop-noise.state in Reports (quiet_refusal r (length c.loop-noise.buf)) (quiet (state_of r)) (quiet_judged (state_of r)) (AfterQuiet r.format (quiet (state_of r)) (quiet (state_of r)).out.frames) r c.loop-noise.buf (quiet_values_of c.quiet-quieted.result.answer) c.quiet-quieted.result.reader c.quiet-quieted.new.buf) = quiet_reports c.loop-noise.state c.loop-noise.buf c.quiet-quieted.result _ c.quiet-quieted.ensures in
     let free : quiet_refusal c.loop-noise.state (length c.loop-noise.buf) ≡ 0 = quiet_free c.loop-noise.state c.loop-noise.buf c.loop-noise.invariant.1 c.loop-noise.invariant.0 in
     let judges : (v : Values) → quiet_values_of c.quiet-quieted.result.answer ≡ v → v.judged ≡ quiet_judged (state_of c.loop-noise.state) = λ v e. sym (ap (λ (x : Values). x.judged) e) ∙ reports_judged _ (reports) (free) in

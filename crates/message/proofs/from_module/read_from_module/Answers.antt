@@ -4,7 +4,6 @@ use Prim.Native.Nat.{ℕ}
 use native.Mathlib.Omega.{arith}
 use mathlib.Core.List.{List}
 use mathlib.Core.Path.{◌≡◌, sym, ◌∙◌}
-use borrow.Author.Tests.{not-true, not-false}
 use Rattle.message.specs.Meaning.{by_plain}
 use Rattle.message.specs.FromModule.{from_itself, sender_meaning, read_from_module}
 use Rattle.message.proofs.AddressLaws.{too_short, too_long, by_itself, by_address_lem, by_plain_lem, not_plain}
@@ -30,14 +29,14 @@ unfolding read_from_module
 returns-then-not-is_plain c =
     let payload : List ℕ = c.args.payload.now in
     let sender : by_plain sender_meaning (payload) ≡ read_from_module (payload) = by_address_lem from_itself (by_plain sender_meaning) (payload) c.if-len-lt2.false c.if-len-gt256.false c.if-address.false in
-    not_plain sender_meaning (payload) (sym c.is_plain.ensures ∙ not-true _ c.if-not-is_plain.true-raw) ∙ sender
+    not_plain sender_meaning (payload) (sym c.is_plain.ensures ∙ c.if-not-is_plain.true) ∙ sender
 
 pub returns-then-command : goal.returns-then-command
 unfolding read_from_module
 returns-then-command c =
     let payload : List ℕ = c.args.payload.now in
     let sender : by_plain sender_meaning (payload) ≡ read_from_module (payload) = by_address_lem from_itself (by_plain sender_meaning) (payload) c.if-len-lt2.false c.if-len-gt256.false c.if-address.false in
-    let plain : sender_meaning (payload) ≡ read_from_module (payload) = by_plain_lem sender_meaning (payload) (sym c.is_plain.ensures ∙ not-false _ c.if-not-is_plain.false-raw) ∙ sender in
+    let plain : sender_meaning (payload) ≡ read_from_module (payload) = by_plain_lem sender_meaning (payload) (sym c.is_plain.ensures ∙ c.if-not-is_plain.false) ∙ sender in
     c.read_status.ensures ∙ (sender_status _ (omega (arith, c.if-command.true)) c.if-command.true ∙ plain)
 
 pub returns-then-command-2 : goal.returns-then-command-2
@@ -45,7 +44,7 @@ unfolding read_from_module
 returns-then-command-2 c =
     let payload : List ℕ = c.args.payload.now in
     let sender : by_plain sender_meaning (payload) ≡ read_from_module (payload) = by_address_lem from_itself (by_plain sender_meaning) (payload) c.if-len-lt2.false c.if-len-gt256.false c.if-address.false in
-    let plain : sender_meaning (payload) ≡ read_from_module (payload) = by_plain_lem sender_meaning (payload) (sym c.is_plain.ensures ∙ not-false _ c.if-not-is_plain.false-raw) ∙ sender in
+    let plain : sender_meaning (payload) ≡ read_from_module (payload) = by_plain_lem sender_meaning (payload) (sym c.is_plain.ensures ∙ c.if-not-is_plain.false) ∙ sender in
     c.read_reception.ensures
     ∙ (sender_reception _ (omega (arith, c.if-command-2.true)) c.if-command.false c.if-command-2.true ∙ plain)
 
@@ -54,7 +53,7 @@ unfolding read_from_module
 returns-then-command-lt128 c =
     let payload : List ℕ = c.args.payload.now in
     let sender : by_plain sender_meaning (payload) ≡ read_from_module (payload) = by_address_lem from_itself (by_plain sender_meaning) (payload) c.if-len-lt2.false c.if-len-gt256.false c.if-address.false in
-    let plain : sender_meaning (payload) ≡ read_from_module (payload) = by_plain_lem sender_meaning (payload) (sym c.is_plain.ensures ∙ not-false _ c.if-not-is_plain.false-raw) ∙ sender in
+    let plain : sender_meaning (payload) ≡ read_from_module (payload) = by_plain_lem sender_meaning (payload) (sym c.is_plain.ensures ∙ c.if-not-is_plain.false) ∙ sender in
     sender_simple _ c.if-command-lt128.true ∙ plain
 
 pub returns : goal.returns
@@ -62,5 +61,5 @@ unfolding read_from_module
 returns c =
     let payload : List ℕ = c.args.payload.now in
     let sender : by_plain sender_meaning (payload) ≡ read_from_module (payload) = by_address_lem from_itself (by_plain sender_meaning) (payload) c.if-len-lt2.false c.if-len-gt256.false c.if-address.false in
-    let plain : sender_meaning (payload) ≡ read_from_module (payload) = by_plain_lem sender_meaning (payload) (sym c.is_plain.ensures ∙ not-false _ c.if-not-is_plain.false-raw) ∙ sender in
+    let plain : sender_meaning (payload) ≡ read_from_module (payload) = by_plain_lem sender_meaning (payload) (sym c.is_plain.ensures ∙ c.if-not-is_plain.false) ∙ sender in
     sender_command _ c.if-command-lt128.false c.if-command.false c.if-command-2.false ∙ plain

@@ -2,17 +2,16 @@
 -- Assumes nothing.
 use native.Mathlib.Omega.{arith}
 use mathlib.Core.Path.{sym, ◌∙◌}
-use borrow.Author.Tests.{not-true, not-false}
 use Rattle.message.proofs.WriteLaws.{plain_refused, plain_written, plain_payload}
 use Rattle.message.proofs.from_module.write_reception.Goals as goal
 
 pub returns-then-not-is_plain : goal.returns-then-not-is_plain
-returns-then-not-is_plain c = plain_refused _ (sym c.is_plain.ensures ∙ not-true c.is_plain.result c.if-not-is_plain.true-raw)
+returns-then-not-is_plain c = plain_refused _ (sym c.is_plain.ensures ∙ c.if-not-is_plain.true)
 
 pub returns-then-len-gt242 : goal.returns-then-len-gt242
-returns-then-len-gt242 c = plain_payload _ (sym c.is_plain.ensures ∙ not-false c.is_plain.result c.if-not-is_plain.false-raw) (omega arith)
+returns-then-len-gt242 c = plain_payload _ (sym c.is_plain.ensures ∙ c.if-not-is_plain.false) (omega arith)
 
 pub returns : goal.returns
 returns c =
-    plain_written _ (sym c.is_plain.ensures ∙ not-false c.is_plain.result c.if-not-is_plain.false-raw)
+    plain_written _ (sym c.is_plain.ensures ∙ c.if-not-is_plain.false)
     c.write_parts.ensures

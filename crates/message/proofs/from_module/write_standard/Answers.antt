@@ -1,14 +1,13 @@
 -- `message::from_module::write_standard` meets its contract: the array is the layout, and `send` writes it.
 -- Assumes nothing.
 use mathlib.Core.Path.{sym, ◌∙◌}
-use borrow.Author.Tests.{not-true, not-false}
 use Rattle.message.proofs.WriteLaws.{plain_refused, plain_written}
 use Rattle.message.proofs.from_module.write_standard.Goals as goal
 
 pub returns-then-not-is_plain : goal.returns-then-not-is_plain
-returns-then-not-is_plain c = plain_refused _ (sym c.is_plain.ensures ∙ not-true c.is_plain.result c.if-not-is_plain.true-raw)
+returns-then-not-is_plain c = plain_refused _ (sym c.is_plain.ensures ∙ c.if-not-is_plain.true)
 
 pub returns : goal.returns
 returns c =
-    plain_written _ (sym c.is_plain.ensures ∙ not-false c.is_plain.result c.if-not-is_plain.false-raw)
+    plain_written _ (sym c.is_plain.ensures ∙ c.if-not-is_plain.false)
     c.send.ensures

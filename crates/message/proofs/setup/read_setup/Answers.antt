@@ -3,7 +3,6 @@
 use Prim.Native.Nat.{ℕ}
 use mathlib.Core.List.{List}
 use mathlib.Core.Path.{◌≡◌, sym, ◌∙◌}
-use borrow.Author.Tests.{not-true, not-false}
 use Rattle.message.specs.ToModule.{command_as, to_itself}
 use Rattle.message.specs.declared.setup.NamedCommand.{NamedCommand}
 use Rattle.message.proofs.SetupLaws.{list_test, setup_no_list, setup_list, setup_named, known_length, known_read}
@@ -12,12 +11,12 @@ use Rattle.message.proofs.setup.read_setup.Goals as goal
 pub returns-then-not-is_list : goal.returns-then-not-is_list
 returns-then-not-is_list c =
     let settings : List ℕ = c.args.payload.now in
-    setup_no_list _ c.if-number.true (list_test (settings) c.is_list.ensures ∙ not-true _ c.if-not-is_list.true-raw)
+    setup_no_list _ c.if-number.true (list_test (settings) c.is_list.ensures ∙ c.if-not-is_list.true)
 
 pub returns-then-number : goal.returns-then-number
 returns-then-number c =
     let settings : List ℕ = c.args.payload.now in
-    setup_list _ c.if-number.true (list_test (settings) c.is_list.ensures ∙ not-false _ c.if-not-is_list.false-raw)
+    setup_list _ c.if-number.true (list_test (settings) c.is_list.ensures ∙ c.if-not-is_list.false)
 
 pub returns-then-payload-ne2 : goal.returns-then-payload-ne2
 returns-then-payload-ne2 c =

@@ -3,7 +3,6 @@
 use Prim.Native.Nat.{ℕ}
 use mathlib.Core.List.{List}
 use mathlib.Core.Path.{◌≡◌, sym, ap, ◌∙◌}
-use borrow.Author.Tests.{not-true, not-false}
 use Rattle.message.specs.Number.{long_at}
 use Rattle.message.specs.Address.{is_extended}
 use Rattle.message.specs.ToModule.{request_at}
@@ -22,7 +21,7 @@ returns-then-not-is_extended c =
     let payload : List ℕ = c.args.payload.now in
     let judged : is_extended (long_at (payload) 3) ≡ c.is_extended.result = ap is_extended (sym c.long-address.ensures) ∙ sym c.is_extended.ensures in
     extended_address (payload) c.if-payload.false c.if-payload-lt7.false
-    (judged ∙ not-true _ c.if-not-is_extended.true-raw)
+    (judged ∙ c.if-not-is_extended.true)
 
 pub returns : goal.returns
 returns c =
@@ -30,4 +29,4 @@ returns c =
     let judged : is_extended (long_at (payload) 3) ≡ c.is_extended.result = ap is_extended (sym c.long-address.ensures) ∙ sym c.is_extended.ensures in
     let p = payload in
     c.read_request.ensures ∙ ap (λ (w : ℕ). request_at p (Extended w) 7) c.long-address.ensures
-    ∙ extended_read p c.if-payload.false c.if-payload-lt7.false (judged ∙ not-false _ c.if-not-is_extended.false-raw)
+    ∙ extended_read p c.if-payload.false c.if-payload-lt7.false (judged ∙ c.if-not-is_extended.false)

@@ -3,7 +3,6 @@
 use Prim.Native.Nat.{ℕ}
 use mathlib.Core.List.{List}
 use mathlib.Core.Path.{◌≡◌, sym, ◌∙◌}
-use borrow.Author.Tests.{not-true, not-false}
 use Rattle.message.specs.Meaning.{by_plain}
 use Rattle.message.specs.ToModule.{to_itself, to_address, to_plain_address, read_to_module}
 use Rattle.message.proofs.AddressLaws.{too_short, too_long, by_itself, by_address_lem, by_plain_lem, not_plain}
@@ -35,7 +34,7 @@ returns-then-not-is_plain c =
     let payload : List ℕ = c.args.payload.now in
     let addressed : to_address (payload) ≡ read_to_module (payload) = by_address_lem to_itself to_address (payload) c.if-len-lt2.false c.if-len-gt256.false c.if-address.false in
     let other : by_plain to_plain_address (payload) ≡ read_to_module (payload) = to_other _ c.if-address-2.false ∙ addressed in
-    not_plain to_plain_address (payload) (sym c.is_plain.ensures ∙ not-true _ c.if-not-is_plain.true-raw) ∙ other
+    not_plain to_plain_address (payload) (sym c.is_plain.ensures ∙ c.if-not-is_plain.true) ∙ other
 
 pub returns-then-command-lt128 : goal.returns-then-command-lt128
 unfolding read_to_module
@@ -44,7 +43,7 @@ returns-then-command-lt128 c =
     let addressed : to_address (payload) ≡ read_to_module (payload) = by_address_lem to_itself to_address (payload) c.if-len-lt2.false c.if-len-gt256.false c.if-address.false in
     let other : by_plain to_plain_address (payload) ≡ read_to_module (payload) = to_other _ c.if-address-2.false ∙ addressed in
     let plain-payload : List ℕ = payload in
-    let plain : to_plain_address (plain-payload) ≡ read_to_module (plain-payload) = by_plain_lem to_plain_address (plain-payload) (sym c.is_plain.ensures ∙ not-false _ c.if-not-is_plain.false-raw)
+    let plain : to_plain_address (plain-payload) ≡ read_to_module (plain-payload) = by_plain_lem to_plain_address (plain-payload) (sym c.is_plain.ensures ∙ c.if-not-is_plain.false)
     ∙ other in
     plain_simple _ c.if-command-lt128.true ∙ plain
 
@@ -55,7 +54,7 @@ returns-then-command c =
     let addressed : to_address (payload) ≡ read_to_module (payload) = by_address_lem to_itself to_address (payload) c.if-len-lt2.false c.if-len-gt256.false c.if-address.false in
     let other : by_plain to_plain_address (payload) ≡ read_to_module (payload) = to_other _ c.if-address-2.false ∙ addressed in
     let plain-payload : List ℕ = payload in
-    let plain : to_plain_address (plain-payload) ≡ read_to_module (plain-payload) = by_plain_lem to_plain_address (plain-payload) (sym c.is_plain.ensures ∙ not-false _ c.if-not-is_plain.false-raw)
+    let plain : to_plain_address (plain-payload) ≡ read_to_module (plain-payload) = by_plain_lem to_plain_address (plain-payload) (sym c.is_plain.ensures ∙ c.if-not-is_plain.false)
     ∙ other in
     c.read_output_change.ensures ∙ plain_change _ c.if-command-lt128.false c.if-command.true ∙ plain
 
@@ -66,7 +65,7 @@ returns-then-command-2 c =
     let addressed : to_address (payload) ≡ read_to_module (payload) = by_address_lem to_itself to_address (payload) c.if-len-lt2.false c.if-len-gt256.false c.if-address.false in
     let other : by_plain to_plain_address (payload) ≡ read_to_module (payload) = to_other _ c.if-address-2.false ∙ addressed in
     let plain-payload : List ℕ = payload in
-    let plain : to_plain_address (plain-payload) ≡ read_to_module (plain-payload) = by_plain_lem to_plain_address (plain-payload) (sym c.is_plain.ensures ∙ not-false _ c.if-not-is_plain.false-raw)
+    let plain : to_plain_address (plain-payload) ≡ read_to_module (plain-payload) = by_plain_lem to_plain_address (plain-payload) (sym c.is_plain.ensures ∙ c.if-not-is_plain.false)
     ∙ other in
     plain_command _ c.if-command-lt128.false c.if-command.false c.if-command-2.true ∙ plain
 
@@ -77,7 +76,7 @@ returns-then-len-lt3 c =
     let addressed : to_address (payload) ≡ read_to_module (payload) = by_address_lem to_itself to_address (payload) c.if-len-lt2.false c.if-len-gt256.false c.if-address.false in
     let other : by_plain to_plain_address (payload) ≡ read_to_module (payload) = to_other _ c.if-address-2.false ∙ addressed in
     let plain-payload : List ℕ = payload in
-    let plain : to_plain_address (plain-payload) ≡ read_to_module (plain-payload) = by_plain_lem to_plain_address (plain-payload) (sym c.is_plain.ensures ∙ not-false _ c.if-not-is_plain.false-raw)
+    let plain : to_plain_address (plain-payload) ≡ read_to_module (plain-payload) = by_plain_lem to_plain_address (plain-payload) (sym c.is_plain.ensures ∙ c.if-not-is_plain.false)
     ∙ other in
     plain_length _ c.if-command-lt128.false c.if-command.false c.if-command-2.false c.if-len-lt3.true ∙ plain
 
@@ -88,7 +87,7 @@ returns c =
     let addressed : to_address (payload) ≡ read_to_module (payload) = by_address_lem to_itself to_address (payload) c.if-len-lt2.false c.if-len-gt256.false c.if-address.false in
     let other : by_plain to_plain_address (payload) ≡ read_to_module (payload) = to_other _ c.if-address-2.false ∙ addressed in
     let plain-payload : List ℕ = payload in
-    let plain : to_plain_address (plain-payload) ≡ read_to_module (plain-payload) = by_plain_lem to_plain_address (plain-payload) (sym c.is_plain.ensures ∙ not-false _ c.if-not-is_plain.false-raw)
+    let plain : to_plain_address (plain-payload) ≡ read_to_module (plain-payload) = by_plain_lem to_plain_address (plain-payload) (sym c.is_plain.ensures ∙ c.if-not-is_plain.false)
     ∙ other in
     c.read_request.ensures
     ∙ plain_read _ c.if-command-lt128.false c.if-command.false c.if-command-2.false c.if-len-lt3.false

@@ -5,7 +5,6 @@ use Prim.Native.Nat.{ℕ, ◌+◌}
 use native.Mathlib.Omega.{arith}
 use mathlib.Core.Path.{◌≡◌, sym, ap, subst, ◌∙◌}
 use mathlib.Core.List.{List, ◌++◌, append_assoc}
-use borrow.Author.Tests.{not-true, not-false}
 use lib.ListN.{length, take, replicate, length-append}
 use Rattle.message.specs.Options.{option_bytes}
 use Rattle.message.specs.ToModule.{address_bytes, transmission_refusal, transmission_layout}
@@ -21,13 +20,13 @@ pub returns-then-not-address_allowed : goal.returns-then-not-address_allowed
 returns-then-not-address_allowed c =
     writes_refused c.args.framing (transmission_layout c.args.message c.args.«data».now) c.args.buf.now
     (transmission_refusal c.args.message) Address
-    (transmission_address c.args.message (sym c.address_allowed.ensures ∙ not-true _ c.if-not-address_allowed.true-raw))
+    (transmission_address c.args.message (sym c.address_allowed.ensures ∙ c.if-not-address_allowed.true))
 
 pub returns-then-not-retry_allowed : goal.returns-then-not-retry_allowed
 returns-then-not-retry_allowed c =
     writes_refused c.args.framing (transmission_layout c.args.message c.args.«data».now) c.args.buf.now (transmission_refusal c.args.message) Option
-    (transmission_option c.args.message (sym c.address_allowed.ensures ∙ not-false _ c.if-not-address_allowed.false-raw)
-    (sym c.retry_allowed.ensures ∙ not-true _ c.if-not-retry_allowed.true-raw))
+    (transmission_option c.args.message (sym c.address_allowed.ensures ∙ c.if-not-address_allowed.false)
+    (sym c.retry_allowed.ensures ∙ c.if-not-retry_allowed.true))
 
 pub put_options-end-requires : goal.put_options-end-requires
 put_options-end-requires c =
@@ -66,8 +65,8 @@ pub returns : goal.returns
 returns c =
     let message : Transmission = c.args.message in
     let allowed : transmission_refusal (message) ≡ 0 = transmission_allowed (message)
-    (sym c.address_allowed.ensures ∙ not-false _ c.if-not-address_allowed.false-raw)
-    (sym c.retry_allowed.ensures ∙ not-false _ c.if-not-retry_allowed.false-raw) in
+    (sym c.address_allowed.ensures ∙ c.if-not-address_allowed.false)
+    (sym c.retry_allowed.ensures ∙ c.if-not-retry_allowed.false) in
     let head_bytes : (let m = message in let bytes = address_bytes m.address m.response_id in (take c.put_options-end.result c.put_options-end.new.dst ≡ bytes ++ option_bytes m.options) × (c.put_options-end.result ≡ length bytes + length (option_bytes m.options))) = let m = message in
     two_puts (replicate 32 0) (address_bytes m.address m.response_id) (option_bytes m.options) _ _ _ _
     c.put_address-at.ensures c.put_options-end.ensures

@@ -121,11 +121,11 @@ returns-in-Frame c =
     let r = c.find-found.result in
     scan_found true a.format a.s.now (length a.s.now) 0 (le_refl (length a.s.now)) zero-le
     (scanned a.format a.s.now r) (is) _ _ (ap (stop_of a.format (drop r.place a.s.now)) c.in-Frame.is) in
-    let some : 1 ≤ c.in-Frame.used = let a = c.args in some_used a.format (drop c.find-found.result.place a.s.now) _ _ (at-frame).is_frame_lem in
+    let some : 1 ≤ c.in-Frame.used = let a = c.args in some_used a.format (drop c.find-found.result.place a.s.now) _ _ (at-frame).is_frame in
     let at = drop c.find-found.result.place c.args.s.now in
     let p = payload_at c.args.format at c.in-Frame.len in
     let next = drop (c.find-found.result.place + c.in-Frame.used) c.args.s.now in
-    let h = payload_there c.args.format at c.in-Frame.used c.in-Frame.len (at-frame).is_frame_lem in
+    let h = payload_there c.args.format at c.in-Frame.used c.in-Frame.len (at-frame).is_frame in
     let stops = ap (stop_of c.args.format at) c.in-Frame.is in
     quiet_right c.args.format (quiet_held c.args.format c.args.s.now) (called 0 (output (p ∷ []) c.find-found.result.place) (length c.args.s.now - c.find-found.result.place) next (is_open c.args.format c.in-Frame.used at)) _ c.args.buf.now _ _
     (scan_quiet_found c.args.format c.args.s.now (scanned c.args.format c.args.s.now c.find-found.result) c.in-Frame.used p (is) stops)

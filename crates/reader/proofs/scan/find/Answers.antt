@@ -54,7 +54,7 @@ returns-in-Frame-clause-buf_after c =
     c.scan-found.ensures.result_value _ _ (ap (stop_of a.format (drop c.scan-found.result.place a.s.now)) c.in-Frame.is) in
     let at = drop c.scan-found.result.place c.args.s.now in c.unpack.ensures.buf_after
     ∙ ap (λ (l : List ℕ). unpacked c.args.format l c.in-Frame.len c.args.buf.now) (take_rest c.args.s.now c.scan-found.result.place)
-    ∙ unpacked_frame c.args.format at c.in-Frame.used c.in-Frame.len c.args.buf.now (at-frame).is_frame_lem c.requires.in_bounds
+    ∙ unpacked_frame c.args.format at c.in-Frame.used c.in-Frame.len c.args.buf.now (at-frame).is_frame c.requires.in_bounds
     ∙ sym (ap (λ (e : ScanEnd). stop_buffer (stop_of c.args.format at e) c.args.buf.now) c.in-Frame.is)
 
 pub returns-in_default-clause-result_value : goal.returns-in_default-clause-result_value

@@ -6,7 +6,6 @@ use native.Mathlib.Omega.{arith}
 use mathlib.Core.Bool.{Bool, true}
 use mathlib.Core.List.{List}
 use mathlib.Core.Path.{◌≡◌, refl, sym, ap, ◌∙◌, subst}
-use borrow.Author.Tests.{not-true, not-false}
 use lib.ListN.{length, get_or, drop, length-drop}
 use Rattle.frame.specs.Checks.{Verdict, refused}
 use Rattle.frame.specs.Framing.{judge, judged_as}
@@ -35,7 +34,7 @@ pub pass_over-step-requires-clause-from_lt_stop : goal.pass_over-step-requires-c
 pass_over-step-requires-clause-from_lt_stop c = c.loop-place-test.true
 
 pub pass_over-step-requires-clause-may_start : goal.pass_over-step-requires-clause-may_start
-pass_over-step-requires-clause-may_start c = subst (MayStart c.args.s.now c.start_of-start.result c.loop-place.place) (not-true c.may_start.result c.if-not-may_start.true-raw) c.may_start.ensures
+pass_over-step-requires-clause-may_start c = subst (MayStart c.args.s.now c.start_of-start.result c.loop-place.place) c.if-not-may_start.true c.may_start.ensures
 
 pub overflow_add-total : goal.overflow_add-total
 overflow_add-total c =
@@ -84,7 +83,7 @@ returns-then-not-ended-clause-result_value c =
     ∙ ap (verdict_of f (drop c.loop-place.place s)) e in
     let before-stop : c.loop-place.place < c.args.stop = c.loop-place-test.true in
     let q = verdict-is _ c.in-Undecided.is in
-    let is = not-true c.args.ended c.if-not-ended.true-raw in ap (scanned c.args.format c.args.s.now) c.stopped.ensures
+    let is = c.if-not-ended.true in ap (scanned c.args.format c.args.s.now) c.stopped.ensures
     ∙ sym (step_undecided c.args.format c.args.stop c.loop-place.place c.loop-place.far c.args.s.now (before-stop) q)
     ∙ ap (λ (e : Bool). scan_from (judging e c.args.format) (c.args.stop - c.loop-place.place) c.loop-place.place c.loop-place.far (drop c.loop-place.place c.args.s.now)) (sym is)
     ∙ c.loop-place.invariant.1
@@ -97,7 +96,7 @@ returns-then-not-ended-clause-judged_value c =
     ∙ ap (verdict_of f (drop c.loop-place.place s)) e in
     let before-stop : c.loop-place.place < c.args.stop = c.loop-place-test.true in
     let q = verdict-is _ c.in-Undecided.is in
-    let is = not-true c.args.ended c.if-not-ended.true-raw in omega (
+    let is = c.if-not-ended.true in omega (
       arith,
       ap (λ (r : ScanResult). r.judged) c.stopped.ensures,
       c.undecided_bytes-total.ensures,
@@ -119,7 +118,7 @@ loop-place-preserved-in-Undecided c =
     in
     let count : Bool → ℕ → ℕ = λ e place. scan_judged c.args.format (judging e c.args.format) (c.args.stop - place) (drop place c.args.s.now) in
     let q = verdict-is _ c.in-Undecided.is in
-    let is : c.args.ended ≡ true = not-false c.args.ended c.if-not-ended.false-raw in (
+    let is : c.args.ended ≡ true = c.if-not-ended.false in (
       omega arith,
       ap (next c.args.ended) c.larger-far-in-Undecided.ensures
           ∙ ap (λ (e : Bool). next e (max c.loop-place.far c.loop-place.place)) is

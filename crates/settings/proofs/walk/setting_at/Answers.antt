@@ -4,15 +4,14 @@
 use mathlib.Core.Path.{sym, ◌∙◌}
 use native.Mathlib.Omega.{arith}
 use borrow.Author.Rules.{rules}
-use borrow.Author.Tests.{not-true, not-false}
 use Rattle.settings.proofs.WalkLaws.{no_list, start, over, here, onward}
 use Rattle.settings.proofs.walk.setting_at.Goals as goal
 
 pub returns-then-not-is_list : goal.returns-then-not-is_list
-returns-then-not-is_list c = no_list _ _ (sym c.is_list.ensures ∙ not-true _ c.if-not-is_list.true-raw)
+returns-then-not-is_list c = no_list _ _ (sym c.is_list.ensures ∙ c.if-not-is_list.true)
 
 pub loop-at-init : goal.loop-at-init
-loop-at-init c = start _ _ (sym c.is_list.ensures ∙ not-false _ c.if-not-is_list.false-raw)
+loop-at-init c = start _ _ (sym c.is_list.ensures ∙ c.if-not-is_list.false)
 
 pub returns-then-left-eq0 : goal.returns-then-left-eq0
 returns-then-left-eq0 c = here _ _ _ _ _ c.loop-at.invariant c.loop-at-test.true c.width_of-len.ensures c.if-left-eq0.true

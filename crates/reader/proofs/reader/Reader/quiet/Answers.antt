@@ -4,7 +4,6 @@ use native.Mathlib.Omega.{arith}
 use Prim.Native.Nat.{ℕ, ◌-◌, ◌≤◌}
 use mathlib.Core.Path.{◌≡◌, sym, ap, ◌∙◌}
 use mathlib.Core.Bool.{true, false}
-use borrow.Author.Tests.{not-true, not-false}
 use lib.Dec.{eqb}
 use borrow.Author.Rules.{rules}
 use lib.ListN.{length, take, drop, length-drop}
@@ -23,19 +22,19 @@ use Rattle.reader.proofs.reader.Reader.quiet.Goals as goal
 
 pub returns-then-not-is_sound : goal.returns-then-not-is_sound
 returns-then-not-is_sound c =
-    let n = quiet_state c.args.self (length c.args.buf.now) 0 (sym c.is_sound.ensures ∙ not-true _ c.if-not-is_sound.true-raw) in
+    let n = quiet_state c.args.self (length c.args.buf.now) 0 (sym c.is_sound.ensures ∙ c.if-not-is_sound.true) in
     refuses (ap (λ (k : ℕ). eqb k 0) n) (sym (ap refusal_values n))
 
 pub returns-then-buf-lt-MAX_PAYLOAD : goal.returns-then-buf-lt-MAX_PAYLOAD
 returns-then-buf-lt-MAX_PAYLOAD c =
-    let yes : sound c.args.self ≡ true = sym c.is_sound.ensures ∙ not-false _ c.if-not-is_sound.false-raw in
+    let yes : sound c.args.self ≡ true = sym c.is_sound.ensures ∙ c.if-not-is_sound.false in
     let n = quiet_buffer c.args.self (length c.args.buf.now) 0 (yes) c.if-buf-lt-MAX_PAYLOAD.true in
     refuses (ap (λ (k : ℕ). eqb k 0) n) (sym (ap refusal_values n))
 
 pub slice_bounds-absorbed-end : goal.slice_bounds-absorbed-end
 slice_bounds-absorbed-end c =
     let array : length c.args.self.held ≡ 517 = search rules in
-    let yes : sound c.args.self ≡ true = sym c.is_sound.ensures ∙ not-false _ c.if-not-is_sound.false-raw in
+    let yes : sound c.args.self ≡ true = sym c.is_sound.ensures ∙ c.if-not-is_sound.false in
     let held_fits : c.args.self.count ≤ limit c.args.self.format = (fits_count c.args.self (yes)).0 in
     let held-there : c.args.self.count ≤ length c.args.self.held = omega (arith, held_fits, limit_most c.args.self.format, array) in
     sym (length-take-le c.args.self.count c.args.self.held (held-there))
@@ -43,7 +42,7 @@ slice_bounds-absorbed-end c =
 pub slice_bounds-quiet_held-count : goal.slice_bounds-quiet_held-count
 slice_bounds-quiet_held-count c =
     let array : length c.args.self.held ≡ 517 = search rules in
-    let yes : sound c.args.self ≡ true = sym c.is_sound.ensures ∙ not-false _ c.if-not-is_sound.false-raw in
+    let yes : sound c.args.self ≡ true = sym c.is_sound.ensures ∙ c.if-not-is_sound.false in
     let held_fits : c.args.self.count ≤ limit c.args.self.format = (fits_count c.args.self (yes)).0 in
     let held-there : c.args.self.count ≤ length c.args.self.held = omega (arith, held_fits, limit_most c.args.self.format, array) in
     let counted : c.absorbed-first.result ≤ c.args.self.count = omega (
@@ -57,7 +56,7 @@ slice_bounds-quiet_held-count c =
 pub slice_bounds-quiet_held-start : goal.slice_bounds-quiet_held-start
 slice_bounds-quiet_held-start c =
     let array : length c.args.self.held ≡ 517 = search rules in
-    let yes : sound c.args.self ≡ true = sym c.is_sound.ensures ∙ not-false _ c.if-not-is_sound.false-raw in
+    let yes : sound c.args.self ≡ true = sym c.is_sound.ensures ∙ c.if-not-is_sound.false in
     let held_fits : c.args.self.count ≤ limit c.args.self.format = (fits_count c.args.self (yes)).0 in
     let held-there : c.args.self.count ≤ length c.args.self.held = omega (arith, held_fits, limit_most c.args.self.format, array) in
     let counted : c.absorbed-first.result ≤ c.args.self.count = omega (
@@ -71,7 +70,7 @@ slice_bounds-quiet_held-start c =
 pub slice_bounds-quiet_held-end : goal.slice_bounds-quiet_held-end
 slice_bounds-quiet_held-end c =
     let array : length c.args.self.held ≡ 517 = search rules in
-    let yes : sound c.args.self ≡ true = sym c.is_sound.ensures ∙ not-false _ c.if-not-is_sound.false-raw in
+    let yes : sound c.args.self ≡ true = sym c.is_sound.ensures ∙ c.if-not-is_sound.false in
     let held_fits : c.args.self.count ≤ limit c.args.self.format = (fits_count c.args.self (yes)).0 in
     let held-there : c.args.self.count ≤ length c.args.self.held = omega (arith, held_fits, limit_most c.args.self.format, array) in
     held-there
@@ -79,7 +78,7 @@ slice_bounds-quiet_held-end c =
 pub quiet_held-requires-clause-s_len_bound : goal.quiet_held-requires-clause-s_len_bound
 quiet_held-requires-clause-s_len_bound c =
     let array : length c.args.self.held ≡ 517 = search rules in
-    let yes : sound c.args.self ≡ true = sym c.is_sound.ensures ∙ not-false _ c.if-not-is_sound.false-raw in
+    let yes : sound c.args.self ≡ true = sym c.is_sound.ensures ∙ c.if-not-is_sound.false in
     let held_fits : c.args.self.count ≤ limit c.args.self.format = (fits_count c.args.self (yes)).0 in
     let held-there : c.args.self.count ≤ length c.args.self.held = omega (arith, held_fits, limit_most c.args.self.format, array) in
     let size : length (take (c.args.self.count - c.absorbed-first.result) (drop c.absorbed-first.result c.args.self.held)) ≡ c.args.self.count - c.absorbed-first.result =
@@ -90,7 +89,7 @@ quiet_held-requires-clause-s_len_bound c =
 pub quiet_held-requires-clause-known_in_bounds : goal.quiet_held-requires-clause-known_in_bounds
 quiet_held-requires-clause-known_in_bounds c =
     let array : length c.args.self.held ≡ 517 = search rules in
-    let yes : sound c.args.self ≡ true = sym c.is_sound.ensures ∙ not-false _ c.if-not-is_sound.false-raw in
+    let yes : sound c.args.self ≡ true = sym c.is_sound.ensures ∙ c.if-not-is_sound.false in
     let held_fits : c.args.self.count ≤ limit c.args.self.format = (fits_count c.args.self (yes)).0 in
     let held-there : c.args.self.count ≤ length c.args.self.held = omega (arith, held_fits, limit_most c.args.self.format, array) in
     let size : length (take (c.args.self.count - c.absorbed-first.result) (drop c.absorbed-first.result c.args.self.held)) ≡ c.args.self.count - c.absorbed-first.result =
@@ -101,7 +100,7 @@ quiet_held-requires-clause-known_in_bounds c =
 pub quiet_held-requires-clause-in_bounds : goal.quiet_held-requires-clause-in_bounds
 quiet_held-requires-clause-in_bounds c =
     let array : length c.args.self.held ≡ 517 = search rules in
-    let yes : sound c.args.self ≡ true = sym c.is_sound.ensures ∙ not-false _ c.if-not-is_sound.false-raw in
+    let yes : sound c.args.self ≡ true = sym c.is_sound.ensures ∙ c.if-not-is_sound.false in
     let held_fits : c.args.self.count ≤ limit c.args.self.format = (fits_count c.args.self (yes)).0 in
     let held-there : c.args.self.count ≤ length c.args.self.held = omega (arith, held_fits, limit_most c.args.self.format, array) in
     let size : length (take (c.args.self.count - c.absorbed-first.result) (drop c.absorbed-first.result c.args.self.held)) ≡ c.args.self.count - c.absorbed-first.result =
@@ -111,7 +110,7 @@ quiet_held-requires-clause-in_bounds c =
 
 pub returns : goal.returns
 returns c =
-    let yes : sound c.args.self ≡ true = sym c.is_sound.ensures ∙ not-false _ c.if-not-is_sound.false-raw in
+    let yes : sound c.args.self ≡ true = sym c.is_sound.ensures ∙ c.if-not-is_sound.false in
     let held = take c.args.self.count c.args.self.held in
     let rest = take (c.args.self.count - c.absorbed-first.result) (drop c.absorbed-first.result c.args.self.held) in
     let is : rest ≡ drop c.absorbed-first.result held = sym (drop_take c.absorbed-first.result c.args.self.count c.args.self.held) in
