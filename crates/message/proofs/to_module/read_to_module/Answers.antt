@@ -1,5 +1,6 @@
 -- `message::to_module::read_to_module` meets its contract: each way out is a case of its definition.
 -- Assumes nothing.
+use borrow.Author.Rules.{rules}
 use Prim.Native.Nat.{ℕ}
 use mathlib.Core.List.{List}
 use mathlib.Core.Path.{◌≡◌, sym, ◌∙◌}
@@ -78,7 +79,7 @@ returns-then-len-lt3 c =
     let plain-payload : List ℕ = payload in
     let plain : to_plain_address (plain-payload) ≡ read_to_module (plain-payload) = by_plain_lem to_plain_address (plain-payload) (sym c.is_plain.ensures ∙ c.if-not-is_plain.false)
     ∙ other in
-    plain_length _ c.if-command-lt128.false c.if-command.false c.if-command-2.false c.if-len-lt3.true ∙ plain
+    plain_length _ c.if-command-lt128.false c.if-command.false (search rules) c.if-len-lt3.true ∙ plain
 
 pub returns : goal.returns
 unfolding read_to_module
