@@ -8,7 +8,6 @@ ghost use Rattle.frame.specs.DigitRuns.{bytes_xor};
 ghost use Rattle.frame.specs.Framing.{judge, in_front, layout};
 ghost use Rattle.frame.specs.Judged.{verdict_of};
 
-use crate::digit;
 use crate::framing::{Footer, Judged, judge_complete, judge_ending};
 use crate::refusal::Refusal;
 
@@ -16,12 +15,10 @@ use crate::refusal::Refusal;
 fn xor_words(s: &[u8]) -> u64
     ensures { bytes_xor 8 result ≡ xor_of (take (8 * (length s.now / 8)) s.now) }
 {
-    let count = s.len() / 8;
-    let mut sum: u64 = 0;
-    let mut i = 0;
-    while i < count {
-        sum = sum ^ digit::word(s, 8 * i);
-        i += 1;
+    let (words, _) = s.as_chunks::<8>();
+    let mut sum = 0;
+    for word in words {
+        sum ^= u64::from_le_bytes(*word);
     }
     sum
 }
@@ -35,27 +32,12 @@ fn folded(w: u64) -> u8
     ((quarter ^ (quarter >> 8)) % 256) as u8
 }
 
-// The XOR of all bytes: by words, then the rest, whose count has a bound that the compiler sees, so that the loop is not vectorised.
+// The XOR of all bytes: by words, then the rest.
 pub(crate) fn xor_of(s: &[u8]) -> u8
     ensures { result ≡ xor_of s.now }
 {
-    let mut sum = folded(xor_words(s));
-    let rest = s.len() % 8;
-    let from = s.len() - rest;
-    let mut i = 0;
-    while i < rest {
-        sum = sum ^ s[from + i];
-        i += 1;
-    }
-    sum
-}
-
-// A byte as an index.
-fn wide(b: u8) -> usize
-    ensures value { result ≡ b }
-    ensures upper_bound { result < 256 }
-{
-    b as usize
+    let (_, rest) = s.as_chunks::<8>();
+    rest.iter().fold(folded(xor_words(s)), |sum, b| sum ^ *b)
 }
 
 // Judges what stands behind the length `len`: the payload, its checksum and, where it is required, the footer.
@@ -103,16 +85,14 @@ pub(crate) fn judge(footer: Footer, s: &[u8]) -> Judged
     if n < 4 {
         return Judged::Undecided;
     }
-    let word = wide(s[2]) * 256 + wide(s[3]);
-    let refusal = Refusal::Length;
-    let judged = 4;
-    if word < 0x8001 {
-        return Judged::Failed { refusal, judged };
+    let word = u16::from_be_bytes([s[2], s[3]]);
+    if word < 0x8001 || 0x8100 < word {
+        return Judged::Failed {
+            refusal: Refusal::Length,
+            judged: 4,
+        };
     }
-    if 0x8100 < word {
-        return Judged::Failed { refusal, judged };
-    }
-    judge_body(footer, s, word - 0x8000)
+    judge_body(footer, s, usize::from(word - 0x8000))
 }
 
 // Puts the `len` bytes behind the first four into the front of buf.
