@@ -19,12 +19,9 @@ use crate::{digit, hex};
 fn ends_digits(ending: Ending, c: u8) -> bool
     ensures { result ≡ ends_digits ending c }
 {
-    if c == 0x0D {
-        return true;
-    }
     match ending {
-        Ending::CrLf => false,
-        Ending::Any => c == 0x0A,
+        Ending::CrLf => c == 0x0D,
+        Ending::Any => c == 0x0D || c == 0x0A,
     }
 }
 
@@ -85,13 +82,7 @@ fn judge_digits(ending: Ending, s: &[u8], count: usize) -> Judged
             judged: end + 1,
         };
     }
-    if count < 4 {
-        return Judged::Failed {
-            refusal: Refusal::Length,
-            judged: end + 1,
-        };
-    }
-    if count % 2 != 0 {
+    if count < 4 || count % 2 != 0 {
         return Judged::Failed {
             refusal: Refusal::Length,
             judged: end + 1,
@@ -107,10 +98,10 @@ fn judge_digits(ending: Ending, s: &[u8], count: usize) -> Judged
 fn run_behind(s: &[u8]) -> usize
     ensures { result ≡ digit_run 515 (drop 1 s.now) }
 {
-    if s.len() == 0 {
-        return 0;
+    match s.split_first() {
+        Some((_, rest)) => digit::digit_run(rest),
+        None => 0,
     }
-    digit::digit_run(&s[1..])
 }
 
 // Judges the front of s, where `count` digits stand behind the first character.
@@ -118,7 +109,7 @@ fn judge_run(ending: Ending, s: &[u8], count: usize) -> Judged
     requires { count ≡ digit_run 515 (drop 1 s.now) }
     ensures { judge (Ascii ending) s.now ≡ verdict_of (Ascii ending) s.now result }
 {
-    if s.len() == 0 {
+    if s.is_empty() {
         return Judged::Undecided;
     }
     if s[0] != 0x3A {
@@ -142,22 +133,12 @@ pub(crate) fn judge(ending: Ending, s: &[u8]) -> Judged
 fn is_short(s: &[u8], count: usize) -> bool
     ensures { (result ≡ true) → (ending : Ending) → Short ending s.now count }
 {
-    if count < 34 {
-        return false;
-    }
-    if 64 < count {
-        return false;
-    }
-    if count % 2 != 0 {
-        return false;
-    }
-    if s.len() <= 1 + count {
-        return false;
-    }
-    if s[0] != 0x3A {
-        return false;
-    }
-    s[1 + count] == 0x0D
+    34 <= count
+        && count <= 64
+        && count % 2 == 0
+        && 1 + count < s.len()
+        && s[0] == 0x3A
+        && s[1 + count] == 0x0D
 }
 
 // Judges a short frame, and puts its payload into the front of buf. It is decoded once, before its sum is known: the first 16 bytes and the last

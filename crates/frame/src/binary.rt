@@ -125,10 +125,8 @@ pub(crate) fn pack(p: &[u8], buf: &mut [u8])
 {
     let len = p.len();
     let end = 4 + len;
-    buf[0] = 0xA5;
-    buf[1] = 0x5A;
-    buf[2] = ((0x8000 + len) / 256 % 256) as u8;
-    buf[3] = ((0x8000 + len) % 256) as u8;
+    let word = (0x8000 + len as u16).to_be_bytes();
+    octets::copy(&[0xA5, 0x5A, word[0], word[1]], buf);
     octets::copy(p, &mut buf[4..]);
     buf[end] = xor_of(p);
     buf[end + 1] = 0x04;

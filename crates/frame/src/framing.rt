@@ -111,35 +111,12 @@ pub(crate) fn judge_complete(end: usize, right: bool, len: usize) -> Judged
     }
 }
 
-// Whether a footer may follow a frame that was judged complete.
-fn footer_may_follow(footer: Footer) -> bool
-    ensures { (last : ℕ) → result ≡ may_follow (Binary footer) last }
-{
-    match footer {
-        Footer::Optional => true,
-        Footer::Required => false,
-    }
-}
-
 // Whether the byte before `end` is a CR; the first byte where `end` is 0, and false where there is none.
 fn is_behind_cr(s: &[u8], end: usize) -> bool
     ensures { result ≡ (slice_index s.now (end - 1) == carriage_return) }
 {
-    let last = if 0 < end { end - 1 } else { 0 };
-    if s.len() <= last {
-        return false;
-    }
-    s[last] == 0x0D
-}
-
-// Whether an LF may follow a frame that was judged complete with the byte before `end`.
-fn lf_may_follow(ending: Ending, s: &[u8], end: usize) -> bool
-    ensures { result ≡ is_open (Ascii ending) end s.now }
-{
-    match ending {
-        Ending::CrLf => false,
-        Ending::Any => is_behind_cr(s, end),
-    }
+    let last = end.saturating_sub(1);
+    last < s.len() && s[last] == 0x0D
 }
 
 // Whether an optional byte may follow a frame that was judged complete with the byte before `end`. For that byte the first stands where `end` is 0, and 0 where
@@ -148,24 +125,9 @@ pub fn may_follow(format: Format, s: &[u8], end: usize) -> bool
     ensures { result ≡ is_open format end s.now }
 {
     match format {
-        Format::Binary(footer) => footer_may_follow(footer),
-        Format::Ascii(ending) => lf_may_follow(ending, s, end),
-    }
-}
-
-// The optional byte of a format; 256, which no byte is, where it has none.
-fn optional_of(format: Format) -> u16
-    ensures { (b : ℕ) → b < 256 → is_optional format b ≡ (b == result) }
-{
-    match format {
-        Format::Binary(footer) => match footer {
-            Footer::Optional => 0x04,
-            Footer::Required => 256,
-        },
-        Format::Ascii(ending) => match ending {
-            Ending::CrLf => 256,
-            Ending::Any => 0x0A,
-        },
+        Format::Binary(Footer::Optional) => true,
+        Format::Binary(Footer::Required) | Format::Ascii(Ending::CrLf) => false,
+        Format::Ascii(Ending::Any) => is_behind_cr(s, end),
     }
 }
 
@@ -173,20 +135,22 @@ fn optional_of(format: Format) -> u16
 fn is_optional(format: Format, b: u8) -> bool
     ensures { result ≡ is_optional format b }
 {
-    b as u16 == optional_of(format)
+    match format {
+        Format::Binary(Footer::Optional) => b == 0x04,
+        Format::Ascii(Ending::Any) => b == 0x0A,
+        Format::Binary(Footer::Required) | Format::Ascii(Ending::CrLf) => false,
+    }
 }
 
 // How many bytes at the front of s, one or none, belong to the frame before them; none where `follows` says that none may.
 pub fn absorbed(format: Format, follows: bool, s: &[u8]) -> usize
     ensures { result ≡ absorbed format follows s.now }
 {
-    if !follows {
-        return 0;
+    if follows && !s.is_empty() && is_optional(format, s[0]) {
+        1
+    } else {
+        0
     }
-    if s.len() == 0 {
-        return 0;
-    }
-    if is_optional(format, s[0]) { 1 } else { 0 }
 }
 
 // The place behind a payload of `len` bytes in a frame.
@@ -220,13 +184,7 @@ pub fn unpack(format: Format, s: &[u8], len: usize, buf: &mut [u8]) -> bool
     ensures value { result ≡ unpacks format s.now len buf.old }
     ensures buf_after { buf.new ≡ unpacked format s.now len buf.old }
 {
-    if buf.len() < 256 {
-        return false;
-    }
-    if 256 < len {
-        return false;
-    }
-    if s.len() < payload_end(format, len) {
+    if buf.len() < 256 || 256 < len || s.len() < payload_end(format, len) {
         return false;
     }
     take_out(format, s, len, buf);

@@ -1,11 +1,12 @@
 -- `frame::ascii::judge_digits` meets its contract: each way out is one of the laws on what stands behind the colon.
 -- Assumes nothing.
-use Rattle.std.proofs.Common.{◌≡◌, ◌+◌, true, get_or, drop, sym, ◌∙◌, subst, inl, inr, arith}
+use Rattle.std.proofs.Common.{◌≡◌, ◌+◌, ◌%◌, ◌<◌, ◌⊎◌, true, get_or, drop, sym, ◌∙◌, subst, inl, inr, arith}
 use Rattle.frame.specs.Ascii.{ends_digits, behind_digits, line_ending}
 use Rattle.frame.specs.declared.framing.Ending.{Ending}
 use Rattle.frame.specs.declared.framing.Ending.TheVariants.{CrLf, Any}
 use Rattle.frame.proofs.DigitLaws.{counted}
 use Rattle.frame.proofs.AsciiJudge.{line_many, line_short, Stopped, JudgesAt, line_character, line_judges, line_count}
+use Rattle.frame.proofs.ascii.judge_digits.Goals.{then-count-lt4-via-then-count-lt4, then-count-lt4-via-else-count-lt4+then-count-ne0}
 use Rattle.frame.proofs.ascii.judge_digits.Goals as goal
 
 pub overflow_add-end : goal.overflow_add-end
@@ -24,17 +25,16 @@ returns-then-not-ends_digits c =
 
 pub returns-then-count-lt4 : goal.returns-then-count-lt4
 returns-then-count-lt4 c =
+    let wrong : (c.args.count < 4) ⊎ (c.args.count % 2 ≡ 0 → ⊥) =
+    elim c.then-count-lt4.branch [
+      | then-count-lt4-via-then-count-lt4 w ↦ inl w.if-count-lt4.true
+      | then-count-lt4-via-else-count-lt4+then-count-ne0 w ↦ inr w.if-count-ne0.true
+    ]
+    in
     let stopped : Stopped c.args.s.now c.args.count = record { count_is = c.requires.count_value; room = omega arith; there = omega arith } in
     let ends : ends_digits c.args.ending (get_or c.args.s.now (1 + c.args.count) 0) ≡ true = sym c.ends_digits.ensures ∙ c.if-not-ends_digits.false in
     let judges : JudgesAt (line_ending c.args.ending) (behind_digits c.args.ending) c.args.s.now c.args.count = line_judges c.args.ending c.args.s.now c.args.count (ends) in
-    line_count (line_ending c.args.ending) (behind_digits c.args.ending) (stopped) (judges) (inl c.if-count-lt4.true)
-
-pub returns-then-count-ne0 : goal.returns-then-count-ne0
-returns-then-count-ne0 c =
-    let stopped : Stopped c.args.s.now c.args.count = record { count_is = c.requires.count_value; room = omega arith; there = omega arith } in
-    let ends : ends_digits c.args.ending (get_or c.args.s.now (1 + c.args.count) 0) ≡ true = sym c.ends_digits.ensures ∙ c.if-not-ends_digits.false in
-    let judges : JudgesAt (line_ending c.args.ending) (behind_digits c.args.ending) c.args.s.now c.args.count = line_judges c.args.ending c.args.s.now c.args.count (ends) in
-    line_count (line_ending c.args.ending) (behind_digits c.args.ending) (stopped) (judges) (inr c.if-count-ne0.true)
+    line_count (line_ending c.args.ending) (behind_digits c.args.ending) (stopped) (judges) wrong
 
 pub judge_sum-requires-clause-count_value_3 : goal.judge_sum-requires-clause-count_value_3
 judge_sum-requires-clause-count_value_3 c =
