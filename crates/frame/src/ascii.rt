@@ -11,7 +11,7 @@ ghost use Rattle.frame.specs.DigitRuns.{Digits, digit_run};
 ghost use Rattle.frame.specs.Judged.{decoded, unhexed, verdict_of};
 ghost use Rattle.frame.specs.Parts.{Short};
 
-use crate::framing::{Ending, Judged, judge_complete, judge_ending};
+use crate::framing::{Ending, Judged, judge_ending};
 use crate::refusal::Refusal;
 use crate::{digit, hex};
 
@@ -37,11 +37,13 @@ fn judge_end(ending: Ending, s: &[u8], count: usize, total: u32) -> Judged
     ensures { behind 1 (run (hex_digits 514 (line_ending ending)) (drop 1 s.now)) ≡ verdict_of (Ascii ending) s.now result }
 {
     let end = 1 + count;
-    let right = total % 256 == 0;
     let len = count / 2 - 1;
+    if total % 256 != 0 {
+        return Judged::failed(Refusal::Checksum, end + 1);
+    }
     match ending {
-        Ending::CrLf => judge_ending(s, end, right, 0x0A, len),
-        Ending::Any => judge_complete(end, right, len),
+        Ending::CrLf => judge_ending(s, end, 0x0A, len),
+        Ending::Any => Judged::Frame { used: end + 1, len },
     }
 }
 
@@ -68,25 +70,16 @@ fn judge_digits(ending: Ending, s: &[u8], count: usize) -> Judged
     let n = s.len();
     let end = 1 + count;
     if 514 < count {
-        return Judged::Failed {
-            refusal: Refusal::Length,
-            judged: 516,
-        };
+        return Judged::failed(Refusal::Length, 516);
     }
     if n <= end {
         return Judged::Undecided;
     }
     if !ends_digits(ending, s[end]) {
-        return Judged::Failed {
-            refusal: Refusal::Character,
-            judged: end + 1,
-        };
+        return Judged::failed(Refusal::Character, end + 1);
     }
     if count < 4 || count % 2 != 0 {
-        return Judged::Failed {
-            refusal: Refusal::Length,
-            judged: end + 1,
-        };
+        return Judged::failed(Refusal::Length, end + 1);
     }
     match ending {
         Ending::CrLf => judge_sum(Ending::CrLf, s, count),
@@ -113,10 +106,7 @@ fn judge_run(ending: Ending, s: &[u8], count: usize) -> Judged
         return Judged::Undecided;
     }
     if s[0] != 0x3A {
-        return Judged::Failed {
-            refusal: Refusal::Start,
-            judged: 1,
-        };
+        return Judged::failed(Refusal::Start, 1);
     }
     judge_digits(ending, s, count)
 }

@@ -8,7 +8,7 @@ ghost use Rattle.frame.specs.DigitRuns.{bytes_xor};
 ghost use Rattle.frame.specs.Framing.{judge, in_front, layout};
 ghost use Rattle.frame.specs.Judged.{verdict_of};
 
-use crate::framing::{Footer, Judged, judge_complete, judge_ending};
+use crate::framing::{Footer, Judged, judge_ending};
 use crate::refusal::Refusal;
 
 // The XOR of the words of 8 bytes at the front of s, all that are whole.
@@ -51,11 +51,11 @@ fn judge_body(footer: Footer, s: &[u8], len: usize) -> Judged
         return Judged::Undecided;
     }
     if xor_of(&s[4..end]) != s[end] {
-        return judge_complete(end, false, len);
+        return Judged::failed(Refusal::Checksum, end + 1);
     }
     match footer {
-        Footer::Optional => judge_complete(end, true, len),
-        Footer::Required => judge_ending(s, end, true, 0x04, len),
+        Footer::Optional => Judged::Frame { used: end + 1, len },
+        Footer::Required => judge_ending(s, end, 0x04, len),
     }
 }
 
@@ -68,29 +68,20 @@ pub(crate) fn judge(footer: Footer, s: &[u8]) -> Judged
         return Judged::Undecided;
     }
     if s[0] != 0xA5 {
-        return Judged::Failed {
-            refusal: Refusal::Start,
-            judged: 1,
-        };
+        return Judged::failed(Refusal::Start, 1);
     }
     if n == 1 {
         return Judged::Undecided;
     }
     if s[1] != 0x5A {
-        return Judged::Failed {
-            refusal: Refusal::Start,
-            judged: 2,
-        };
+        return Judged::failed(Refusal::Start, 2);
     }
     if n < 4 {
         return Judged::Undecided;
     }
     let word = u16::from_be_bytes([s[2], s[3]]);
     if word < 0x8001 || 0x8100 < word {
-        return Judged::Failed {
-            refusal: Refusal::Length,
-            judged: 4,
-        };
+        return Judged::failed(Refusal::Length, 4);
     }
     judge_body(footer, s, usize::from(word - 0x8000))
 }

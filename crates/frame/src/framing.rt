@@ -1,11 +1,11 @@
 // The two framings and the formats in which they are read under one name: judging the front of a slice, taking the payload out and writing a frame.
-ghost use Rattle.std.specs.Prelude.{◌≡◌, ℕ, ◌-◌, ◌<◌, ◌≤◌, length, ◌==◌, slice_index};
+ghost use Rattle.std.specs.Prelude.{◌≡◌, true, ◌-◌, ◌<◌, ◌≤◌, length, ◌==◌, slice_index};
 ghost use Rattle.frame.specs.Checks.{payload_in};
 ghost use Rattle.frame.specs.Ascii.{carriage_return};
-ghost use Rattle.frame.specs.Framing.{format_of, judge, layout, in_front, may_follow, is_open, is_optional, absorbed};
+ghost use Rattle.frame.specs.Framing.{format_of, judge, layout, in_front, is_open, is_optional, absorbed};
 ghost use Rattle.frame.specs.Judged.{verdict_of, payload_at, payload_end, bytes_at, unpacks, unpacked, with_room};
-ghost use Rattle.frame.specs.Parts.{HasPayload, frame_length, Ended, Completed};
-ghost use Rattle.frame.specs.declared.framing.Format.TheVariants.{Binary, Ascii};
+ghost use Rattle.frame.specs.Parts.{HasPayload, frame_length, Ended};
+ghost use Rattle.frame.specs.declared.framing.Judged.TheVariants.{Failed};
 
 use crate::refusal::Refusal;
 use crate::{ascii, binary};
@@ -67,48 +67,27 @@ pub enum Judged {
     Frame { used: usize, len: usize },
 }
 
-// Judges the ending of a frame with a payload of `len` bytes: the checksum, which is complete with the byte at `end` and is right or not, and the byte
-// behind it, which is to be `last`.
-pub(crate) fn judge_ending(s: &[u8], end: usize, right: bool, last: u8, len: usize) -> Judged
-    requires { end < length s.now }
-    ensures { Ended s.now end right last len result }
-{
-    if !right {
-        return Judged::Failed {
-            refusal: Refusal::Checksum,
-            judged: end + 1,
-        };
+impl Judged {
+    // A check that failed at the last of `judged` bytes.
+    pub(crate) fn failed(refusal: Refusal, judged: usize) -> Judged
+        ensures { result ≡ Failed refusal judged }
+    {
+        Judged::Failed { refusal, judged }
     }
+}
+
+// Judges the ending of a frame with a payload of `len` bytes, whose checksum is right and complete with the byte at `end`: the byte behind it is to be `last`.
+pub(crate) fn judge_ending(s: &[u8], end: usize, last: u8, len: usize) -> Judged
+    requires { end < length s.now }
+    ensures { Ended s.now end true last len result }
+{
     if s.len() <= end + 1 {
         return Judged::Undecided;
     }
     if s[end + 1] != last {
-        return Judged::Failed {
-            refusal: Refusal::Footer,
-            judged: end + 2,
-        };
+        return Judged::failed(Refusal::Footer, end + 2);
     }
-    Judged::Frame {
-        used: end + 2,
-        len: len,
-    }
-}
-
-// Judges the checksum of a frame with a payload of `len` bytes that is complete with the byte at `end`: right or not.
-pub(crate) fn judge_complete(end: usize, right: bool, len: usize) -> Judged
-    requires { end < 65536 }
-    ensures { Completed end right len result }
-{
-    if !right {
-        return Judged::Failed {
-            refusal: Refusal::Checksum,
-            judged: end + 1,
-        };
-    }
-    Judged::Frame {
-        used: end + 1,
-        len: len,
-    }
+    Judged::Frame { used: end + 2, len }
 }
 
 // Whether the byte before `end` is a CR; the first byte where `end` is 0, and false where there is none.
@@ -146,11 +125,7 @@ fn is_optional(format: Format, b: u8) -> bool
 pub fn absorbed(format: Format, follows: bool, s: &[u8]) -> usize
     ensures { result ≡ absorbed format follows s.now }
 {
-    if follows && !s.is_empty() && is_optional(format, s[0]) {
-        1
-    } else {
-        0
-    }
+    usize::from(follows && !s.is_empty() && is_optional(format, s[0]))
 }
 
 // The place behind a payload of `len` bytes in a frame.
@@ -210,10 +185,7 @@ pub fn extract(format: Format, s: &[u8], buf: &mut [u8]) -> Judged
     ensures room_buf_after { 256 ≤ length buf.old → buf.new ≡ in_front (payload_in (judge format s.now)) buf.old }
 {
     if buf.len() < 256 {
-        return Judged::Failed {
-            refusal: Refusal::Buffer,
-            judged: 0,
-        };
+        return Judged::failed(Refusal::Buffer, 0);
     }
     match format {
         Format::Binary(footer) => binary::extract(footer, s, buf),

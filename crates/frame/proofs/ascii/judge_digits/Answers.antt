@@ -13,19 +13,23 @@ pub overflow_add-end : goal.overflow_add-end
 overflow_add-end c = omega (arith, (counted 515 (drop 1 c.args.s.now)).room)
 
 pub returns-then-count-gt514 : goal.returns-then-count-gt514
-returns-then-count-gt514 c = line_many c.args.s.now c.args.count c.requires.count_value (line_ending c.args.ending) c.if-count-gt514.true
+returns-then-count-gt514 c =
+    rw c.failed.ensures
+    (line_many c.args.s.now c.args.count c.requires.count_value (line_ending c.args.ending) c.if-count-gt514.true)
 
 pub returns-then-n-end : goal.returns-then-n-end
 returns-then-n-end c = line_short c.args.s.now c.args.count c.requires.count_value (line_ending c.args.ending) (omega arith) c.if-n-end.true
 
 pub returns-then-not-ends_digits : goal.returns-then-not-ends_digits
 returns-then-not-ends_digits c =
-    let stopped : Stopped c.args.s.now c.args.count = record { count_is = c.requires.count_value; room = omega arith; there = omega arith } in
-    line_character c.args.ending (stopped) (sym c.ends_digits.ensures ∙ c.if-not-ends_digits.true)
+    rw c.failed-then-not-ends_digits.ensures
+    (let stopped : Stopped c.args.s.now c.args.count = record { count_is = c.requires.count_value; room = omega arith; there = omega arith } in
+    line_character c.args.ending (stopped) (sym c.ends_digits.ensures ∙ c.if-not-ends_digits.true))
 
 pub returns-then-count-lt4 : goal.returns-then-count-lt4
 returns-then-count-lt4 c =
-    let wrong : (c.args.count < 4) ⊎ (c.args.count % 2 ≡ 0 → ⊥) =
+    rw c.failed-then-count-lt4.ensures
+    (let wrong : (c.args.count < 4) ⊎ (c.args.count % 2 ≡ 0 → ⊥) =
     elim c.then-count-lt4.branch [
       | then-count-lt4-via-then-count-lt4 w ↦ inl w.if-count-lt4.true
       | then-count-lt4-via-else-count-lt4+then-count-ne0 w ↦ inr w.if-count-ne0.true
@@ -34,7 +38,7 @@ returns-then-count-lt4 c =
     let stopped : Stopped c.args.s.now c.args.count = record { count_is = c.requires.count_value; room = omega arith; there = omega arith } in
     let ends : ends_digits c.args.ending (get_or c.args.s.now (1 + c.args.count) 0) ≡ true = sym c.ends_digits.ensures ∙ c.if-not-ends_digits.false in
     let judges : JudgesAt (line_ending c.args.ending) (behind_digits c.args.ending) c.args.s.now c.args.count = line_judges c.args.ending c.args.s.now c.args.count (ends) in
-    line_count (line_ending c.args.ending) (behind_digits c.args.ending) (stopped) (judges) wrong
+    line_count (line_ending c.args.ending) (behind_digits c.args.ending) (stopped) (judges) wrong)
 
 pub judge_sum-requires-clause-count_value_3 : goal.judge_sum-requires-clause-count_value_3
 judge_sum-requires-clause-count_value_3 c =

@@ -11,8 +11,9 @@ returns-then-is_empty c = judge_empty (line_ending c.args.ending) c.args.s.now (
 
 pub returns-then-s-ne58 : goal.returns-then-s-ne58
 returns-then-s-ne58 c =
-    let some = eqb-false _ _ (sym c.is_empty.ensures ∙ c.if-is_empty.false) in
-    judge_start (line_ending c.args.ending) c.args.s.now (omega arith) c.if-s-ne58.true
+    rw c.failed.ensures
+    (let some = eqb-false _ _ (sym c.is_empty.ensures ∙ c.if-is_empty.false) in
+    judge_start (line_ending c.args.ending) c.args.s.now (omega arith) c.if-s-ne58.true)
 
 pub returns : goal.returns
 returns c =
