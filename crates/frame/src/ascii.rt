@@ -47,8 +47,9 @@ fn judge_end(ending: Ending, s: &[u8], count: usize, total: u32) -> Judged
     }
 }
 
-// Judges the sum of the bytes that the `count` digits behind the colon stand for, as `judge_end` does. It is called from two places, so that it stays a
-// function, and the tests before it are inlined where they are made.
+// Judges the sum of the bytes that the `count` digits behind the colon stand for, as `judge_end` does. It stays a function, so that the tests before it are
+// inlined where they are made.
+#[inline(never)]
 fn judge_sum(ending: Ending, s: &[u8], count: usize) -> Judged
     requires count_value { count ≡ digit_run 515 (drop 1 s.now) }
     requires le_count { 4 ≤ count }
@@ -81,10 +82,7 @@ fn judge_digits(ending: Ending, s: &[u8], count: usize) -> Judged
     if count < 4 || count % 2 != 0 {
         return Judged::failed(Refusal::Length, end + 1);
     }
-    match ending {
-        Ending::CrLf => judge_sum(Ending::CrLf, s, count),
-        Ending::Any => judge_sum(Ending::Any, s, count),
-    }
+    judge_sum(ending, s, count)
 }
 
 // How many digits stand behind the first character, up to one more than the most that a frame has.

@@ -1,5 +1,5 @@
 // The two framings and the formats in which they are read under one name: judging the front of a slice, taking the payload out and writing a frame.
-ghost use Rattle.std.specs.Prelude.{◌≡◌, true, ◌-◌, ◌<◌, ◌≤◌, length, ◌==◌, slice_index};
+ghost use Rattle.std.specs.Prelude.{◌≡◌, true, false, ℕ, MatchOption, ◌-◌, ◌<◌, ◌≤◌, length, ◌==◌, slice_index};
 ghost use Rattle.frame.specs.Checks.{payload_in};
 ghost use Rattle.frame.specs.Ascii.{carriage_return};
 ghost use Rattle.frame.specs.Framing.{format_of, judge, layout, in_front, is_open, is_optional, absorbed};
@@ -110,14 +110,14 @@ pub fn may_follow(format: Format, s: &[u8], end: usize) -> bool
     }
 }
 
-// Whether b is the optional byte of a format.
-fn is_optional(format: Format, b: u8) -> bool
-    ensures { result ≡ is_optional format b }
+// The optional byte of a format, where it has one.
+fn optional_of(format: Format) -> Option<u8>
+    ensures { MatchOption result ((b : ℕ) → is_optional format b ≡ false) (λ x. (b : ℕ) → is_optional format b ≡ (b == x)) }
 {
     match format {
-        Format::Binary(Footer::Optional) => b == 0x04,
-        Format::Ascii(Ending::Any) => b == 0x0A,
-        Format::Binary(Footer::Required) | Format::Ascii(Ending::CrLf) => false,
+        Format::Binary(Footer::Optional) => Some(0x04),
+        Format::Ascii(Ending::Any) => Some(0x0A),
+        Format::Binary(Footer::Required) | Format::Ascii(Ending::CrLf) => None,
     }
 }
 
@@ -125,7 +125,7 @@ fn is_optional(format: Format, b: u8) -> bool
 pub fn absorbed(format: Format, follows: bool, s: &[u8]) -> usize
     ensures { result ≡ absorbed format follows s.now }
 {
-    usize::from(follows && !s.is_empty() && is_optional(format, s[0]))
+    usize::from(follows && !s.is_empty() && optional_of(format) == Some(s[0]))
 }
 
 // The place behind a payload of `len` bytes in a frame.

@@ -1,9 +1,7 @@
 -- `frame::ascii::judge_digits` meets its contract: each way out is one of the laws on what stands behind the colon.
 -- Assumes nothing.
-use Rattle.std.proofs.Common.{◌≡◌, ◌+◌, ◌%◌, ◌<◌, ◌⊎◌, true, get_or, drop, sym, ◌∙◌, subst, inl, inr, arith}
+use Rattle.std.proofs.Common.{◌≡◌, ◌+◌, ◌%◌, ◌<◌, ◌⊎◌, true, get_or, drop, sym, ◌∙◌, inl, inr, arith}
 use Rattle.frame.specs.Ascii.{ends_digits, behind_digits, line_ending}
-use Rattle.frame.specs.declared.framing.Ending.{Ending}
-use Rattle.frame.specs.declared.framing.Ending.TheVariants.{CrLf, Any}
 use Rattle.frame.proofs.DigitLaws.{counted}
 use Rattle.frame.proofs.AsciiJudge.{line_many, line_short, Stopped, JudgesAt, line_character, line_judges, line_count}
 use Rattle.frame.proofs.ascii.judge_digits.Goals.{then-count-lt4-via-then-count-lt4, then-count-lt4-via-else-count-lt4+then-count-ne0}
@@ -41,21 +39,4 @@ returns-then-count-lt4 c =
     line_count (line_ending c.args.ending) (behind_digits c.args.ending) (stopped) (judges) wrong)
 
 pub judge_sum-requires-clause-count_value_3 : goal.judge_sum-requires-clause-count_value_3
-judge_sum-requires-clause-count_value_3 c =
-    let ends : ends_digits c.args.ending (get_or c.args.s.now (1 + c.args.count) 0) ≡ true = sym c.ends_digits.ensures ∙ c.if-not-ends_digits.false in
-    let at : ends_digits CrLf (get_or c.args.s.now (1 + c.args.count) 0) ≡ true =
-    subst (λ (x : Ending). ends_digits x (get_or c.args.s.now (1 + c.args.count) 0) ≡ true) c.in-CrLf.is (ends)
-    in at
-
-pub judge_sum-requires-in-Any-clause-count_value_3 : goal.judge_sum-requires-in-Any-clause-count_value_3
-judge_sum-requires-in-Any-clause-count_value_3 c =
-    let ends : ends_digits c.args.ending (get_or c.args.s.now (1 + c.args.count) 0) ≡ true = sym c.ends_digits.ensures ∙ c.if-not-ends_digits.false in
-    let at : ends_digits Any (get_or c.args.s.now (1 + c.args.count) 0) ≡ true =
-    subst (λ (x : Ending). ends_digits x (get_or c.args.s.now (1 + c.args.count) 0) ≡ true) c.in-Any.is (ends)
-    in at
-
-pub returns-in-CrLf : goal.returns-in-CrLf
-returns-in-CrLf c = rw c.in-CrLf.is c.judge_sum.ensures
-
-pub returns-in-Any : goal.returns-in-Any
-returns-in-Any c = rw c.in-Any.is c.judge_sum-in-Any.ensures
+judge_sum-requires-clause-count_value_3 c = sym c.ends_digits.ensures ∙ c.if-not-ends_digits.false
