@@ -395,6 +395,7 @@ impl Reader {
     }
 
     // Finds the next frame in a chunk, behind what was settled before it. The bytes that were held go.
+    #[inline(always)]
     fn feed_chunk(&mut self, chunk: &[u8], settled: Settled, buf: &mut [u8]) -> FeedAnswer
         requires { ChunkFed self.old.format chunk.now settled buf.old }
         ensures { Leaves self.old.format (scan_whole self.old.format 0 settled.noise settled.reach chunk.now)

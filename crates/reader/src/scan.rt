@@ -95,14 +95,19 @@ fn passed_by(format: Format, judged: usize) -> usize
 }
 
 // The first place from `from` on that has b, or `stop` where none before it has. Whole blocks of bytes without one are passed first.
+// Kept: the rest is searched by index, since a search of a slice by `run_len` takes up to 2 % more instructions where starts stand close together.
 fn skip_to(s: &[u8], b: u8, from: usize, stop: usize) -> usize
     requires from_le_stop { from ≤ stop }
     requires stop_in_bounds { stop ≤ length s.now }
     ensures { Skips (other b) s.now from stop result }
 {
-    let rest = &s[from..stop];
-    let blocks = octets::block_run_len(rest, |c| c != b);
-    from + (blocks + octets::run_len(&rest[blocks..], |c| c != b))
+    let blocks = octets::block_run_len(&s[from..stop], |c| c != b);
+    for place in from + blocks..stop {
+        if s[place] == b {
+            return place;
+        }
+    }
+    stop
 }
 
 // Whether a frame may start at a place: the byte there starts one, and no other start follows it, where a frame fails in either framing.
