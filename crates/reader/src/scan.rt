@@ -309,12 +309,6 @@ pub(crate) fn find_first(
     ensures buf_after { buf.new ≡ stop_buffer (scanned format s.now result).stop buf.old }
 {
     let size = s.len();
-    let all = Places {
-        from: 0,
-        stop: size,
-        reach,
-        ended: false,
-    };
     if size == 0 {
         return ScanResult {
             place: 0,
@@ -324,6 +318,12 @@ pub(crate) fn find_first(
         };
     }
     if s[0] != start_of(format) {
+        let all = Places {
+            from: 0,
+            stop: size,
+            reach,
+            ended: false,
+        };
         let found = find(format, s, all, buf);
         return counted(found, 0, known.min(1));
     }
@@ -338,8 +338,9 @@ pub(crate) fn find_first(
             let first = pass_failed(format, s, 0, size, judged);
             let behind = Places {
                 from: first.place,
+                stop: size,
                 reach: reach.max(first.reach),
-                ..all
+                ended: false,
             };
             let found = find(format, s, behind, buf);
             counted(found, first.judged, known.min(judged))
