@@ -4,8 +4,8 @@ use Prim.Native.Nat.{ℕ, ◌+◌, ◌-◌, ◌≤◌, ◌<◌, max}
 use native.Mathlib.Omega.{arith}
 use mathlib.Core.Path.{◌≡◌, refl, sym, ap, ap₂, ◌∙◌, subst}
 use mathlib.Core.List.{List, []}
-use mathlib.Core.Bool.{Bool, true, false, cond, ◌&&◌, true≢false, false≢true}
-use borrow.Author.Tests.{le-leb, lt-leb, leb-true, eqb-true}
+use mathlib.Core.Bool.{Bool, true, false, cond, ◌&&◌, false≢true}
+use borrow.Author.Tests.{le-leb, leb-true, eqb-true}
 use lib.Dec.{leb, eqb}
 use lib.ListN.{length, take, drop, length-drop}
 use lib.Seq.{drop-length, drop-drop}
@@ -13,7 +13,6 @@ use Rattle.frame.specs.Framing.{limit, absorbed}
 use Rattle.frame.specs.Rule.{nothing}
 use Rattle.reader.specs.Reader.{State, holding, Called, called, took_first, line_behind, line, line_judged, after, state_of, Holds, refusal_values}
 use Rattle.reader.specs.Reader.{call_refusal, buffer_at, sound, feed_refusal, feed_values_of, Feeds}
-use Rattle.frame.specs.Refusal.{number_of}
 use Rattle.reader.specs.View.{inside, part, viewed, view_call, view_judged, NextView, view_refusal, Views, Stands}
 use Rattle.reader.specs.Draining.{ViewReports}
 use Rattle.reader.specs.Answer.{TookFirst, HeldSo, values_at}
@@ -21,10 +20,10 @@ use Rattle.reader.specs.Feeding.{line_over, judged_in, KeepsCall, past_optional}
 use Rattle.reader.specs.Views.{ViewIsFeed, ViewStaysInside}
 use Rattle.frame.specs.declared.framing.Format.{Format}
 use Rattle.reader.specs.declared.reader.Reader.{Reader}
-use Rattle.frame.specs.declared.refusal.Refusal.{Refusal}
 use Rattle.reader.specs.declared.answer.Kept.{Kept}
 use Rattle.reader.specs.declared.answer.FeedAnswer.{FeedAnswer}
-use Rattle.reader.specs.declared.answer.FeedAnswer.TheVariants.{NeedsMore, Refused}
+use Rattle.reader.specs.declared.answer.FeedAnswer.TheVariants.{NeedsMore}
+use Rattle.std.proofs.Common.{Ok}
 use Rattle.reader.specs.declared.view.View.{View}
 use Rattle.reader.specs.declared.view.Viewed.{Viewed}
 use Rattle.reader.proofs.Parts.{part_size, part_rest}
@@ -152,32 +151,13 @@ view_is_feed v chunk buf a buf' r p e h =
 
 module _ (v : View) (room size : ℕ) where
   -- The refusals of a view's call, in their order.
-  pub view_state : inside v size ≡ false → view_refusal v room size ≡ 16
-  view_state e = ap (λ (q : Bool). call_refusal q 256 room size) e
-
-  pub view_buffer : inside v size ≡ true → room < 256 → view_refusal v room size ≡ 13
-  view_buffer e h = ap (λ (q : Bool). call_refusal q 256 room size) e ∙ simp (lt-leb 256 room h)
-
-  pub view_chunk : inside v size ≡ true → 256 ≤ room → 65536 < size → view_refusal v room size ≡ 15
-  view_chunk e h k = ap (λ (q : Bool). call_refusal q 256 room size) e ∙ simp (le-leb 256 room h, lt-leb size 65536 k)
-
   view_accepted : inside v size ≡ true → 256 ≤ room → size ≤ 65536 → view_refusal v room size ≡ 0
   view_accepted e h k = ap (λ (q : Bool). call_refusal q 256 room size) e ∙ simp (le-leb 256 room h, le-leb size 65536 k)
-
--- A refused call.
-pub refused_views :
-    (v : View) (chunk buf : List ℕ) (a : Viewed) (r : Refusal) → view_refusal v (length buf) (length chunk) ≡ number_of r →
-    eqb (number_of r) 0 ≡ false → a.view ≡ v → a.answer ≡ Refused r → Views v chunk buf a buf
-refused_views v chunk buf a r n z e f =
-    record {
-      refuses = λ _. (ap feed_values_of f ∙ ap refusal_values (sym n), e, refl);
-      answers = λ t. absurd (true≢false (sym t ∙ ap (λ (k : ℕ). eqb k 0) n ∙ z));
-    }
 
 -- A call with no byte held or offered, where the view is at the chunk's end.
 pub waiting_views :
     (v : View) (chunk buf : List ℕ) (a : Viewed) → Inside v (length chunk) → v.from ≡ length chunk → 256 ≤ length buf → length chunk ≤ 65536 →
-    a.view ≡ v → a.answer ≡ NeedsMore 0 0 0 → Views v chunk buf a buf
+    a.view ≡ v → a.answer ≡ Ok (NeedsMore 0 0 0) → Views v chunk buf a buf
 waiting_views v chunk buf a h last room few same is =
     let f : Format = v.format in
     let end : v.end ≡ length chunk = omega (arith, h.onward, h.there) in
@@ -199,28 +179,6 @@ waiting_views v chunk buf a h last room few same is =
     (ap feed_values_of is ∙ ap₂ values_at (sym call) (sym judged))
     (subst (λ (x : View). NextView v chunk (view_call v chunk) x) (sym same) (subst (λ (x : Called). NextView v chunk x v) (sym call) next))
     (ap (λ (x : Called). buffer_at x.out.frames buf) (sym call))
-
--- Without the mark, the view behind an optional byte is the view itself.
-pub past_unmarked : (v : View) (chunk : List ℕ) → v.follows ≡ false → v.from ≤ v.end → v ≡ past_optional v chunk
-past_unmarked v chunk e l =
-    let n : ℕ = absorbed v.format v.follows (drop v.from chunk) in
-    let none : n ≡ 0 = ap (λ (q : Bool). absorbed v.format q (drop v.from chunk)) e in
-    let from : v.from ≡ v.from + n = omega arith in
-    let end : v.end ≡ max v.end (v.from + n) = omega arith in
-    let judged : v.judged ≡ cond (eqb n 0) v.judged 0 = ap (λ (k : ℕ). cond (eqb k 0) v.judged 0) (sym none) in
-    λ i. record { format = v.format; from = from i; end = end i; follows = e i; judged = judged i }
-
--- What the code takes for it, with the mark.
-pub past_marked :
-    (v : View) (chunk rest : List ℕ) (n end judged : ℕ) → v.follows ≡ true → n ≡ absorbed v.format true rest → rest ≡ drop v.from chunk →
-    end ≡ max v.end (v.from + n) → judged ≡ cond (eqb n 0) v.judged 0 →
-    record { format = v.format; from = v.from + n; end = end; follows = false; judged = judged } ≡ past_optional v chunk
-past_marked v chunk rest n end judged m e r l j =
-    let at : ℕ → View = λ k.
-    record { format = v.format; from = v.from + k; end = max v.end (v.from + k); follows = false; judged = cond (eqb k 0) v.judged 0 } in
-    let same : record { format = v.format; from = v.from + n; end = end; follows = false; judged = judged } ≡ at n =
-    λ i. record { format = v.format; from = v.from + n; end = l i; follows = false; judged = j i } in
-    same ∙ ap at (e ∙ ap₂ (absorbed v.format) (sym m) r)
 
 -- What the view behind an optional byte is to a view that has a byte held or offered: it lies in the chunk, at most one byte further, and the view's call is
 -- the call without the mark from there, before which that byte is taken where it was not held.
@@ -287,7 +245,7 @@ pub kept_views :
     Views v chunk buf
     (record {
       view = record { format = at.format; from = at.from + k.from; end = at.from + k.end; follows = k.follows; judged = judged };
-      answer = answer;
+      answer = Ok answer;
     })
     buf'
 kept_views v chunk rest buf buf' at k answer judged h p room few r fed so took =

@@ -1,13 +1,13 @@
 // What the line reader's calls answer, and how an answer is made of a scan.
 ghost use Rattle.std.specs.Prelude.{◌≡◌, false, ◌-◌, ◌≤◌};
-ghost use Rattle.reader.specs.Reader.{feed_values_of};
+ghost use Rattle.reader.specs.Reader.{fed_values_of};
 ghost use Rattle.reader.specs.Scan.{scanned};
 ghost use Rattle.reader.specs.Answer.{HeldSo, TookFirst, kept_as, Answerable, Keeps};
 
 use crate::scan::{ScanEnd, ScanResult};
-use frame::{Format, Refusal, may_follow};
+use frame::{Format, may_follow};
 
-#[derive(Clone, Copy)]
+#[derive(Clone, Copy, Debug, PartialEq, Eq)]
 pub enum FeedAnswer {
     // A frame: `taken` bytes of the chunk were taken, an optional one that follows the frame before this among them, `noise` bytes were settled as noise,
     // the leftmost rule judges `judged` bytes at the places where the call stood, without those that the state before said were judged, the payload of
@@ -25,10 +25,9 @@ pub enum FeedAnswer {
         noise: usize,
         judged: usize,
     },
-    Refused(Refusal),
 }
 
-#[derive(Clone, Copy)]
+#[derive(Clone, Copy, Debug, PartialEq, Eq)]
 pub enum QuietAnswer {
     // A frame among the held bytes, with the same numbers but for `taken`, which is 0; it began `began` bytes before their end, which is the segment's.
     Frame {
@@ -42,7 +41,31 @@ pub enum QuietAnswer {
         noise: usize,
         judged: usize,
     },
-    Refused(Refusal),
+}
+
+impl FeedAnswer {
+    // How many of `count` bytes that are held after an answer were judged at the first: all where more are needed; behind a frame none yet.
+    pub(crate) fn judged_held(self, count: usize) -> usize
+        ensures { HeldSo self count result }
+    {
+        match self {
+            FeedAnswer::Frame { .. } => 0,
+            FeedAnswer::NeedsMore { .. } => count,
+        }
+    }
+
+    // The answer of a call that took `first` bytes more, before the others.
+    pub(crate) fn took_first(mut self, first: usize) -> FeedAnswer
+        requires answer_bound { (fed_values_of self).taken ≤ 65536 }
+        requires first_bound { first ≤ 1 }
+        ensures { TookFirst first self result }
+    {
+        match &mut self {
+            FeedAnswer::Frame { taken, .. } => *taken += first,
+            FeedAnswer::NeedsMore { taken, .. } => *taken += first,
+        }
+        self
+    }
 }
 
 // What was there before a scan: held bytes at the front of the slice, noise bytes settled, and the chunk's length.
@@ -63,50 +86,6 @@ pub(crate) struct Kept {
     pub(crate) follows: bool,
 }
 
-// How many of `count` bytes that are held after an answer were judged at the first: all where more are needed; behind a frame none yet.
-pub(crate) fn judged_held(answer: FeedAnswer, count: usize) -> usize
-    ensures { HeldSo answer count result }
-{
-    match answer {
-        FeedAnswer::Frame { .. } => 0,
-        FeedAnswer::NeedsMore { .. } => count,
-        FeedAnswer::Refused(_) => 0,
-    }
-}
-
-// The answer of a call that took `first` bytes more, before the others.
-pub(crate) fn took_first(answer: FeedAnswer, first: usize) -> FeedAnswer
-    requires answer_bound { (feed_values_of answer).taken ≤ 65536 }
-    requires first_bound { first ≤ 1 }
-    ensures { TookFirst first answer result }
-{
-    match answer {
-        FeedAnswer::Frame {
-            taken,
-            noise,
-            judged,
-            len,
-            began,
-        } => FeedAnswer::Frame {
-            taken: first + taken,
-            noise: noise,
-            judged: judged,
-            len: len,
-            began: began,
-        },
-        FeedAnswer::NeedsMore {
-            taken,
-            noise,
-            judged,
-        } => FeedAnswer::NeedsMore {
-            taken: first + taken,
-            noise: noise,
-            judged: judged,
-        },
-        FeedAnswer::Refused(refusal) => FeedAnswer::Refused(refusal),
-    }
-}
-
 // The answer that more bytes are needed, where those from `from` up to `end` are held.
 fn more_needed(taken: usize, noise: usize, judged: usize, from: usize, end: usize) -> Kept
     ensures { result ≡ kept_as (FeedAnswer.NeedsMore taken noise judged) from end false }
@@ -117,8 +96,8 @@ fn more_needed(taken: usize, noise: usize, judged: usize, from: usize, end: usiz
             noise,
             judged,
         },
-        from: from,
-        end: end,
+        from,
+        end,
         follows: false,
     }
 }
@@ -136,10 +115,9 @@ pub(crate) fn answer(
 {
     let place = found.place;
     let far = found.reach;
-    let end = found.end;
     let noise = before.noise + place;
     let taken = before.size;
-    match end {
+    match found.end {
         ScanEnd::Frame { used, len } => {
             let taken = far - before.base;
             let next = place + used;
