@@ -1,5 +1,5 @@
 // The line reader: frames out of chunks of a serial line, as they come.
-ghost use Rattle.std.specs.Prelude.{◌≡◌, [], false, cond, ◌+◌, ◌≤◌, eqb, length, take, drop};
+ghost use Rattle.std.specs.Prelude.{◌≡◌, [], false, cond, ◌+◌, ◌≤◌, eqb, length, take, drop, Ok};
 ghost use Rattle.std.proofs.Math.Seq.{paste};
 ghost use Rattle.frame.specs.Framing.{format_of, judge, limit, behind_optional};
 ghost use Rattle.reader.specs.Reader.{holding, line_behind, quiet_held, judged_to, line_judged, quiet_judged, new_reader, Holds, can_hold, Feeds, Quiets};
@@ -27,14 +27,14 @@ pub struct Reader {
 #[derive(Clone, Copy)]
 pub struct Fed {
     pub reader: Reader,
-    pub answer: FeedAnswer,
+    pub answer: Result<FeedAnswer, Refusal>,
 }
 
 // The answer to a quiet, with the state that follows.
 #[derive(Clone, Copy)]
 pub struct Quieted {
     pub reader: Reader,
-    pub answer: QuietAnswer,
+    pub answer: Result<QuietAnswer, Refusal>,
 }
 
 // The held bytes of a state, and as much of a chunk as a frame that begins in them can have: the first `size` of `bytes`.
@@ -349,11 +349,11 @@ fn is_sound(format: Format, count: usize, judged: usize) -> bool
 // The answer that no frame is left, with a new reader.
 fn emptied(format: Format, noise: usize, judged: usize) -> Quieted
     ensures reader_value { result.reader ≡ new_reader format }
-    ensures answer_value { result.answer ≡ QuietAnswer.Empty noise judged }
+    ensures answer_value { result.answer ≡ Ok (QuietAnswer.Empty noise judged) }
 {
     Quieted {
         reader: Reader::open(format),
-        answer: QuietAnswer::Empty { noise, judged },
+        answer: Ok(QuietAnswer::Empty { noise, judged }),
     }
 }
 
@@ -376,12 +376,12 @@ fn quiet_held(format: Format, s: &[u8], known: usize, buf: &mut [u8]) -> Quieted
             let began = s.len() - place;
             Quieted {
                 reader: reader,
-                answer: QuietAnswer::Frame {
+                answer: Ok(QuietAnswer::Frame {
                     noise: place,
                     judged: judged,
                     len: len,
                     began: began,
-                },
+                }),
             }
         }
         ScanEnd::Undecided => emptied(format, place, judged),
@@ -431,19 +431,19 @@ impl Reader {
         if !is_sound(format, count, judged) {
             return Fed {
                 reader: self,
-                answer: FeedAnswer::Refused(Refusal::State),
+                answer: Err(Refusal::State),
             };
         }
         if buf.len() < Reader::MAX_PAYLOAD {
             return Fed {
                 reader: self,
-                answer: FeedAnswer::Refused(Refusal::Buffer),
+                answer: Err(Refusal::Buffer),
             };
         }
         if 65536 < chunk.len() {
             return Fed {
                 reader: self,
-                answer: FeedAnswer::Refused(Refusal::Chunk),
+                answer: Err(Refusal::Chunk),
             };
         }
         let follows = self.follows;
@@ -454,7 +454,7 @@ impl Reader {
         self.judged = judged_held(answer, left.count);
         Fed {
             reader: self,
-            answer: answer,
+            answer: Ok(answer),
         }
     }
 
@@ -469,13 +469,13 @@ impl Reader {
         if !is_sound(format, count, self.judged) {
             return Quieted {
                 reader: self,
-                answer: QuietAnswer::Refused(Refusal::State),
+                answer: Err(Refusal::State),
             };
         }
         if buf.len() < Reader::MAX_PAYLOAD {
             return Quieted {
                 reader: self,
-                answer: QuietAnswer::Refused(Refusal::Buffer),
+                answer: Err(Refusal::Buffer),
             };
         }
         let held = self.held;
