@@ -1,5 +1,5 @@
 // Why a call gives no message, or writes none.
-ghost use Rattle.std.specs.Prelude.{◌≡◌};
+ghost use Rattle.std.specs.Prelude.{◌≡◌, true, false, OnOk, OnErr, IfErr};
 ghost use Rattle.message.specs.Refusal.{number_of};
 
 use thiserror::Error;
@@ -53,4 +53,13 @@ impl Refusal {
             Refusal::Identifier => 17,
         }
     }
+}
+
+// Refuses where a condition does not hold.
+pub(crate) fn ensure(holds: bool, refusal: Refusal) -> Result<(), Refusal>
+    ensures ok { OnOk result (holds ≡ true) }
+    ensures err { OnErr result (holds ≡ false) }
+    ensures refusal { IfErr result (λ e. e ≡ refusal) }
+{
+    if holds { Ok(()) } else { Err(refusal) }
 }
