@@ -1,53 +1,20 @@
 -- Laws on the bytes of options, and on what an option string says, option by option.
 -- Assumes nothing.
-use Rattle.std.specs.Prelude.{Option, Some, None}
 use Prim.Native.Nat.{ℕ, ◌+◌, ◌*◌, ◌≤◌, ◌<◌}
 use native.Mathlib.Numerals.{add-one}
 use native.Mathlib.Omega.{arith}
 use mathlib.Core.Path.{◌≡◌, refl, ap, ◌∙◌}
-use mathlib.Core.Bool.{Bool, true, false}
+use mathlib.Core.Bool.{true, false}
 use mathlib.Core.Logic.{◌⊎◌, inl, inr}
 use mathlib.Core.List.{List, [], ◌∷◌, ◌++◌, append_assoc}
 use borrow.Author.Tests.{eq-eqb, ne_eqb, le-leb, lt-leb}
-use lib.ListN.{length, get_or, drop, length-append, length-drop}
+use lib.ListN.{length, get_or, drop, length-drop}
 use lib.Seq.{drop-cons}
 use Rattle.message.specs.Number.{word_at}
 use Rattle.message.specs.declared.options.Options.{Options}
 use Rattle.message.specs.Options.{has_option, give_flag, give_retries, give_word, is_retry, is_option, expected_after, given_after}
 use Rattle.message.specs.Options.{Expected, option, retry_byte, first_of, second_of, bad, opted, options_from}
 use Rattle.message.specs.Options.{flag_bytes, retry_bytes, word_bytes, option_bytes}
-
--- An option without an argument has at most one byte.
-flag_length : (id : ℕ) (given : Bool) → length (flag_bytes id given) ≤ 1
-flag_length id true = omega arith
-flag_length id false = omega arith
-
--- The retries have at most two bytes.
-retry_length : (r : Option ℕ) → length (retry_bytes r) ≤ 2
-retry_length None = omega arith
-retry_length (Some b) = omega arith
-
--- An option of two bytes has at most three bytes.
-word_length : (id : ℕ) (v : Option ℕ) → length (word_bytes id v) ≤ 3
-word_length id None = omega arith
-word_length id (Some v) = omega arith
-
--- An option string has at most 16 bytes.
-pub option_length : (o : Options) → length (option_bytes o) ≤ 16
-unfolding option_bytes
-option_length o =
-    simp length-append
-    (omega (
-      arith,
-      flag_length 0x01 o.mac_ack,
-      retry_length o.retries,
-      word_length 0x03 o.lower_delay,
-      word_length 0x04 o.upper_delay,
-      word_length 0x05 o.interval,
-      flag_length 0x06 o.parallel,
-      flag_length 0x07 o.no_response,
-      flag_length 0x08 o.sleep,
-    ))
 
 -- The options one behind another, and FF, behind a list.
 pub options_behind : (p : List ℕ) (o : Options)

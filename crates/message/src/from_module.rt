@@ -99,6 +99,7 @@ fn read_response(payload: &[u8]) -> Result<FromModule, Refusal>
 }
 
 // Reads a payload that begins with DB: a response, or a report of the module on itself.
+#[tactic(auto, unfolding(crate::specs::FromModule::from_itself))]
 fn read_from_itself(payload: &[u8]) -> Result<FromModule, Refusal>
     requires { 2 ≤ length payload.now }
     ensures { from_module_of result ≡ from_itself payload.now }

@@ -75,6 +75,7 @@ impl SetupCommand {
     }
 
     // The command with this number, if any.
+    #[tactic(auto, unfolding(crate::specs::Setup::command_of))]
     pub fn named(number: u8) -> Option<SetupCommand>
         ensures { result ≡ command_of number }
     {

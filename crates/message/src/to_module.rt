@@ -58,6 +58,7 @@ pub enum ToModule {
 }
 
 // Reads an extended message whose option string begins at index `at`.
+#[tactic(auto, unfolding(crate::specs::ToModule::request_at))]
 fn read_request(payload: &[u8], address: Address, at: usize) -> Result<ToModule, Refusal>
     requires le_at { 3 ≤ at }
     requires at_in_bounds { at ≤ length payload.now }
