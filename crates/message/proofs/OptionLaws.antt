@@ -239,3 +239,18 @@ module _ (s : List ℕ) (at : ℕ) (o : Options) (there : at < length s) where
   read_word k a b h =
       read_first (get_or s (at + 1) 0 ∷ get_or s (at + 1 + 1) 0 ∷ drop (at + 3) s) (drop_three s at k) a b h
       ∙ take_word o at (get_or s at 0) (get_or s (at + 1) 0) (get_or s (at + 1 + 1) 0) (drop (at + 3) s)
+
+-- The ways out of reading options.
+pub ruleset ways_out = (
+  read_nothing,
+  read_end,
+  read_repeated,
+  read_low,
+  read_high,
+  read_flag,
+  read_retry_cut,
+  read_retry_wrong,
+  read_retry,
+  read_word_cut,
+  read_word,
+)

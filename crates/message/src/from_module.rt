@@ -2,7 +2,7 @@
 ghost use Rattle.std.specs.Prelude.{◌≡◌, ◌≤◌, length};
 ghost use Rattle.message.specs.FromModule.{from_module_of, read_from_module, from_itself, response_meaning, reception_meaning, status_meaning};
 ghost use Rattle.message.specs.FromModule.{reception_refusal, reception_layout, delivery_refusal};
-ghost use Rattle.message.specs.FromModule.{delivery_layout, notice_refusal, notice_layout, outcome_byte};
+ghost use Rattle.message.specs.FromModule.{delivery_layout, notice_refusal, notice_layout};
 ghost use Rattle.message.specs.Status.{standard_layout, standard_at, remote_layout, remote_at};
 ghost use Rattle.message.specs.Address.{plain_refusal};
 ghost use Rattle.message.specs.Write.{Writes};
@@ -40,20 +40,8 @@ pub enum Delivery {
 
 #[derive(Clone, Copy)]
 pub enum Outcome {
-    Failure,
-    Success,
-}
-
-// The result of a response.
-impl From<Outcome> for u8 {
-    ghost from_gives = { λ outcome b. b ≡ outcome_byte outcome };
-
-    fn from(outcome: Outcome) -> u8 {
-        match outcome {
-            Outcome::Failure => 0,
-            Outcome::Success => 1,
-        }
-    }
+    Failure = 0,
+    Success = 1,
 }
 
 // The module's response to a transmission.
@@ -203,8 +191,7 @@ fn read_status(payload: &[u8]) -> Result<FromModule, Refusal>
 pub fn read_from_module(payload: &[u8]) -> Result<FromModule, Refusal>
     ensures { from_module_of result ≡ read_from_module payload.now }
 {
-    let len = payload.len();
-    ensure(2 <= len && len <= 256, Refusal::Length)?;
+    ensure(matches!(payload.len(), 2..=256), Refusal::Length)?;
     let address = payload[0];
     let command = payload[1];
     if address == 0xDB {
@@ -310,7 +297,7 @@ pub fn write_notice(framing: Framing, notice: Notice, buf: &mut [u8]) -> Result<
 {
     match notice {
         Notice::Response(response) => {
-            let result = u8::from(response.outcome);
+            let result = response.outcome as u8;
             send(framing, &[0xDB, 0xA1, response.id, result], buf)
         }
         Notice::Standard(status) => write_standard(framing, status, buf),

@@ -8,7 +8,7 @@ use crate::number::word;
 use crate::write::PayloadWriter;
 
 // Which options are given, and their arguments.
-#[derive(Clone, Copy)]
+#[derive(Clone, Copy, Default)]
 pub struct Options {
     // 01: enables MAC acknowledgement.
     pub mac_ack: bool,
@@ -33,16 +33,7 @@ impl Options {
     pub fn none() -> Self
         ensures { result ≡ no_options }
     {
-        Options {
-            mac_ack: false,
-            retries: None,
-            lower_delay: None,
-            upper_delay: None,
-            interval: None,
-            parallel: false,
-            no_response: false,
-            sleep: false,
-        }
+        Options::default()
     }
 }
 
@@ -118,7 +109,7 @@ pub(crate) fn is_retry(b: u8) -> bool
 
 // Reads the rest of an option string, from `at` on, where `options` are given already: an option, its argument, then the rest, until FF. Gives all options
 // and the index behind FF; none where it is no option string.
-#[tactic(auto, using(crate::proofs::OptionLaws::read_nothing, crate::proofs::OptionLaws::read_end, crate::proofs::OptionLaws::read_repeated, crate::proofs::OptionLaws::read_low, crate::proofs::OptionLaws::read_high, crate::proofs::OptionLaws::read_flag, crate::proofs::OptionLaws::read_retry_cut, crate::proofs::OptionLaws::read_retry_wrong, crate::proofs::OptionLaws::read_retry, crate::proofs::OptionLaws::read_word_cut, crate::proofs::OptionLaws::read_word))]
+#[tactic(auto, using(crate::proofs::OptionLaws::ways_out))]
 pub(crate) fn read_options(s: &[u8], at: usize, options: Options) -> Option<(Options, usize)>
     requires { at ≤ length s.now }
     ensures { options_read result ≡ options_from option options at (drop at s.now) }

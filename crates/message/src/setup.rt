@@ -18,17 +18,17 @@ use frame::Framing;
 #[derive(Clone, Copy)]
 pub enum SetupCommand {
     // F0: asks for an acknowledgement.
-    EnableAck,
+    EnableAck = 0xF0,
     // F1: asks for information.
-    GetInformation,
+    GetInformation = 0xF1,
     // F3: asks for the settings.
-    GetSettings,
+    GetSettings = 0xF3,
     // FD: erases the settings and resets the module.
-    EraseSettings,
+    EraseSettings = 0xFD,
     // FE: saves the settings that were applied and resets the module.
-    SaveSettings,
+    SaveSettings = 0xFE,
     // FF: drops the settings that were applied and resets the module.
-    Reset,
+    Reset = 0xFF,
 }
 
 // The information of F1. Every field is carried unjudged.
@@ -64,14 +64,7 @@ impl SetupCommand {
     pub fn number(self) -> u8
         ensures { result ≡ command_number self }
     {
-        match self {
-            SetupCommand::EnableAck => 0xF0,
-            SetupCommand::GetInformation => 0xF1,
-            SetupCommand::GetSettings => 0xF3,
-            SetupCommand::EraseSettings => 0xFD,
-            SetupCommand::SaveSettings => 0xFE,
-            SetupCommand::Reset => 0xFF,
-        }
+        self as u8
     }
 
     // The command with this number, if any.

@@ -112,7 +112,7 @@ pub fn read_to_module(payload: &[u8]) -> Result<ToModule, Refusal>
     ensures { to_module_of result ≡ read_to_module payload.now }
 {
     let len = payload.len();
-    ensure(2 <= len && len <= 256, Refusal::Length)?;
+    ensure(matches!(len, 2..=256), Refusal::Length)?;
     let address = payload[0];
     let command = payload[1];
     if address == 0xDB {
