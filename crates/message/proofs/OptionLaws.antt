@@ -1,12 +1,11 @@
 -- Laws on the bytes of options, and on what an option string says, option by option.
 -- Assumes nothing.
 use Prim.Native.Nat.{ℕ, ◌+◌, ◌≤◌, ◌<◌}
-use native.Mathlib.Numerals.{add-one}
 use native.Mathlib.Omega.{arith}
-use mathlib.Core.Path.{◌≡◌, refl, ap, ◌∙◌}
+use mathlib.Core.Path.{◌≡◌, refl}
 use mathlib.Core.List.{List, [], ◌∷◌, ◌++◌, append_assoc}
 use lib.ListN.{length, get_or, drop, length-drop, drop_of_length-le}
-use lib.Seq.{drop-cons}
+use Rattle.std.proofs.lemmas.List.{drop_more}
 use Rattle.message.specs.declared.options.Options.{Options}
 use Rattle.message.specs.Options.{Expected, first_of, bad, options_from}
 use Rattle.message.specs.Options.{flag_bytes, retry_bytes, word_bytes, option_bytes}
@@ -21,22 +20,7 @@ options_behind p o = simp append_assoc
 
 -- What is left of a list begins with the element there.
 pub drop_one : (s : List ℕ) (i : ℕ) → i < length s → drop i s ≡ get_or s i 0 ∷ drop (i + 1) s
-drop_one s i h = rw add-one (drop-cons s i 0 h)
-
--- What is left of a list begins with the two elements there.
-pub drop_two : (s : List ℕ) (i : ℕ) → i + 1 < length s → drop i s ≡ get_or s i 0 ∷ get_or s (i + 1) 0 ∷ drop (i + 2) s
-drop_two s i h =
-    let two : i + 1 + 1 ≡ i + 2 = omega arith in
-    drop_one s i (omega arith) ∙ ap (λ (l : List ℕ). get_or s i 0 ∷ l)
-    (drop_one s (i + 1) h ∙ ap (λ (k : ℕ). get_or s (i + 1) 0 ∷ drop k s) two)
-
--- What is left of a list begins with the three elements there.
-pub drop_three : (s : List ℕ) (i : ℕ) → i + 2 < length s
-    → drop i s ≡ get_or s i 0 ∷ get_or s (i + 1) 0 ∷ get_or s (i + 1 + 1) 0 ∷ drop (i + 3) s
-drop_three s i h =
-    let three : i + 1 + 2 ≡ i + 3 = omega arith in
-    drop_one s i (omega arith) ∙ ap (λ (l : List ℕ). get_or s i 0 ∷ l)
-    (drop_two s (i + 1) (omega arith) ∙ ap (λ (k : ℕ). get_or s (i + 1) 0 ∷ get_or s (i + 1 + 1) 0 ∷ drop k s) three)
+drop_one s i h = drop_more s i 0 h
 
 -- Nothing left is bad.
 pub nothing_left : (e : Expected) (o : Options) (at : ℕ) (s : List ℕ) (i : ℕ) → length s ≤ i → options_from e o at (drop i s) ≡ bad
