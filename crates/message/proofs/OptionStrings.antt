@@ -1,6 +1,8 @@
 -- What an option string that is read is made of.
 -- Assumes nothing.
+use Rattle.std.specs.Prelude.{Option, Some, None, is_some}
 use Prim.Native.Nat.{ℕ, zero, suc, ◌+◌, ◌-◌, ◌*◌, ◌≤◌}
+use mathlib.Core.Bool.{and-eq-true_iff}
 use mathlib.Core.Path.{◌≡◌, refl, sym, ap, subst, ◌∙◌}
 use mathlib.Core.List.Permᴰ
 use mathlib.Core.List.Permᴰ.{trans}
@@ -15,13 +17,10 @@ use Rattle.frame.specs.Elements.{Bytes}
 use Rattle.message.specs.Number.{bytes2}
 use Rattle.message.specs.Options.{no_options, has_option, give_flag, give_retries, word_or, give_word, is_retry, is_option, retry_allowed}
 use Rattle.message.specs.Options.{bad, opted, Expected, option, retry_byte, first_of, second_of, expected_after, given_after, options_from}
-use Rattle.message.specs.Options.{byte_given, word_given, flag_bytes, retry_bytes, word_bytes, option_bytes, option_groups, option_string}
-use Rattle.message.specs.declared.options.MaybeByte.{MaybeByte}
-use Rattle.message.specs.declared.options.MaybeByte.TheVariants.{NotGiven as NoByte, Given as Byte}
-use Rattle.message.specs.declared.options.MaybeWord.{MaybeWord}
-use Rattle.message.specs.declared.options.MaybeWord.TheVariants.{NotGiven as NoWord, Given as Word}
+use Rattle.message.specs.Options.{flag_bytes, retry_bytes, word_bytes, option_bytes, option_groups, option_string}
 use Rattle.message.specs.declared.options.Options.{Options}
-use Rattle.message.proofs.Numbers.{both_true, choose, word_bytes_lem}
+use Rattle.message.proofs.Numbers.{choose}
+use Rattle.message.proofs.Lists.{word_bytes_lem}
 use Rattle.message.proofs.OptionGroups.{full, empty, completed, with_empty, filled, one_more_lem, as_long}
 
 -- The group of an option that is not given is empty.
@@ -29,13 +28,13 @@ flag_empty : (id : ℕ) (b : Bool) → b ≡ false → flag_bytes id b ≡ []
 flag_empty id true e = absurd (true≢false e)
 flag_empty id false e = refl
 
-byte_empty : (r : MaybeByte) → byte_given r ≡ false → retry_bytes r ≡ []
-byte_empty NoByte e = refl
-byte_empty (Byte b) e = absurd (true≢false e)
+byte_empty : (r : Option ℕ) → is_some r ≡ false → retry_bytes r ≡ []
+byte_empty None e = refl
+byte_empty (Some b) e = absurd (true≢false e)
 
-word_empty : (id : ℕ) (w : MaybeWord) → word_given w ≡ false → word_bytes id w ≡ []
-word_empty id NoWord e = refl
-word_empty id (Word v) e = absurd (true≢false e)
+word_empty : (id : ℕ) (w : Option ℕ) → is_some w ≡ false → word_bytes id w ≡ []
+word_empty id None e = refl
+word_empty id (Some v) e = absurd (true≢false e)
 
 -- With the group g more, the options o are the options `given`.
 abbrev Adds : Options → List ℕ → Options → Type 0
@@ -133,7 +132,7 @@ one_to_eight P a b c d e f g h (suc (suc (suc (suc (suc (suc (suc (suc (suc n)))
 follows : (o : Options) (id : ℕ) → is_option id ≡ true → has_option o id ≡ false → Follows o id (expected_after id) (given_after o id)
 unfolding is_option has_option expected_after given_after give_flag word_or
 follows o id known =
-    let both = both_true (leb 0x01 id) (leb id 0x08) known in
+    let both = (and-eq-true_iff (leb 0x01 id) (leb id 0x08)).0 known in
     let gs : List (List ℕ) = option_groups o in
     one_to_eight
     (λ id. has_option o id ≡ false → Follows o id (expected_after id) (given_after o id))
@@ -160,7 +159,7 @@ at_end given k s = refl
 
 -- What is bad gives no options.
 pub never : {A : Type 0} {o : Options} {end : ℕ} → bad ≡ opted o end → A
-never e = let z : ◌≡◌ {A = ℕ} 0 1 = cc in absurd (omega arith)
+never e = absurd (cc)
 
 -- A string of just FF.
 ended : (given : Options) (at id : ℕ) (s : List ℕ) (o : Options) (end : ℕ) → retry_allowed given.retries ≡ true → id ≡ 0xFF →

@@ -1,6 +1,8 @@
 -- The ways in which a payload is read as a message.
 -- Assumes nothing.
+use Rattle.std.specs.Prelude.{Option, Some, None}
 use Prim.Native.Nat.{ℕ, ◌-◌, ◌≤◌}
+use mathlib.Core.Bool.{and-eq-true_iff}
 use mathlib.Core.Path.{◌≡◌, refl, sym, subst}
 use mathlib.Core.List.{List, [], ◌∷◌}
 use mathlib.Core.Bool.{Bool, true, false, cond, ◌&&◌}
@@ -19,8 +21,6 @@ use Rattle.message.specs.Setup.{command_number, named, commands, command_of, inf
 use Rattle.message.specs.Status.{standard_at, remote_at}
 use Rattle.message.specs.declared.options.Options.{Options}
 use Rattle.message.specs.declared.setup.SetupCommand.{SetupCommand}
-use Rattle.message.specs.declared.setup.NamedCommand.{NamedCommand}
-use Rattle.message.specs.declared.setup.NamedCommand.TheVariants.{Known, Unknown}
 use Rattle.message.specs.declared.setup.SetupReport.TheVariants.{Acknowledged, Information as IsInformation, SettingsFailed, SilentMode}
 use Rattle.message.specs.declared.to_module.Address.{Address}
 use Rattle.message.specs.declared.to_module.Address.TheVariants.{Plain, Extended as ExtendedAddress}
@@ -31,7 +31,7 @@ use Rattle.message.specs.declared.from_module.Delivery.TheVariants.{Simple as Si
 use Rattle.message.specs.declared.from_module.Outcome.TheVariants.{Failure, Success}
 use Rattle.message.specs.declared.from_module.Notice.{Notice}
 use Rattle.message.specs.declared.from_module.Notice.TheVariants.{Response as IsResponse, Standard, Remote, Setup}
-use Rattle.message.proofs.Numbers.{both_true, choose}
+use Rattle.message.proofs.Numbers.{choose}
 use Rattle.message.proofs.OptionStrings.{Encoded, encoded}
 
 module _ {A B : Type 0} where
@@ -51,7 +51,7 @@ in_range : {A B : Type 0} (n : ℕ) {x r : Meaning A B} → cond (leb 2 n && leb
     (2 ≤ n) × (n ≤ 256) × (x ≡ r)
 in_range n e i =
     let on = read_on (leb 2 n && leb n 256) 7 e i in
-    let both = both_true (leb 2 n) (leb n 256) on.0 in
+    let both = (and-eq-true_iff (leb 2 n) (leb n 256)).0 on.0 in
     (leb-true 2 n both.0, leb-true n 256 both.1, on.1)
 
 -- The options and the data behind an address of `at` bytes.
@@ -84,11 +84,11 @@ pub data ToWay (p : List ℕ) (r : Meaning Request Order) : Type 0 where
   commanded : (c : SetupCommand) → byte_at p 0 ≡ 0xDB → byte_at p 1 ≡ command_number c → length p ≡ 2 → bare (setup c) ≡ r → ToWay p r
 
 -- A number that names a command is the command's number.
-abbrev Names : ℕ → NamedCommand → Type 0
-Names n Unknown = Unit {0}
-Names n (Known c) = n ≡ command_number c
+abbrev Names : ℕ → Option SetupCommand → Type 0
+Names n None = Unit {0}
+Names n (Some c) = n ≡ command_number c
 
-named_first : (n : ℕ) (c : SetupCommand) (q : NamedCommand) (t : Bool) → eqb n (command_number c) ≡ t → Names n q → Names n (cond t (Known c) q)
+named_first : (n : ℕ) (c : SetupCommand) (q : Option SetupCommand) (t : Bool) → eqb n (command_number c) ≡ t → Names n q → Names n (cond t (Some c) q)
 named_first n c q true e h = eqb-true n (command_number c) e
 named_first n c q false e h = h
 
@@ -102,8 +102,8 @@ module _ (p : List ℕ) {r : Meaning Request Order} (is : IsMessage r) where
   change_way plain command e =
       let fits = read_on (eqb (length p) 15) 7 e is in
       let fixed = read_on (eqb (byte_at p 2) 0x01 && (eqb (long_at p 7) 0 && eqb (long_at p 11) 0)) 11 fits.1 is in
-      let first = both_true (eqb (byte_at p 2) 0x01) (eqb (long_at p 7) 0 && eqb (long_at p 11) 0) fixed.0 in
-      let others = both_true (eqb (long_at p 7) 0) (eqb (long_at p 11) 0) first.1 in
+      let first = (and-eq-true_iff (eqb (byte_at p 2) 0x01) (eqb (long_at p 7) 0 && eqb (long_at p 11) 0)).0 fixed.0 in
+      let others = (and-eq-true_iff (eqb (long_at p 7) 0) (eqb (long_at p 11) 0)).0 first.1 in
       changed
       plain
       command
@@ -139,11 +139,11 @@ module _ (p : List ℕ) {r : Meaning Request Order} (is : IsMessage r) where
       choose (eqb (byte_at p 0) 0x80) e (λ place. extended_way (eqb-true (byte_at p 0) 0x80 place))
       (λ other on. let plain = read_on (is_plain (byte_at p 0)) 8 on is in plain_way two plain.0 plain.1)
 
-  command_way : byte_at p 0 ≡ 0xDB → (q : NamedCommand) → Names (byte_at p 1) q → command_as q p ≡ r → ToWay p r
-  command_way place (Known c) names e =
+  command_way : byte_at p 0 ≡ 0xDB → (q : Option SetupCommand) → Names (byte_at p 1) q → command_as q p ≡ r → ToWay p r
+  command_way place (Some c) names e =
       let long = read_on (eqb (length p) 2) 7 e is in
       commanded c place names (eqb-true (length p) 2 long.0) long.1
-  command_way place Unknown names e = absurd (subst IsMessage (sym e) is)
+  command_way place None names e = absurd (subst IsMessage (sym e) is)
 
   itself_way : 2 ≤ length p → byte_at p 0 ≡ 0xDB → to_itself p ≡ r → ToWay p r
   unfolding to_itself command_of
@@ -220,7 +220,7 @@ module _ (p : List ℕ) {r : Meaning Delivery Notice} (is : IsMessage r) where
   settings_way two place command e =
       choose (eqb (length p) 3 && eqb (byte_at p 2) 0xFF) e
       (λ fails.
-      let both = both_true (eqb (length p) 3) (eqb (byte_at p 2) 0xFF) fails in
+      let both = (and-eq-true_iff (eqb (length p) 3) (eqb (byte_at p 2) 0xFF)).0 fails in
       failed place command (eqb-true (length p) 3 both.0) (eqb-true (byte_at p 2) 0xFF both.1))
       (λ other on.
       let listed = read_on (is_list (drop 2 p)) 17 on is in
@@ -231,7 +231,7 @@ module _ (p : List ℕ) {r : Meaning Delivery Notice} (is : IsMessage r) where
   control_way place command e =
       let long = read_on (eqb (length p) 4) 7 e is in
       let fixed = read_on (eqb (byte_at p 2) 0x11 && leb (byte_at p 3) 1) 11 long.1 is in
-      let both = both_true (eqb (byte_at p 2) 0x11) (leb (byte_at p 3) 1) fixed.0 in
+      let both = (and-eq-true_iff (eqb (byte_at p 2) 0x11) (leb (byte_at p 3) 1)).0 fixed.0 in
       control
       place
       command
@@ -264,7 +264,7 @@ module _ (p : List ℕ) {r : Meaning Delivery Notice} (is : IsMessage r) where
       (λ other on.
       let long = read_on (eqb (length p) 20) 7 on is in
       let fixed = read_on (eqb (byte_at p 2) 0x0F && eqb (byte_at p 3) 0x01) 11 long.1 is in
-      let both = both_true (eqb (byte_at p 2) 0x0F) (eqb (byte_at p 3) 0x01) fixed.0 in
+      let both = (and-eq-true_iff (eqb (byte_at p 2) 0x0F) (eqb (byte_at p 3) 0x01)).0 fixed.0 in
       remote
       plain
       command

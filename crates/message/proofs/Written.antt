@@ -1,6 +1,8 @@
 -- What stands in the buffer where a write answers with a length, and when it does so.
 -- Assumes nothing.
+use Rattle.std.specs.Prelude.{Ok}
 use Prim.Native.Nat.{ℕ, ◌≤◌}
+use mathlib.Core.Bool.{and-eq-true_iff}
 use mathlib.Core.Path.{◌≡◌, refl, sym, ap, ◌∙◌}
 use mathlib.Core.List.{List}
 use mathlib.Core.Bool.{Bool, true, false, cond, true≢false}
@@ -13,8 +15,6 @@ use Rattle.frame.specs.Framing.{layout, in_front}
 use Rattle.frame.specs.Single.{Writing, length_writing, no_writing, writable}
 use Rattle.frame.specs.declared.framing.Framing.{Framing}
 use Rattle.message.specs.Write.{Writes}
-use Rattle.message.specs.declared.write.WriteAnswer.TheVariants.{Written}
-use Rattle.message.proofs.Numbers.{both_true}
 
 -- A write that answers with a length was not refused.
 went_on : (t : Bool) (n : ℕ) {x : Writing} {len : ℕ} → (t ≡ false → n ≡ 0 → ⊥) → length_writing len ≡ cond t x (no_writing n) →
@@ -29,14 +29,14 @@ pub record Wrote (f : Framing) (refusal : ℕ) (p : List ℕ) (len : ℕ) (after
   pub count : len ≡ length (layout f p)
   pub front : take len after ≡ layout f p
 
-pub wrote : (f : Framing) (refusal : ℕ) (p buf : List ℕ) (len : ℕ) (after : List ℕ) → Writes f refusal p buf (Written len) after →
+pub wrote : (f : Framing) (refusal : ℕ) (p buf : List ℕ) (len : ℕ) (after : List ℕ) → Writes f refusal p buf (Ok len) after →
     Wrote f refusal p len after
 wrote f refusal p buf len after h =
     let out : List ℕ = layout f p in
     let none = went_on (eqb refusal 0) refusal (λ other e. true≢false (sym (eq-eqb refusal 0 e) ∙ other)) h.answers in
     let fits = went_on (writable p) 14 (λ t e. omega arith) none.1 in
     let room = went_on (leb (length out) (length buf)) 13 (λ t e. omega arith) fits.1 in
-    let both = both_true (leb 1 (length p)) (leb (length p) 256) fits.0 in
+    let both = (and-eq-true_iff (leb 1 (length p)) (leb (length p) 256)).0 fits.0 in
     let put : after ≡ in_front out buf = h.leaves ∙ rw (none.0, fits.0, room.0) in
     let count : len ≡ length out = ap (λ (w : Writing). w.len) room.1 in
     record {
@@ -48,7 +48,7 @@ wrote f refusal p buf len after h =
 
 -- Where all its tests hold, a write answers with the frame's length.
 pub wrote_back : (f : Framing) (refusal : ℕ) (p buf : List ℕ) → refusal ≡ 0 → 1 ≤ length p → length p ≤ 256 → length (layout f p) ≤ length buf →
-    Writes f refusal p buf (Written (length (layout f p))) (in_front (layout f p) buf)
+    Writes f refusal p buf (Ok (length (layout f p))) (in_front (layout f p) buf)
 wrote_back f refusal p buf none some most room =
     let allowed = eq-eqb refusal 0 none in
     let least = le-leb 1 (length p) some in
