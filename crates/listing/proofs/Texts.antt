@@ -1,4 +1,4 @@
-use Rattle.std.proofs.Common.{zero, suc, ◌*◌, ◌≡◌, ℕ, ◌+◌, ◌<◌, ◌∙◌, List, [], ◌∷◌, ◌++◌, length, take, drop, get_or, refl, ap, ap₂, subst, sym, append_assoc, append-nil, arith, length-append, length-drop}
+use Rattle.std.proofs.Common.{◌*◌, ◌≡◌, ℕ, ◌+◌, ◌∙◌, List, [], ◌∷◌, ◌++◌, length, take, drop, refl, ap, ap₂, subst, sym, append_assoc, append-nil, arith, length-append, length-drop}
 use Rattle.std.proofs.Math.Seq.{paste, take-length, drop-drop, take-append_seam, drop-append_seam}
 use lib.ListN.{length-take}
 use Rattle.std.proofs.lemmas.List.{take-append-drop}
