@@ -2,11 +2,11 @@
 // frame, then the total of noise. What is printed is worked out by the listing crate; here are the loop that reads and writes, and its counts.
 #![tactic(auto)]
 
-ghost use Rattle.std.specs.Prelude.{◌≡◌, ◌≤◌, length};
+ghost use Rattle.std.specs.Prelude.{◌≡◌, ◌≤◌, length, IfSome};
 ghost use Rattle.listing.specs.Listing.{values_of};
 
-use frame::{Framing, WriteAnswer};
-use listing::{CHUNK_ROOM, ListAnswer, list_chunk, list_quiet, list_total};
+use frame::{Framing, Refusal};
+use listing::{CHUNK_ROOM, Lines, list_chunk, list_quiet, list_total};
 use reader::Reader;
 use std::io::Read;
 
@@ -17,24 +17,14 @@ const STDOUT_FILENO: i32 = 1;
 // the input's end.
 const READS: u64 = 0x400000000000;
 
-// Writes the text of an answer, which is in the front of out, and says whether all of it was written.
-fn write_text(answer: ListAnswer, out: &[u8]) -> bool
+// Writes the lines of an answer, which are in the front of out, and gives their noise: none where the answer is refused, or not all was written.
+fn write_lines(answer: Result<Lines, Refusal>, out: &[u8]) -> Option<u64>
     requires { (values_of answer).len ≤ length out.now }
+    ensures { IfSome result (λ noise. noise ≡ (values_of answer).noise) }
 {
-    match answer {
-        ListAnswer::Lines { len, .. } => io::write_all(STDOUT_FILENO, &out[..len]),
-        ListAnswer::Refused(_) => false,
-    }
-}
-
-// The noise of an answer, which is none where it is refused.
-fn noise_of(answer: ListAnswer) -> u64
-    ensures { result ≡ (values_of answer).noise }
-{
-    match answer {
-        ListAnswer::Lines { noise, .. } => noise as u64,
-        ListAnswer::Refused(_) => 0,
-    }
+    let lines = answer.ok()?;
+    let written = io::write_all(STDOUT_FILENO, &out[..lines.len]);
+    written.then_some(lines.noise as u64)
 }
 
 // The input has ended after `noise` bytes of noise: lists what the reader still holds, and the total.
@@ -42,15 +32,11 @@ fn finish(reader: Reader, noise: u64, out: &mut [u8])
     requires { noise ≤ 0x8000000000000000 }
 {
     let listed = list_quiet(reader, out);
-    let answer = listed.answer;
-    if !write_text(answer, &out[..]) {
+    let Some(more) = write_lines(listed.answer, out) else {
         return;
-    }
-    match list_total(noise + noise_of(answer), out) {
-        WriteAnswer::Written(len) => {
-            io::write_all(STDOUT_FILENO, &out[..len]);
-        }
-        WriteAnswer::Refused(_) => {}
+    };
+    if let Ok(len) = list_total(noise + more, out) {
+        io::write_all(STDOUT_FILENO, &out[..len]);
     }
 }
 
@@ -61,21 +47,17 @@ fn main(rt: HostRuntime) {
     let mut out = [0u8; CHUNK_ROOM];
     let mut reader = Reader::new(Framing::Ascii);
     let mut noise: u64 = 0;
-    let mut reads = READS;
-    while 0 < reads {
+    for _ in 0..READS {
         let n = input.read(&mut chunk).unwrap_or(0);
         if n == 0 {
-            finish(reader, noise, &mut out);
-            return;
+            break;
         }
         let listed = list_chunk(reader, &chunk[..n], &mut out);
-        let answer = listed.answer;
-        if !write_text(answer, &out[..]) {
+        let Some(more) = write_lines(listed.answer, &out) else {
             return;
-        }
-        noise += noise_of(answer);
+        };
+        noise += more;
         reader = listed.reader;
-        reads -= 1;
     }
     finish(reader, noise, &mut out);
 }

