@@ -7,6 +7,7 @@ use mathlib.Core.List.{List}
 use mathlib.Core.Bool.{Bool, true, false, cond, true≢false}
 use lib.Dec.{eqb, leb}
 use borrow.Author.Tests.{leb-true, ne_eqb}
+use Rattle.std.proofs.Common.{Option, Some, None, Ok, Err}
 use Rattle.frame.specs.Framing.{format_of as default_format}
 use Rattle.frame.specs.declared.framing.Framing.{Framing}
 use Rattle.frame.specs.declared.framing.Framing.TheVariants.{Binary as BinaryFraming, Ascii as AsciiFraming}
@@ -43,7 +44,8 @@ use Rattle.message.specs.declared.from_module.Outcome.{Outcome}
 use Rattle.message.specs.declared.from_module.Outcome.TheVariants.{Failure, Success}
 use Rattle.message.specs.declared.from_module.Notice.{Notice}
 use Rattle.message.specs.declared.from_module.Notice.TheVariants.{Response as IsResponse, Standard, Remote, Setup}
-use Rattle.boundary.specs.Framing.{framing_of, format_of, format_number, unknown_number}
+use Rattle.boundary.specs.Unnamed.{unknown_number}
+use Rattle.boundary.specs.Framing.{framing_of, format_of, format_number}
 use Rattle.boundary.specs.Line.{flat_values, mark_number, mark_in, flat_reader, format_in, reader_in, FeedsFlat, QuietsFlat}
 use Rattle.boundary.specs.Claims.{CrossesBack, ZeroWithoutFrame, NoneIsZero}
 use Rattle.boundary.specs.Options.{byte_of, word_of, byte_in, word_in, option_numbers, options_in}
@@ -51,25 +53,20 @@ use Rattle.boundary.specs.ToModule.{transmission_numbers, request_numbers, setup
 use Rattle.boundary.specs.ToModule.{address_kind, change_refusal_in, setup_refusal_in}
 use Rattle.boundary.specs.FromModule.{delivery_numbers, response_numbers, report_numbers, notice_numbers}
 use Rattle.boundary.specs.FromModule.{delivery_in, response_in, silent_mode_in, report_in, notice_in}
-use Rattle.boundary.specs.declared.framing.NamedFraming.TheVariants.{Known as KnownFraming, Unknown as NoFraming}
-use Rattle.boundary.specs.declared.framing.NamedFormat.{NamedFormat}
-use Rattle.boundary.specs.declared.framing.NamedFormat.TheVariants.{Known as KnownFormat, Unknown as NoFormat}
+use Rattle.boundary.specs.declared.unnamed.Unnamed.TheVariants.{Kind}
 use Rattle.boundary.specs.declared.line.LineReader.{LineReader}
 use Rattle.boundary.specs.declared.line.LineAnswer.{LineAnswer}
 use Rattle.boundary.specs.declared.line.LineFed.{LineFed}
-use Rattle.boundary.specs.declared.to_module.NamedRequest.TheVariants.{Known as KnownRequest}
-use Rattle.boundary.specs.declared.from_module.NamedDelivery.TheVariants.{Known as KnownDelivery, Unknown as NoDelivery}
-use Rattle.boundary.specs.declared.from_module.NamedNotice.TheVariants.{Known as KnownNotice, Unknown as NoNotice}
 
 -- Formats, framings and states.
-format : (m : Format) → format_of (format_number m) ≡ KnownFormat m
+format : (m : Format) → format_of (format_number m) ≡ Some m
 unfolding format_of
 format (Binary Optional) = refl
 format (Binary Required) = refl
 format (Ascii CrLf) = refl
 format (Ascii Any) = refl
 
-framing : (f : Framing) → framing_of (format_number (default_format f)) ≡ KnownFraming f
+framing : (f : Framing) → framing_of (format_number (default_format f)) ≡ Some f
 unfolding framing_of
 framing BinaryFraming = refl
 framing AsciiFraming = refl
@@ -77,11 +74,11 @@ framing AsciiFraming = refl
 above : (n k : ℕ) → k < n → eqb n k ≡ false
 above n k l = ne_eqb n k (λ (e : n ≡ k). let z : ⊥ = omega arith in z)
 
-no_format_lem : (n : ℕ) → 3 < n → format_of n ≡ NoFormat
+no_format_lem : (n : ℕ) → 3 < n → format_of n ≡ None
 unfolding format_of
 no_format_lem n l = rw (above n 0 (omega arith), above n 1 (omega arith), above n 2 (omega arith), above n 3 l)
 
-no_framing_lem : (n : ℕ) → 1 < n → framing_of n ≡ NoFraming
+no_framing_lem : (n : ℕ) → 1 < n → framing_of n ≡ None
 unfolding framing_of
 no_framing_lem n l = rw (above n 0 (omega arith), above n 1 l)
 
@@ -96,12 +93,12 @@ mark_known : (follows : Bool) → leb (mark_number follows) 1 ≡ true
 mark_known true = refl
 mark_known false = refl
 
-reader_format_lem : (r : Reader) → format_in (flat_reader r) ≡ KnownFormat r.format
+reader_format_lem : (r : Reader) → format_in (flat_reader r) ≡ Some r.format
 unfolding format_in
 reader_format_lem r = rw (mark_known r.follows, format r.format)
 
 -- A state that crossed: its numbers are those of what they stand for.
-format_back : (n : ℕ) (m : Format) → format_of n ≡ KnownFormat m → format_number m ≡ n
+format_back : (n : ℕ) (m : Format) → format_of n ≡ Some m → format_number m ≡ n
 unfolding format_of
 format_back zero m e = cc
 format_back (suc zero) m e = cc
@@ -114,15 +111,15 @@ mark_back zero e = refl
 mark_back (suc zero) e = refl
 mark_back (suc (suc n)) e = let l = leb-true (suc (suc n)) 1 e in absurd (let z : ⊥ = omega arith in z)
 
-known_mark : (t : Bool) (x : NamedFormat) (m : Format) → cond t x NoFormat ≡ KnownFormat m → t ≡ true
+known_mark : (t : Bool) (x : Option Format) (m : Format) → cond t x None ≡ Some m → t ≡ true
 known_mark true x m e = refl
 known_mark false x m e = cc
 
-known_format : (t : Bool) (x : NamedFormat) (m : Format) → cond t x NoFormat ≡ KnownFormat m → x ≡ KnownFormat m
+known_format : (t : Bool) (x : Option Format) (m : Format) → cond t x None ≡ Some m → x ≡ Some m
 known_format true x m e = e
 known_format false x m e = cc
 
-given_back_lem : (r : LineReader) (m : Format) → format_in r ≡ KnownFormat m → flat_reader (reader_in m r) ≡ r
+given_back_lem : (r : LineReader) (m : Format) → format_in r ≡ Some m → flat_reader (reader_in m r) ≡ r
 unfolding format_in
 given_back_lem r m e =
     rw (format_back r.format m (known_format (leb r.follows 1) _ m e), mark_back r.follows (known_mark _ (format_of r.format) m e))
@@ -156,7 +153,7 @@ options o = rw (byte o.retries, word o.lower_delay, word o.upper_delay, word o.i
 -- Messages to the module. Of an extended one the kind is by its address.
 transmission : (a : Address) (id : ℕ) (o : Options) (start : ℕ) →
     let m : Transmission = record { address = a; response_id = id; options = o } in
-    request_in (transmission_numbers m start) ≡ KnownRequest (ExtendedRequest m)
+    request_in (transmission_numbers m start) ≡ Some (ExtendedRequest m)
 unfolding request_in transmission_in transmission_numbers
 transmission (Plain a) id o start = rw (options o)
 transmission (Extended w) id o start = rw (options o)
@@ -169,7 +166,7 @@ kind_no_setup : (a : Address) → eqb (address_kind a) 6 ≡ false
 kind_no_setup (Plain a) = refl
 kind_no_setup (Extended w) = refl
 
-request : (m : Request) (start : ℕ) → request_in (request_numbers m start) ≡ KnownRequest m
+request : (m : Request) (start : ℕ) → request_in (request_numbers m start) ≡ Some m
 unfolding request_in request_numbers
 request (SimpleRequest m) start = refl
 request (ExtendedRequest m) start = transmission m.address m.response_id m.options start
@@ -188,24 +185,24 @@ request_no_setup_lem (ExtendedRequest m) start = rw (kind_no_setup m.address)
 request_no_setup_lem SettingsRequest start = refl
 
 -- Messages from the module.
-delivery : (m : Delivery) (start : ℕ) → delivery_in (delivery_numbers m start) ≡ KnownDelivery m
+delivery : (m : Delivery) (start : ℕ) → delivery_in (delivery_numbers m start) ≡ Some m
 unfolding delivery_in delivery_numbers
 delivery (SimpleDelivery m) start = refl
 delivery (ExtendedDelivery m) start = refl
 delivery SettingsDelivery start = refl
 
-delivery_no_notice_lem : (m : Delivery) (start : ℕ) → notice_in (delivery_numbers m start) ≡ NoNotice
+delivery_no_notice_lem : (m : Delivery) (start : ℕ) → notice_in (delivery_numbers m start) ≡ Err Kind
 unfolding notice_in delivery_numbers
 delivery_no_notice_lem (SimpleDelivery m) start = refl
 delivery_no_notice_lem (ExtendedDelivery m) start = refl
 delivery_no_notice_lem SettingsDelivery start = refl
 
-response : (id : ℕ) (o : Outcome) → response_in id (outcome_byte o) ≡ KnownNotice (IsResponse (record { id = id; outcome = o }))
+response : (id : ℕ) (o : Outcome) → response_in id (outcome_byte o) ≡ Ok (IsResponse (record { id = id; outcome = o }))
 unfolding response_in
 response id Failure = refl
 response id Success = refl
 
-notice : (m : Notice) → notice_in (notice_numbers m) ≡ KnownNotice m
+notice : (m : Notice) → notice_in (notice_numbers m) ≡ Ok m
 unfolding notice_in notice_numbers response_numbers silent_mode_in report_in report_numbers
 notice (IsResponse m) = response m.id m.outcome
 notice (Standard m) = refl
@@ -216,7 +213,7 @@ notice (Setup SettingsFailed) = refl
 notice (Setup (SilentMode true)) = refl
 notice (Setup (SilentMode false)) = refl
 
-notice_no_delivery_lem : (m : Notice) → delivery_in (notice_numbers m) ≡ NoDelivery
+notice_no_delivery_lem : (m : Notice) → delivery_in (notice_numbers m) ≡ None
 unfolding delivery_in notice_numbers response_numbers report_numbers
 notice_no_delivery_lem (IsResponse m) = refl
 notice_no_delivery_lem (Standard m) = refl
@@ -273,16 +270,16 @@ zero_crosses : {a b : LineAnswer} → a ≡ b → (b.is_frame ≡ false → Zero
 zero_crosses e none n = subst ZeroWithoutFrame (sym e) (none (ap (λ (x : LineAnswer). x.is_frame) (sym e) ∙ n))
 
 at_line_lem :
-    (m : NamedFormat) (r : LineReader) (chunk buf : List ℕ) (fed : LineFed) (after : List ℕ) → FeedsFlat m r chunk buf fed after →
+    (m : Option Format) (r : LineReader) (chunk buf : List ℕ) (fed : LineFed) (after : List ℕ) → FeedsFlat m r chunk buf fed after →
     fed.answer.is_frame ≡ false → ZeroWithoutFrame fed.answer
-at_line_lem (KnownFormat f) r chunk buf fed after p = zero_crosses (ap (λ (x : LineFed). x.answer) p.crosses) (fed_zero p.answer.answer)
-at_line_lem NoFormat r chunk buf fed after p = zero_crosses (ap (λ (x : LineFed). x.answer) p.refuses) (λ _. record { len = refl; began = refl })
+at_line_lem (Some f) r chunk buf fed after p = zero_crosses (ap (λ (x : LineFed). x.answer) p.crosses) (fed_zero p.answer.answer)
+at_line_lem None r chunk buf fed after p = zero_crosses (ap (λ (x : LineFed). x.answer) p.refuses) (λ _. record { len = refl; began = refl })
 
 at_quiet_lem :
-    (m : NamedFormat) (r : LineReader) (buf : List ℕ) (fed : LineFed) (after : List ℕ) → QuietsFlat m r buf fed after →
+    (m : Option Format) (r : LineReader) (buf : List ℕ) (fed : LineFed) (after : List ℕ) → QuietsFlat m r buf fed after →
     fed.answer.is_frame ≡ false → ZeroWithoutFrame fed.answer
-at_quiet_lem (KnownFormat f) r buf fed after p = zero_crosses (ap (λ (x : LineFed). x.answer) p.crosses) (quiet_zero p.answer.answer)
-at_quiet_lem NoFormat r buf fed after p = zero_crosses (ap (λ (x : LineFed). x.answer) p.refuses) (λ _. record { len = refl; began = refl })
+at_quiet_lem (Some f) r buf fed after p = zero_crosses (ap (λ (x : LineFed). x.answer) p.crosses) (quiet_zero p.answer.answer)
+at_quiet_lem None r buf fed after p = zero_crosses (ap (λ (x : LineFed). x.answer) p.refuses) (λ _. record { len = refl; began = refl })
 
 pub none_is_zero : NoneIsZero
 none_is_zero = record { at_line = at_line_lem; at_quiet = at_quiet_lem }

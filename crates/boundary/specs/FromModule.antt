@@ -1,6 +1,7 @@
 -- Messages from the module as numbers. The kinds: 0 a refusal, 1 simple, 2 extended, 3 a response, 4 a standard status, 5 a remote status, 6 a settings
 -- list, 7 a report of the module on itself, by its command. A field that a kind does not have is 0 in reading and is not looked at in writing.
-use Rattle.std.specs.Prelude.{ℕ, List, [], true, false, cond, eqb}
+use Rattle.std.specs.Prelude.{ℕ, List, [], true, false, cond, eqb, Option, Some, None, Result, Ok, Err}
+use Rattle.frame.specs.declared.framing.Framing.{Framing}
 use Rattle.message.specs.Meaning.{Meaning, refused, carrying, bare}
 use Rattle.message.specs.FromModule.{outcome_byte, delivery_refusal, delivery_layout, notice_refusal, notice_layout}
 use Rattle.message.specs.Setup.{state_byte}
@@ -17,18 +18,15 @@ use Rattle.message.specs.declared.from_module.Outcome.TheVariants.{Failure, Succ
 use Rattle.message.specs.declared.from_module.Response.{Response}
 use Rattle.message.specs.declared.from_module.Notice.{Notice}
 use Rattle.message.specs.declared.from_module.Notice.TheVariants.{Response as IsResponse, Standard, Remote, Setup}
-use Rattle.boundary.specs.Framing.{unknown_number}
+use Rattle.boundary.specs.Unnamed.{unknown_number, number_of}
 use Rattle.boundary.specs.Single.{WritesFlat}
 use Rattle.boundary.specs.Status.{no_status, standard_part, remote_part, standard_in, remote_in}
-use Rattle.boundary.specs.declared.framing.NamedFraming.{NamedFraming}
+use Rattle.boundary.specs.declared.unnamed.Unnamed.{Unnamed}
+use Rattle.boundary.specs.declared.unnamed.Unnamed.TheVariants.{Kind, Command, Flag}
 use Rattle.boundary.specs.declared.single.FlatWriting.{FlatWriting}
 use Rattle.boundary.specs.declared.status.StatusNumbers.{StatusNumbers}
 use Rattle.boundary.specs.declared.from_module.InformationNumbers.{InformationNumbers}
 use Rattle.boundary.specs.declared.from_module.FromModuleNumbers.{FromModuleNumbers}
-use Rattle.boundary.specs.declared.from_module.NamedDelivery.{NamedDelivery}
-use Rattle.boundary.specs.declared.from_module.NamedDelivery.TheVariants.{Known, Unknown}
-use Rattle.boundary.specs.declared.from_module.NamedNotice.{NamedNotice}
-use Rattle.boundary.specs.declared.from_module.NamedNotice.TheVariants.{Known as KnownNotice, BadResult, BadCommand, Unknown as NoNotice}
 
 -- The information of F1 as numbers; of a message that has none; and what the numbers stand for.
 abbrev pub information_numbers : Information → InformationNumbers
@@ -207,11 +205,11 @@ from_module_numbers (carrying m start) = delivery_numbers m start
 from_module_numbers (bare m) = notice_numbers m
 
 -- The message that numbers stand for.
-unfoldable pub delivery_in : FromModuleNumbers → NamedDelivery
+unfoldable pub delivery_in : FromModuleNumbers → Option Delivery
 delivery_in n =
-    cond (eqb n.kind 1) (Known (SimpleDelivery (record { address = n.address; command = n.command })))
+    cond (eqb n.kind 1) (Some (SimpleDelivery (record { address = n.address; command = n.command })))
     (cond (eqb n.kind 2)
-    (Known
+    (Some
     (ExtendedDelivery
     (record {
       sender = n.address;
@@ -220,56 +218,51 @@ delivery_in n =
       destination = n.destination;
       lqi = n.lqi;
     })))
-    (cond (eqb n.kind 6) (Known Settings) Unknown))
+    (cond (eqb n.kind 6) (Some Settings) None))
 
-unfoldable pub response_in : ℕ → ℕ → NamedNotice
+unfoldable pub response_in : ℕ → ℕ → Result Notice Unnamed
 response_in id result =
-    cond (eqb result 0) (KnownNotice (IsResponse (record { id = id; outcome = Failure })))
-    (cond (eqb result 1) (KnownNotice (IsResponse (record { id = id; outcome = Success }))) BadResult)
+    cond (eqb result 0) (Ok (IsResponse (record { id = id; outcome = Failure })))
+    (cond (eqb result 1) (Ok (IsResponse (record { id = id; outcome = Success }))) (Err Flag))
 
-unfoldable pub silent_mode_in : ℕ → NamedNotice
+unfoldable pub silent_mode_in : ℕ → Result Notice Unnamed
 silent_mode_in result =
-    cond (eqb result 0) (KnownNotice (Setup (SilentMode false)))
-    (cond (eqb result 1) (KnownNotice (Setup (SilentMode true))) BadResult)
+    cond (eqb result 0) (Ok (Setup (SilentMode false)))
+    (cond (eqb result 1) (Ok (Setup (SilentMode true))) (Err Flag))
 
-unfoldable pub report_in : ℕ → ℕ → InformationNumbers → NamedNotice
+unfoldable pub report_in : ℕ → ℕ → InformationNumbers → Result Notice Unnamed
 report_in command result information =
-    cond (eqb command 0xF0) (KnownNotice (Setup Acknowledged))
-    (cond (eqb command 0xF1) (KnownNotice (Setup (IsInformation (information_in information))))
-    (cond (eqb command 0xF3) (KnownNotice (Setup SettingsFailed)) (cond (eqb command 0xF8) (silent_mode_in result) BadCommand)))
+    cond (eqb command 0xF0) (Ok (Setup Acknowledged))
+    (cond (eqb command 0xF1) (Ok (Setup (IsInformation (information_in information))))
+    (cond (eqb command 0xF3) (Ok (Setup SettingsFailed)) (cond (eqb command 0xF8) (silent_mode_in result) (Err Command))))
 
-unfoldable pub notice_in : FromModuleNumbers → NamedNotice
+unfoldable pub notice_in : FromModuleNumbers → Result Notice Unnamed
 notice_in n =
     cond (eqb n.kind 3) (response_in n.response_id n.result)
-    (cond (eqb n.kind 4) (KnownNotice (Standard (standard_in n.address n.lqi n.status)))
-    (cond (eqb n.kind 5) (KnownNotice (Remote (remote_in n.address n.lqi n.status)))
-    (cond (eqb n.kind 7) (report_in n.command n.result n.information) NoNotice)))
+    (cond (eqb n.kind 4) (Ok (Standard (standard_in n.address n.lqi n.status)))
+    (cond (eqb n.kind 5) (Ok (Remote (remote_in n.address n.lqi n.status)))
+    (cond (eqb n.kind 7) (report_in n.command n.result n.information) (Err Kind))))
 
--- Why they are not written, 0 for no reason, and the payload. A result that is neither 0 nor 1 is document 01's refusal 11, a number that names no command
--- its refusal 9.
-abbrev pub delivery_refusal_in : NamedDelivery → List ℕ → ℕ
-delivery_refusal_in (Known d) dat = delivery_refusal d dat
-delivery_refusal_in Unknown dat = unknown_number
+-- Why they are not written, 0 for no reason, and the payload.
+abbrev pub delivery_refusal_in : Option Delivery → List ℕ → ℕ
+delivery_refusal_in (Some d) dat = delivery_refusal d dat
+delivery_refusal_in None dat = unknown_number
 
-abbrev pub delivery_layout_in : NamedDelivery → List ℕ → List ℕ
-delivery_layout_in (Known d) dat = delivery_layout d dat
-delivery_layout_in Unknown dat = []
+abbrev pub delivery_layout_in : Option Delivery → List ℕ → List ℕ
+delivery_layout_in (Some d) dat = delivery_layout d dat
+delivery_layout_in None dat = []
 
-abbrev pub notice_refusal_in : NamedNotice → ℕ
-notice_refusal_in (KnownNotice m) = notice_refusal m
-notice_refusal_in BadResult = 11
-notice_refusal_in BadCommand = 9
-notice_refusal_in NoNotice = unknown_number
+abbrev pub notice_refusal_in : Result Notice Unnamed → ℕ
+notice_refusal_in (Ok m) = notice_refusal m
+notice_refusal_in (Err e) = number_of e
 
-abbrev pub notice_layout_in : NamedNotice → List ℕ
-notice_layout_in (KnownNotice m) = notice_layout m
-notice_layout_in BadResult = []
-notice_layout_in BadCommand = []
-notice_layout_in NoNotice = []
+abbrev pub notice_layout_in : Result Notice Unnamed → List ℕ
+notice_layout_in (Ok m) = notice_layout m
+notice_layout_in (Err e) = []
 
 -- The promise of a write of such a message into buf, which then holds `after`.
-abbrev pub WritesDelivery : NamedFraming → NamedDelivery → List ℕ → List ℕ → FlatWriting → List ℕ → Type 0
+abbrev pub WritesDelivery : Option Framing → Option Delivery → List ℕ → List ℕ → FlatWriting → List ℕ → Type 0
 WritesDelivery f d dat buf answer after = WritesFlat f (delivery_refusal_in d dat) (delivery_layout_in d dat) buf answer after
 
-abbrev pub WritesNotice : NamedFraming → NamedNotice → List ℕ → FlatWriting → List ℕ → Type 0
+abbrev pub WritesNotice : Option Framing → Result Notice Unnamed → List ℕ → FlatWriting → List ℕ → Type 0
 WritesNotice f m buf answer after = WritesFlat f (notice_refusal_in m) (notice_layout_in m) buf answer after

@@ -4,12 +4,13 @@ ghost use Rattle.message.specs.Setup.{state_byte};
 ghost use Rattle.message.specs.FromModule.{from_module_of, read_from_module, outcome_byte};
 ghost use Rattle.boundary.specs.Framing.{framing_of};
 ghost use Rattle.boundary.specs.FromModule.{delivery_numbers, response_numbers, standard_numbers, remote_numbers, report_numbers};
-ghost use Rattle.boundary.specs.FromModule.{notice_numbers, from_module_numbers, delivery_in, response_in, information_in, silent_mode_in, report_in, notice_in};
+ghost use Rattle.boundary.specs.FromModule.{notice_numbers, from_module_numbers, delivery_in, response_in, information_in, report_in, notice_in};
 ghost use Rattle.boundary.specs.FromModule.{WritesDelivery, WritesNotice};
 
-use crate::framing::{NamedFraming, framing_of};
+use crate::framing::framing_of;
 use crate::single::{FlatWriting, unwritten};
-use crate::status::{NO_STATUS, StatusNumbers, remote_in, standard_in};
+use crate::status::{StatusNumbers, remote_in, standard_in};
+use crate::unnamed::Unnamed;
 use crate::written::written_of;
 use message::{
     Delivery, FromModule, Information, Notice, Outcome, Reception, RemoteStatus, Response,
@@ -18,7 +19,7 @@ use message::{
 
 // The information of F1, its fields as in `message::Information`.
 #[repr(C)]
-#[derive(Clone, Copy)]
+#[derive(Clone, Copy, Default)]
 pub struct InformationNumbers {
     pub application: u32,
     pub version: u32,
@@ -28,24 +29,14 @@ pub struct InformationNumbers {
     pub network: u8,
 }
 
-// Of a message that has none.
-const NO_INFORMATION: InformationNumbers = InformationNumbers {
-    application: 0,
-    version: 0,
-    device: 0,
-    serial: 0,
-    silent: 0,
-    network: 0,
-};
-
-// A message from the module. `kind` is 0 for a refusal, 1 for a simple message, 2 for an extended one, 3 for a response, 4 for a standard status, 5 for a
+// A message from the module, its kind by a number, as C has it. `kind` is 0 for a refusal, 1 for a simple message, 2 for an extended one, 3 for a response, 4 for a standard status, 5 for a
 // remote status, 6 for a settings list, which is the data, 7 for a report of the module on itself. `address` is the sender's, `response_id` also a
 // response's own ID, `lqi` also a status's. `command` is a simple message's, or says which report it is: F0 an acknowledgement, F1 the information, in
 // `information`, F3 that settings were not applied, F8 the state of silent mode. `result` is a response's, 1 success and 0 failure, or F8's state, 1 released
 // and 0 not. Fields that the kind, or the report, does not have are 0 in an answer, and are not looked at in a write; `refusal` and `start`, the index at
 // which the data begin, belong to answers alone.
 #[repr(C)]
-#[derive(Clone, Copy)]
+#[derive(Clone, Copy, Default)]
 pub struct FromModuleNumbers {
     pub kind: u8,
     pub refusal: u8,
@@ -61,40 +52,6 @@ pub struct FromModuleNumbers {
     pub start: usize,
 }
 
-// All fields 0.
-const NO_MESSAGE: FromModuleNumbers = FromModuleNumbers {
-    kind: 0,
-    refusal: 0,
-    address: 0,
-    command: 0,
-    response_id: 0,
-    result: 0,
-    lqi: 0,
-    source: 0,
-    destination: 0,
-    status: NO_STATUS,
-    information: NO_INFORMATION,
-    start: 0,
-};
-
-// The message with data that numbers stand for, if any.
-#[derive(Drop)]
-pub(crate) enum NamedDelivery {
-    Known(Delivery),
-    Unknown,
-}
-
-// The message without data that numbers stand for, if any.
-#[derive(Drop)]
-pub(crate) enum NamedNotice {
-    Known(Notice),
-    // A response, or a state of silent mode, whose result is neither 0 nor 1.
-    BadResult,
-    // A report whose number names no command.
-    BadCommand,
-    Unknown,
-}
-
 fn outcome_number(outcome: Outcome) -> u8
     ensures { result ≡ outcome_byte outcome }
 {
@@ -104,6 +61,7 @@ fn outcome_number(outcome: Outcome) -> u8
     }
 }
 
+#[tactic(auto, unfolding(crate::specs::FromModule::delivery_numbers))]
 fn delivery_numbers(delivery: Delivery, start: usize) -> FromModuleNumbers
     ensures { result ≡ delivery_numbers delivery start }
 {
@@ -113,7 +71,7 @@ fn delivery_numbers(delivery: Delivery, start: usize) -> FromModuleNumbers
             address: m.address,
             command: m.command,
             start: start,
-            ..NO_MESSAGE
+            ..FromModuleNumbers::default()
         },
         Delivery::Extended(m) => FromModuleNumbers {
             kind: 2,
@@ -123,16 +81,17 @@ fn delivery_numbers(delivery: Delivery, start: usize) -> FromModuleNumbers
             source: m.source,
             destination: m.destination,
             start: start,
-            ..NO_MESSAGE
+            ..FromModuleNumbers::default()
         },
         Delivery::Settings => FromModuleNumbers {
             kind: 6,
             start: start,
-            ..NO_MESSAGE
+            ..FromModuleNumbers::default()
         },
     }
 }
 
+#[tactic(auto, unfolding(crate::specs::FromModule::response_numbers))]
 fn response_numbers(m: Response) -> FromModuleNumbers
     ensures { result ≡ response_numbers m }
 {
@@ -141,7 +100,7 @@ fn response_numbers(m: Response) -> FromModuleNumbers
         kind: 3,
         response_id: m.id,
         result: outcome_number(outcome),
-        ..NO_MESSAGE
+        ..FromModuleNumbers::default()
     }
 }
 
@@ -167,9 +126,9 @@ fn standard_numbers(s: StandardStatus) -> FromModuleNumbers
             ad3: s.ad3,
             ad4: s.ad4,
             correction: s.correction,
-            ..NO_STATUS
+            ..StatusNumbers::default()
         },
-        ..NO_MESSAGE
+        ..FromModuleNumbers::default()
     }
 }
 
@@ -189,21 +148,13 @@ fn remote_numbers(s: RemoteStatus) -> FromModuleNumbers
             signals: s.signals,
             mask: s.mask,
             interrupts: s.interrupts,
-            ..NO_STATUS
+            ..StatusNumbers::default()
         },
-        ..NO_MESSAGE
+        ..FromModuleNumbers::default()
     }
 }
 
-fn state_number(released: bool) -> u8
-    ensures { result ≡ state_byte released }
-{
-    if released {
-        return 1;
-    }
-    0
-}
-
+#[tactic(auto, unfolding(crate::specs::FromModule::report_numbers))]
 fn report_numbers(report: SetupReport) -> FromModuleNumbers
     ensures { result ≡ report_numbers report }
 {
@@ -211,7 +162,7 @@ fn report_numbers(report: SetupReport) -> FromModuleNumbers
         SetupReport::Acknowledged => FromModuleNumbers {
             kind: 7,
             command: 0xF0,
-            ..NO_MESSAGE
+            ..FromModuleNumbers::default()
         },
         SetupReport::Information(m) => FromModuleNumbers {
             kind: 7,
@@ -224,22 +175,23 @@ fn report_numbers(report: SetupReport) -> FromModuleNumbers
                 silent: m.silent,
                 network: m.network,
             },
-            ..NO_MESSAGE
+            ..FromModuleNumbers::default()
         },
         SetupReport::SettingsFailed => FromModuleNumbers {
             kind: 7,
             command: 0xF3,
-            ..NO_MESSAGE
+            ..FromModuleNumbers::default()
         },
         SetupReport::SilentMode { released } => FromModuleNumbers {
             kind: 7,
             command: 0xF8,
-            result: state_number(released),
-            ..NO_MESSAGE
+            result: u8::from(released),
+            ..FromModuleNumbers::default()
         },
     }
 }
 
+#[tactic(auto, unfolding(crate::specs::FromModule::notice_numbers))]
 fn notice_numbers(notice: Notice) -> FromModuleNumbers
     ensures { result ≡ notice_numbers notice }
 {
@@ -251,6 +203,7 @@ fn notice_numbers(notice: Notice) -> FromModuleNumbers
     }
 }
 
+#[tactic(auto, unfolding(crate::specs::FromModule::from_module_numbers))]
 fn from_module_numbers(answer: FromModule) -> FromModuleNumbers
     ensures { result ≡ from_module_numbers (from_module_of answer) }
 {
@@ -259,51 +212,42 @@ fn from_module_numbers(answer: FromModule) -> FromModuleNumbers
         FromModule::Notice(notice) => notice_numbers(notice),
         FromModule::Refused(refusal) => FromModuleNumbers {
             refusal: refusal.number(),
-            ..NO_MESSAGE
+            ..FromModuleNumbers::default()
         },
     }
 }
 
-fn delivery_in(n: FromModuleNumbers) -> NamedDelivery
+#[tactic(auto, unfolding(crate::specs::FromModule::delivery_in))]
+fn delivery_in(n: FromModuleNumbers) -> Option<Delivery>
     ensures { result ≡ delivery_in n }
 {
-    if n.kind == 1 {
-        return NamedDelivery::Known(Delivery::Simple(Simple {
+    match n.kind {
+        1 => Some(Delivery::Simple(Simple {
             address: n.address,
             command: n.command,
-        }));
-    }
-    if n.kind == 2 {
-        return NamedDelivery::Known(Delivery::Extended(Reception {
+        })),
+        2 => Some(Delivery::Extended(Reception {
             sender: n.address,
             response_id: n.response_id,
             source: n.source,
             destination: n.destination,
             lqi: n.lqi,
-        }));
+        })),
+        6 => Some(Delivery::Settings),
+        _ => None,
     }
-    if n.kind == 6 {
-        return NamedDelivery::Known(Delivery::Settings);
-    }
-    NamedDelivery::Unknown
 }
 
-fn response_in(id: u8, res: u8) -> NamedNotice
+#[tactic(auto, unfolding(crate::specs::FromModule::response_in))]
+fn response_in(id: u8, res: u8) -> Result<Notice, Unnamed>
     ensures { result ≡ response_in id res }
 {
-    if res == 0 {
-        return NamedNotice::Known(Notice::Response(Response {
-            id: id,
-            outcome: Outcome::Failure,
-        }));
-    }
-    if res == 1 {
-        return NamedNotice::Known(Notice::Response(Response {
-            id: id,
-            outcome: Outcome::Success,
-        }));
-    }
-    NamedNotice::BadResult
+    let outcome = match res {
+        0 => Outcome::Failure,
+        1 => Outcome::Success,
+        _ => return Err(Unnamed::Flag),
+    };
+    Ok(Notice::Response(Response { id, outcome }))
 }
 
 fn information_in(n: InformationNumbers) -> Information
@@ -319,50 +263,33 @@ fn information_in(n: InformationNumbers) -> Information
     }
 }
 
-fn silent_mode_in(res: u8) -> NamedNotice
-    ensures { result ≡ silent_mode_in res }
-{
-    if res == 0 {
-        return NamedNotice::Known(Notice::Setup(SetupReport::SilentMode { released: false }));
-    }
-    if res == 1 {
-        return NamedNotice::Known(Notice::Setup(SetupReport::SilentMode { released: true }));
-    }
-    NamedNotice::BadResult
-}
-
-fn report_in(command: u8, res: u8, information: InformationNumbers) -> NamedNotice
+#[tactic(auto, unfolding(crate::specs::FromModule::report_in, crate::specs::FromModule::silent_mode_in))]
+fn report_in(command: u8, res: u8, information: InformationNumbers) -> Result<Notice, Unnamed>
     ensures { result ≡ report_in command res information }
 {
-    match command {
-        0xF0 => NamedNotice::Known(Notice::Setup(SetupReport::Acknowledged)),
-        0xF1 => NamedNotice::Known(Notice::Setup(SetupReport::Information(information_in(
-            information,
-        )))),
-        0xF3 => NamedNotice::Known(Notice::Setup(SetupReport::SettingsFailed)),
-        0xF8 => silent_mode_in(res),
-        _ => NamedNotice::BadCommand,
-    }
+    let report = match (command, res) {
+        (0xF0, _) => SetupReport::Acknowledged,
+        (0xF1, _) => SetupReport::Information(information_in(information)),
+        (0xF3, _) => SetupReport::SettingsFailed,
+        (0xF8, 0) => SetupReport::SilentMode { released: false },
+        (0xF8, 1) => SetupReport::SilentMode { released: true },
+        (0xF8, _) => return Err(Unnamed::Flag),
+        _ => return Err(Unnamed::Command),
+    };
+    Ok(Notice::Setup(report))
 }
 
-fn notice_in(n: FromModuleNumbers) -> NamedNotice
+#[tactic(auto, unfolding(crate::specs::FromModule::notice_in))]
+fn notice_in(n: FromModuleNumbers) -> Result<Notice, Unnamed>
     ensures { result ≡ notice_in n }
 {
-    let status = n.status;
-    let information = n.information;
-    if n.kind == 3 {
-        return response_in(n.response_id, n.result);
+    match n.kind {
+        3 => response_in(n.response_id, n.result),
+        4 => Ok(Notice::Standard(standard_in(n.address, n.lqi, n.status))),
+        5 => Ok(Notice::Remote(remote_in(n.address, n.lqi, n.status))),
+        7 => report_in(n.command, n.result, n.information),
+        _ => Err(Unnamed::Kind),
     }
-    if n.kind == 4 {
-        return NamedNotice::Known(Notice::Standard(standard_in(n.address, n.lqi, status)));
-    }
-    if n.kind == 5 {
-        return NamedNotice::Known(Notice::Remote(remote_in(n.address, n.lqi, status)));
-    }
-    if n.kind == 7 {
-        return report_in(n.command, n.result, information);
-    }
-    NamedNotice::Unknown
 }
 
 // Reads a payload as a message from the module, as `message::read_from_module` does.
@@ -382,11 +309,8 @@ pub fn boundary_write_delivery(
 ) -> FlatWriting
     ensures { WritesDelivery (framing_of framing) (delivery_in delivery) «data».now buf.old result buf.new }
 {
-    let NamedFraming::Known(f) = framing_of(framing) else {
-        return unwritten(255);
-    };
-    let NamedDelivery::Known(d) = delivery_in(delivery) else {
-        return unwritten(255);
+    let (Some(f), Some(d)) = (framing_of(framing), delivery_in(delivery)) else {
+        return unwritten(Unnamed::Kind);
     };
     written_of(message::write_delivery(f, d, data, buf))
 }
@@ -397,13 +321,11 @@ pub fn boundary_write_delivery(
 pub fn boundary_write_notice(framing: u8, notice: FromModuleNumbers, buf: &mut [u8]) -> FlatWriting
     ensures { WritesNotice (framing_of framing) (notice_in notice) buf.old result buf.new }
 {
-    let NamedFraming::Known(f) = framing_of(framing) else {
-        return unwritten(255);
+    let Some(f) = framing_of(framing) else {
+        return unwritten(Unnamed::Kind);
     };
     match notice_in(notice) {
-        NamedNotice::Known(m) => written_of(message::write_notice(f, m, buf)),
-        NamedNotice::BadResult => unwritten(11),
-        NamedNotice::BadCommand => unwritten(9),
-        NamedNotice::Unknown => unwritten(255),
+        Ok(m) => written_of(message::write_notice(f, m, buf)),
+        Err(unnamed) => unwritten(unnamed),
     }
 }

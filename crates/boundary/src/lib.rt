@@ -10,6 +10,7 @@ mod setting;
 mod single;
 mod status;
 mod to_module;
+mod unnamed;
 mod written;
 
 pub use from_module::{

@@ -1,10 +1,10 @@
 // The line reader, with its state and its answers as numbers.
-ghost use Rattle.std.specs.Prelude.{◌≡◌};
-ghost use Rattle.reader.specs.Reader.{refusal_values, frame_values, no_frame_values, feed_values_of, quiet_values_of};
-ghost use Rattle.boundary.specs.Line.{mark_number, flat_reader, flat_values, format_in, reader_in, new_flat, FeedsFlat, QuietsFlat};
+ghost use Rattle.std.specs.Prelude.{◌≡◌, option_map};
+ghost use Rattle.reader.specs.Reader.{refusal_values, feed_values_of, quiet_values_of};
+ghost use Rattle.boundary.specs.Line.{flat_reader, flat_values, format_in, reader_in, new_flat, unnamed, FeedsFlat, QuietsFlat};
 
-use crate::framing::{NamedFormat, format_number, format_of};
-use frame::Format;
+use crate::framing::{format_number, format_of};
+use crate::unnamed::Unnamed;
 use reader::{FeedAnswer, QuietAnswer, Reader};
 
 // A reader's state: its format as a number, the bytes that it holds, the first `count` of `held`, whether an optional byte may follow the last frame, 0 for no,
@@ -23,7 +23,7 @@ pub struct LineReader {
 // The answer's numbers: the refusal's, 0 for none, whether there is a frame, bytes taken, noise, bytes judged, the payload's length, and how far before the
 // first byte that is not taken, at a quiet before the segment's end, the frame began, 0 where there is none.
 #[repr(C)]
-#[derive(Clone, Copy)]
+#[derive(Clone, Copy, Default)]
 pub struct LineAnswer {
     pub refusal: u8,
     pub is_frame: bool,
@@ -47,40 +47,7 @@ fn refused(number: u8) -> LineAnswer
 {
     LineAnswer {
         refusal: number,
-        is_frame: false,
-        taken: 0,
-        noise: 0,
-        judged: 0,
-        len: 0,
-        began: 0,
-    }
-}
-
-fn with_frame(taken: usize, noise: usize, judged: usize, len: usize, began: usize) -> LineAnswer
-    ensures { result ≡ flat_values (frame_values taken noise judged len began) }
-{
-    LineAnswer {
-        refusal: 0,
-        is_frame: true,
-        taken: taken,
-        noise: noise,
-        judged: judged,
-        len: len,
-        began: began,
-    }
-}
-
-fn without_frame(taken: usize, noise: usize, judged: usize) -> LineAnswer
-    ensures { result ≡ flat_values (no_frame_values taken noise judged) }
-{
-    LineAnswer {
-        refusal: 0,
-        is_frame: false,
-        taken: taken,
-        noise: noise,
-        judged: judged,
-        len: 0,
-        began: 0,
+        ..LineAnswer::default()
     }
 }
 
@@ -94,12 +61,25 @@ fn fed_numbers(answer: FeedAnswer) -> LineAnswer
             judged,
             len,
             began,
-        } => with_frame(taken, noise, judged, len, began),
+        } => LineAnswer {
+            refusal: 0,
+            is_frame: true,
+            taken,
+            noise,
+            judged,
+            len,
+            began,
+        },
         FeedAnswer::NeedsMore {
             taken,
             noise,
             judged,
-        } => without_frame(taken, noise, judged),
+        } => LineAnswer {
+            taken,
+            noise,
+            judged,
+            ..LineAnswer::default()
+        },
         FeedAnswer::Refused(refusal) => refused(refusal.number()),
     }
 }
@@ -113,19 +93,21 @@ fn quiet_numbers(answer: QuietAnswer) -> LineAnswer
             judged,
             len,
             began,
-        } => with_frame(0, noise, judged, len, began),
-        QuietAnswer::Empty { noise, judged } => without_frame(0, noise, judged),
+        } => LineAnswer {
+            is_frame: true,
+            noise,
+            judged,
+            len,
+            began,
+            ..LineAnswer::default()
+        },
+        QuietAnswer::Empty { noise, judged } => LineAnswer {
+            noise,
+            judged,
+            ..LineAnswer::default()
+        },
         QuietAnswer::Refused(refusal) => refused(refusal.number()),
     }
-}
-
-fn mark_number(follows: bool) -> u8
-    ensures { result ≡ mark_number follows }
-{
-    if follows {
-        return 1;
-    }
-    0
 }
 
 fn flat(reader: Reader) -> LineReader
@@ -137,31 +119,37 @@ fn flat(reader: Reader) -> LineReader
         format: format_number(format),
         held: held,
         count: reader.count,
-        follows: mark_number(reader.follows),
+        follows: u8::from(reader.follows),
         judged: reader.judged,
     }
 }
 
-// The format of a state, if its number stands for one and its mark is 0 or 1.
-fn format_in(reader: LineReader) -> NamedFormat
-    ensures { result ≡ format_in reader }
+// The state that numbers stand for, if its format is one and its mark is 0 or 1.
+#[tactic(auto, unfolding(crate::specs::Line::format_in))]
+fn reader_in(n: LineReader) -> Option<Reader>
+    ensures { result ≡ option_map (λ m. reader_in m n) (format_in n) }
 {
-    if reader.follows > 1 {
-        return NamedFormat::Unknown;
-    }
-    format_of(reader.format)
+    let follows = match n.follows {
+        0 => false,
+        1 => true,
+        _ => return None,
+    };
+    Some(Reader {
+        format: format_of(n.format)?,
+        held: n.held,
+        count: n.count,
+        follows,
+        judged: n.judged,
+    })
 }
 
-fn reader_in(format: Format, reader: LineReader) -> Reader
-    ensures { result ≡ reader_in format reader }
+// A call with a state whose numbers stand for none gives it back.
+fn unnamed(reader: LineReader) -> LineFed
+    ensures { result ≡ unnamed reader }
 {
-    let held = reader.held;
-    Reader {
-        format: format,
-        held: held,
-        count: reader.count,
-        follows: reader.follows == 1,
-        judged: reader.judged,
+    LineFed {
+        reader,
+        answer: refused(Unnamed::Kind.number()),
     }
 }
 
@@ -183,20 +171,15 @@ pub fn boundary_new_reader(format: u8) -> LineReader
 pub fn boundary_feed(reader: LineReader, chunk: &[u8], buf: &mut [u8]) -> LineFed
     ensures { FeedsFlat (format_in reader) reader chunk.now buf.old result buf.new }
 {
-    match format_in(reader) {
-        NamedFormat::Known(f) => {
-            let fed = reader_in(f, reader).feed(chunk, buf);
-            let next = fed.reader;
-            let answer = fed.answer;
+    match reader_in(reader) {
+        Some(known) => {
+            let fed = known.feed(chunk, buf);
             LineFed {
-                reader: flat(next),
-                answer: fed_numbers(answer),
+                reader: flat(fed.reader),
+                answer: fed_numbers(fed.answer),
             }
         }
-        NamedFormat::Unknown => LineFed {
-            reader: reader,
-            answer: refused(255),
-        },
+        None => unnamed(reader),
     }
 }
 
@@ -205,19 +188,14 @@ pub fn boundary_feed(reader: LineReader, chunk: &[u8], buf: &mut [u8]) -> LineFe
 pub fn boundary_quiet(reader: LineReader, buf: &mut [u8]) -> LineFed
     ensures { QuietsFlat (format_in reader) reader buf.old result buf.new }
 {
-    match format_in(reader) {
-        NamedFormat::Known(f) => {
-            let quieted = reader_in(f, reader).quiet(buf);
-            let next = quieted.reader;
-            let answer = quieted.answer;
+    match reader_in(reader) {
+        Some(known) => {
+            let quieted = known.quiet(buf);
             LineFed {
-                reader: flat(next),
-                answer: quiet_numbers(answer),
+                reader: flat(quieted.reader),
+                answer: quiet_numbers(quieted.answer),
             }
         }
-        NamedFormat::Unknown => LineFed {
-            reader: reader,
-            answer: refused(255),
-        },
+        None => unnamed(reader),
     }
 }

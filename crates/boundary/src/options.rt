@@ -7,7 +7,7 @@ use message::{MaybeByte, MaybeWord, Options};
 
 // For each option whether it is given, and its argument, which is 0 where it is not.
 #[repr(C)]
-#[derive(Clone, Copy)]
+#[derive(Clone, Copy, Default)]
 pub struct OptionNumbers {
     pub mac_ack: bool,
     pub has_retries: bool,
@@ -77,22 +77,7 @@ fn word_in(given: bool, v: u16) -> MaybeWord
     MaybeWord::NotGiven
 }
 
-// No option given.
-pub(crate) const NO_OPTIONS: OptionNumbers = OptionNumbers {
-    mac_ack: false,
-    has_retries: false,
-    retries: 0,
-    has_lower_delay: false,
-    lower_delay: 0,
-    has_upper_delay: false,
-    upper_delay: 0,
-    has_interval: false,
-    interval: 0,
-    parallel: false,
-    no_response: false,
-    sleep: false,
-};
-
+#[tactic(auto, unfolding(crate::specs::Options::option_numbers))]
 pub(crate) fn option_numbers(options: Options) -> OptionNumbers
     ensures { result ≡ option_numbers options }
 {
@@ -117,6 +102,7 @@ pub(crate) fn option_numbers(options: Options) -> OptionNumbers
 }
 
 // The options that the numbers stand for. The argument of an option that is not given is not looked at.
+#[tactic(auto, unfolding(crate::specs::Options::options_in))]
 pub(crate) fn options_in(n: OptionNumbers) -> Options
     ensures { result ≡ options_in n }
 {

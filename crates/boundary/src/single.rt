@@ -2,14 +2,16 @@
 ghost use Rattle.std.specs.Prelude.{◌≡◌};
 ghost use Rattle.frame.specs.Single.{reading_of, no_writing, writing_of};
 ghost use Rattle.boundary.specs.Framing.{framing_of, format_of};
+ghost use Rattle.boundary.specs.Unnamed.{number_of};
 ghost use Rattle.boundary.specs.Single.{flat_reading, flat_writing, ReadsFlat, WritesFlat};
 
-use crate::framing::{NamedFormat, NamedFraming, format_of, framing_of};
+use crate::framing::{format_of, framing_of};
+use crate::unnamed::Unnamed;
 use frame::{ReadAnswer, WriteAnswer};
 
 // A read's answer: the refusal's number, 0 for none, the bytes used and the payload's length.
 #[repr(C)]
-#[derive(Clone, Copy)]
+#[derive(Clone, Copy, Default)]
 pub struct FlatReading {
     pub refusal: u8,
     pub used: usize,
@@ -18,19 +20,19 @@ pub struct FlatReading {
 
 // A write's answer: the refusal's number, 0 for none, and the length of the frame.
 #[repr(C)]
-#[derive(Clone, Copy)]
+#[derive(Clone, Copy, Default)]
 pub struct FlatWriting {
     pub refusal: u8,
     pub len: usize,
 }
 
-// A write that is refused with this number.
-pub(crate) fn unwritten(number: u8) -> FlatWriting
-    ensures { result ≡ flat_writing (no_writing number) }
+// A write whose numbers stand for nothing.
+pub(crate) fn unwritten(unnamed: Unnamed) -> FlatWriting
+    ensures { result ≡ flat_writing (no_writing (number_of unnamed)) }
 {
     FlatWriting {
-        refusal: number,
-        len: 0,
+        refusal: unnamed.number(),
+        ..FlatWriting::default()
     }
 }
 
@@ -39,14 +41,13 @@ fn reading_of(answer: ReadAnswer) -> FlatReading
 {
     match answer {
         ReadAnswer::Frame { used, len } => FlatReading {
-            refusal: 0,
-            used: used,
-            len: len,
+            used,
+            len,
+            ..FlatReading::default()
         },
         ReadAnswer::Refused(refusal) => FlatReading {
             refusal: refusal.number(),
-            used: 0,
-            len: 0,
+            ..FlatReading::default()
         },
     }
 }
@@ -55,11 +56,11 @@ fn writing_of(answer: WriteAnswer) -> FlatWriting
     ensures { result ≡ flat_writing (writing_of answer) }
 {
     match answer {
-        WriteAnswer::Written(len) => FlatWriting {
-            refusal: 0,
-            len: len,
+        WriteAnswer::Written(len) => FlatWriting { refusal: 0, len },
+        WriteAnswer::Refused(refusal) => FlatWriting {
+            refusal: refusal.number(),
+            len: 0,
         },
-        WriteAnswer::Refused(refusal) => unwritten(refusal.number()),
     }
 }
 
@@ -69,11 +70,10 @@ pub fn boundary_read_frame(format: u8, s: &[u8], buf: &mut [u8]) -> FlatReading
     ensures { ReadsFlat (format_of format) s.now buf.old result buf.new }
 {
     match format_of(format) {
-        NamedFormat::Known(f) => reading_of(frame::read_frame_as(f, s, buf)),
-        NamedFormat::Unknown => FlatReading {
-            refusal: 255,
-            used: 0,
-            len: 0,
+        Some(f) => reading_of(frame::read_frame_as(f, s, buf)),
+        None => FlatReading {
+            refusal: Unnamed::Kind.number(),
+            ..FlatReading::default()
         },
     }
 }
@@ -83,7 +83,7 @@ pub fn boundary_write_frame(framing: u8, payload: &[u8], buf: &mut [u8]) -> Flat
     ensures { WritesFlat (framing_of framing) 0 payload.now buf.old result buf.new }
 {
     match framing_of(framing) {
-        NamedFraming::Known(f) => writing_of(frame::write_frame(f, payload, buf)),
-        NamedFraming::Unknown => unwritten(255),
+        Some(f) => writing_of(frame::write_frame(f, payload, buf)),
+        None => unwritten(Unnamed::Kind),
     }
 }

@@ -6,7 +6,7 @@ use message::{RemoteStatus, StandardStatus};
 
 // What a status has beside its sender and its LQI. Fields that a status does not have are 0.
 #[repr(C)]
-#[derive(Clone, Copy)]
+#[derive(Clone, Copy, Default)]
 pub struct StatusNumbers {
     pub identifier: u8,
     pub serial: u32,
@@ -26,27 +26,6 @@ pub struct StatusNumbers {
     pub mask: u16,
     pub interrupts: u16,
 }
-
-// Of a message that is no status.
-pub(crate) const NO_STATUS: StatusNumbers = StatusNumbers {
-    identifier: 0,
-    serial: 0,
-    destination: 0,
-    time: 0,
-    relays: 0,
-    supply: 0,
-    unused: 0,
-    di: 0,
-    di_changed: 0,
-    ad1: 0,
-    ad2: 0,
-    ad3: 0,
-    ad4: 0,
-    correction: 0,
-    signals: 0,
-    mask: 0,
-    interrupts: 0,
-};
 
 pub(crate) fn standard_in(sender: u8, lqi: u8, n: StatusNumbers) -> StandardStatus
     ensures { result ≡ standard_in sender lqi n }

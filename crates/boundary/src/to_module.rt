@@ -5,9 +5,10 @@ ghost use Rattle.boundary.specs.Framing.{framing_of};
 ghost use Rattle.boundary.specs.ToModule.{transmission_numbers, request_numbers, to_module_numbers};
 ghost use Rattle.boundary.specs.ToModule.{transmission_in, request_in, WritesRequest, WritesChange, WritesSetup};
 
-use crate::framing::{NamedFraming, framing_of};
-use crate::options::{NO_OPTIONS, OptionNumbers, option_numbers, options_in};
+use crate::framing::framing_of;
+use crate::options::{OptionNumbers, option_numbers, options_in};
 use crate::single::{FlatWriting, unwritten};
+use crate::unnamed::Unnamed;
 use crate::written::written_of;
 use message::{
     Address, NamedCommand, OutputChange, Request, SetupCommand, Simple, ToModule, Transmission,
@@ -18,7 +19,7 @@ use message::{
 // Fields that the kind does not have are 0 in an answer, and are not looked at in a write; `refusal` and `start`, the index at which the data begin, belong
 // to answers alone.
 #[repr(C)]
-#[derive(Clone, Copy)]
+#[derive(Clone, Copy, Default)]
 pub struct ToModuleNumbers {
     pub kind: u8,
     pub refusal: u8,
@@ -32,27 +33,7 @@ pub struct ToModuleNumbers {
     pub start: usize,
 }
 
-// All fields 0.
-const NO_MESSAGE: ToModuleNumbers = ToModuleNumbers {
-    kind: 0,
-    refusal: 0,
-    address: 0,
-    command: 0,
-    response_id: 0,
-    extended: 0,
-    options: NO_OPTIONS,
-    signals: 0,
-    mask: 0,
-    start: 0,
-};
-
-// The request that numbers stand for, if any.
-#[derive(Drop)]
-pub(crate) enum NamedRequest {
-    Known(Request),
-    Unknown,
-}
-
+#[tactic(auto, unfolding(crate::specs::ToModule::transmission_numbers))]
 fn transmission_numbers(m: Transmission, start: usize) -> ToModuleNumbers
     ensures { result ≡ transmission_numbers m start }
 {
@@ -66,7 +47,7 @@ fn transmission_numbers(m: Transmission, start: usize) -> ToModuleNumbers
             response_id: m.response_id,
             options: numbers,
             start: start,
-            ..NO_MESSAGE
+            ..ToModuleNumbers::default()
         },
         Address::Extended(w) => ToModuleNumbers {
             kind: 3,
@@ -74,11 +55,12 @@ fn transmission_numbers(m: Transmission, start: usize) -> ToModuleNumbers
             extended: w,
             options: numbers,
             start: start,
-            ..NO_MESSAGE
+            ..ToModuleNumbers::default()
         },
     }
 }
 
+#[tactic(auto, unfolding(crate::specs::ToModule::request_numbers))]
 fn request_numbers(request: Request, start: usize) -> ToModuleNumbers
     ensures { result ≡ request_numbers request start }
 {
@@ -88,17 +70,18 @@ fn request_numbers(request: Request, start: usize) -> ToModuleNumbers
             address: m.address,
             command: m.command,
             start: start,
-            ..NO_MESSAGE
+            ..ToModuleNumbers::default()
         },
         Request::Extended(m) => transmission_numbers(m, start),
         Request::Settings => ToModuleNumbers {
             kind: 5,
             start: start,
-            ..NO_MESSAGE
+            ..ToModuleNumbers::default()
         },
     }
 }
 
+#[tactic(auto, unfolding(crate::specs::ToModule::to_module_numbers))]
 fn to_module_numbers(answer: ToModule) -> ToModuleNumbers
     ensures { result ≡ to_module_numbers (to_module_of answer) }
 {
@@ -109,20 +92,21 @@ fn to_module_numbers(answer: ToModule) -> ToModuleNumbers
             address: m.address,
             signals: m.signals,
             mask: m.mask,
-            ..NO_MESSAGE
+            ..ToModuleNumbers::default()
         },
         ToModule::Setup(command) => ToModuleNumbers {
             kind: 6,
             command: command.number(),
-            ..NO_MESSAGE
+            ..ToModuleNumbers::default()
         },
         ToModule::Refused(refusal) => ToModuleNumbers {
             refusal: refusal.number(),
-            ..NO_MESSAGE
+            ..ToModuleNumbers::default()
         },
     }
 }
 
+#[tactic(auto, unfolding(crate::specs::ToModule::transmission_in))]
 fn transmission_in(address: Address, n: ToModuleNumbers) -> Transmission
     ensures { result ≡ transmission_in address n }
 {
@@ -134,31 +118,20 @@ fn transmission_in(address: Address, n: ToModuleNumbers) -> Transmission
     }
 }
 
-fn request_in(n: ToModuleNumbers) -> NamedRequest
+#[tactic(auto, unfolding(crate::specs::ToModule::request_in))]
+fn request_in(n: ToModuleNumbers) -> Option<Request>
     ensures { result ≡ request_in n }
 {
-    if n.kind == 1 {
-        return NamedRequest::Known(Request::Simple(Simple {
+    match n.kind {
+        1 => Some(Request::Simple(Simple {
             address: n.address,
             command: n.command,
-        }));
+        })),
+        2 => Some(Request::Extended(transmission_in(Address::Plain(n.address), n))),
+        3 => Some(Request::Extended(transmission_in(Address::Extended(n.extended), n))),
+        5 => Some(Request::Settings),
+        _ => None,
     }
-    if n.kind == 2 {
-        return NamedRequest::Known(Request::Extended(transmission_in(
-            Address::Plain(n.address),
-            n,
-        )));
-    }
-    if n.kind == 3 {
-        return NamedRequest::Known(Request::Extended(transmission_in(
-            Address::Extended(n.extended),
-            n,
-        )));
-    }
-    if n.kind == 5 {
-        return NamedRequest::Known(Request::Settings);
-    }
-    NamedRequest::Unknown
 }
 
 // Reads a payload as a message to the module, as `message::read_to_module` does.
@@ -178,11 +151,8 @@ pub fn boundary_write_request(
 ) -> FlatWriting
     ensures { WritesRequest (framing_of framing) (request_in request) «data».now buf.old result buf.new }
 {
-    let NamedFraming::Known(f) = framing_of(framing) else {
-        return unwritten(255);
-    };
-    let NamedRequest::Known(q) = request_in(request) else {
-        return unwritten(255);
+    let (Some(f), Some(q)) = (framing_of(framing), request_in(request)) else {
+        return unwritten(Unnamed::Kind);
     };
     written_of(message::write_request(f, q, data, buf))
 }
@@ -196,11 +166,11 @@ pub fn boundary_write_output_change(
 ) -> FlatWriting
     ensures { WritesChange (framing_of framing) change buf.old result buf.new }
 {
-    let NamedFraming::Known(f) = framing_of(framing) else {
-        return unwritten(255);
+    let Some(f) = framing_of(framing) else {
+        return unwritten(Unnamed::Kind);
     };
     if change.kind != 4 {
-        return unwritten(255);
+        return unwritten(Unnamed::Kind);
     }
     let c = OutputChange {
         address: change.address,
@@ -215,14 +185,14 @@ pub fn boundary_write_output_change(
 pub fn boundary_write_setup(framing: u8, command: ToModuleNumbers, buf: &mut [u8]) -> FlatWriting
     ensures { WritesSetup (framing_of framing) command buf.old result buf.new }
 {
-    let NamedFraming::Known(f) = framing_of(framing) else {
-        return unwritten(255);
+    let Some(f) = framing_of(framing) else {
+        return unwritten(Unnamed::Kind);
     };
     if command.kind != 6 {
-        return unwritten(255);
+        return unwritten(Unnamed::Kind);
     }
     let NamedCommand::Known(c) = SetupCommand::named(command.command) else {
-        return unwritten(9);
+        return unwritten(Unnamed::Command);
     };
     written_of(message::write_setup(f, c, buf))
 }

@@ -3,17 +3,17 @@ ghost use Rattle.std.specs.Prelude.{◌≡◌};
 ghost use Rattle.message.specs.Write.{written_of};
 ghost use Rattle.boundary.specs.Single.{flat_writing};
 
-use crate::single::{FlatWriting, unwritten};
+use crate::single::FlatWriting;
 use message::WriteAnswer;
 
 pub(crate) fn written_of(answer: WriteAnswer) -> FlatWriting
     ensures { result ≡ flat_writing (written_of answer) }
 {
     match answer {
-        WriteAnswer::Written(len) => FlatWriting {
-            refusal: 0,
-            len: len,
+        WriteAnswer::Written(len) => FlatWriting { refusal: 0, len },
+        WriteAnswer::Refused(refusal) => FlatWriting {
+            refusal: refusal.number(),
+            len: 0,
         },
-        WriteAnswer::Refused(refusal) => unwritten(refusal.number()),
     }
 }
