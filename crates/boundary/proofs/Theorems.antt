@@ -44,7 +44,7 @@ use Rattle.message.specs.declared.from_module.Outcome.{Outcome}
 use Rattle.message.specs.declared.from_module.Outcome.TheVariants.{Failure, Success}
 use Rattle.message.specs.declared.from_module.Notice.{Notice}
 use Rattle.message.specs.declared.from_module.Notice.TheVariants.{Response as IsResponse, Standard, Remote, Setup}
-use Rattle.boundary.specs.Unnamed.{unknown_number}
+use Rattle.boundary.specs.Refusal.{unknown_number}
 use Rattle.boundary.specs.Framing.{framing_of, format_of, format_number}
 use Rattle.boundary.specs.Line.{flat_values, mark_number, mark_in, flat_reader, format_in, reader_in, FeedsFlat, QuietsFlat}
 use Rattle.boundary.specs.Claims.{CrossesBack, ZeroWithoutFrame, NoneIsZero}
@@ -53,7 +53,7 @@ use Rattle.boundary.specs.ToModule.{transmission_numbers, request_numbers, setup
 use Rattle.boundary.specs.ToModule.{address_kind, change_refusal_in, setup_refusal_in}
 use Rattle.boundary.specs.FromModule.{delivery_numbers, response_numbers, report_numbers, notice_numbers}
 use Rattle.boundary.specs.FromModule.{delivery_in, response_in, silent_mode_in, report_in, notice_in}
-use Rattle.boundary.specs.declared.unnamed.Unnamed.TheVariants.{Kind}
+use Rattle.boundary.specs.declared.refusal.Unnamed.TheVariants.{Kind}
 use Rattle.boundary.specs.declared.line.LineReader.{LineReader}
 use Rattle.boundary.specs.declared.line.LineAnswer.{LineAnswer}
 use Rattle.boundary.specs.declared.line.LineFed.{LineFed}

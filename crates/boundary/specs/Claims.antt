@@ -18,12 +18,12 @@ use Rattle.message.specs.declared.to_module.Request.{Request}
 use Rattle.message.specs.declared.to_module.OutputChange.{OutputChange}
 use Rattle.message.specs.declared.from_module.Delivery.{Delivery}
 use Rattle.message.specs.declared.from_module.Notice.{Notice}
-use Rattle.boundary.specs.Unnamed.{unknown_number}
+use Rattle.boundary.specs.Refusal.{unknown_number}
 use Rattle.boundary.specs.Framing.{framing_of, format_of, format_number}
 use Rattle.boundary.specs.Line.{flat_reader, format_in, reader_in, new_flat, FeedsFlat, QuietsFlat}
 use Rattle.boundary.specs.ToModule.{request_numbers, change_numbers, setup_numbers, request_in, change_in, change_refusal_in, setup_refusal_in}
 use Rattle.boundary.specs.FromModule.{delivery_numbers, notice_numbers, delivery_in, notice_in}
-use Rattle.boundary.specs.declared.unnamed.Unnamed.TheVariants.{Kind}
+use Rattle.boundary.specs.declared.refusal.Unnamed.TheVariants.{Kind}
 use Rattle.boundary.specs.declared.line.LineReader.{LineReader}
 use Rattle.boundary.specs.declared.line.LineAnswer.{LineAnswer}
 use Rattle.boundary.specs.declared.line.LineFed.{LineFed}

@@ -18,11 +18,11 @@ use Rattle.message.specs.declared.from_module.Outcome.TheVariants.{Failure, Succ
 use Rattle.message.specs.declared.from_module.Response.{Response}
 use Rattle.message.specs.declared.from_module.Notice.{Notice}
 use Rattle.message.specs.declared.from_module.Notice.TheVariants.{Response as IsResponse, Standard, Remote, Setup}
-use Rattle.boundary.specs.Unnamed.{unknown_number, number_of}
+use Rattle.boundary.specs.Refusal.{unknown_number, unnamed_number}
 use Rattle.boundary.specs.Single.{WritesFlat}
 use Rattle.boundary.specs.Status.{no_status, standard_part, remote_part, standard_in, remote_in}
-use Rattle.boundary.specs.declared.unnamed.Unnamed.{Unnamed}
-use Rattle.boundary.specs.declared.unnamed.Unnamed.TheVariants.{Kind, Command, Flag}
+use Rattle.boundary.specs.declared.refusal.Unnamed.{Unnamed}
+use Rattle.boundary.specs.declared.refusal.Unnamed.TheVariants.{Kind, Command, Flag}
 use Rattle.boundary.specs.declared.single.FlatWriting.{FlatWriting}
 use Rattle.boundary.specs.declared.status.StatusNumbers.{StatusNumbers}
 use Rattle.boundary.specs.declared.from_module.InformationNumbers.{InformationNumbers}
@@ -254,7 +254,7 @@ delivery_layout_in None dat = []
 
 abbrev pub notice_refusal_in : Result Notice Unnamed → ℕ
 notice_refusal_in (Ok m) = notice_refusal m
-notice_refusal_in (Err e) = number_of e
+notice_refusal_in (Err e) = unnamed_number e
 
 abbrev pub notice_layout_in : Result Notice Unnamed → List ℕ
 notice_layout_in (Ok m) = notice_layout m

@@ -5,7 +5,7 @@ use Rattle.frame.specs.declared.framing.Format.{Format}
 use Rattle.reader.specs.declared.reader.Reader.{Reader}
 use Rattle.reader.specs.declared.reader.Fed.{Fed}
 use Rattle.reader.specs.declared.reader.Quieted.{Quieted}
-use Rattle.boundary.specs.Unnamed.{unknown_number}
+use Rattle.boundary.specs.Refusal.{unknown_number}
 use Rattle.boundary.specs.Framing.{format_of, format_number}
 use Rattle.boundary.specs.declared.line.LineReader.{LineReader}
 use Rattle.boundary.specs.declared.line.LineAnswer.{LineAnswer}

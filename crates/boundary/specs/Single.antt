@@ -4,7 +4,7 @@ use Rattle.frame.specs.declared.framing.Framing.{Framing}
 use Rattle.frame.specs.declared.framing.Format.{Format}
 use Rattle.frame.specs.Framing.{read, layout}
 use Rattle.frame.specs.Single.{Reading, no_reading, reading, read_into, Writing, no_writing, writing, write_into}
-use Rattle.boundary.specs.Unnamed.{unknown_number}
+use Rattle.boundary.specs.Refusal.{unknown_number}
 use Rattle.boundary.specs.declared.single.FlatReading.{FlatReading}
 use Rattle.boundary.specs.declared.single.FlatWriting.{FlatWriting}
 

@@ -14,7 +14,7 @@ use Rattle.message.specs.declared.to_module.Transmission.{Transmission}
 use Rattle.message.specs.declared.to_module.Request.{Request}
 use Rattle.message.specs.declared.to_module.Request.TheVariants.{Simple as SimpleRequest, Extended as ExtendedRequest, Settings}
 use Rattle.message.specs.declared.to_module.OutputChange.{OutputChange}
-use Rattle.boundary.specs.Unnamed.{unknown_number}
+use Rattle.boundary.specs.Refusal.{unknown_number}
 use Rattle.boundary.specs.Single.{WritesFlat}
 use Rattle.boundary.specs.Options.{no_numbers, option_numbers, options_in}
 use Rattle.boundary.specs.declared.single.FlatWriting.{FlatWriting}

@@ -8,9 +8,9 @@ ghost use Rattle.boundary.specs.FromModule.{notice_numbers, from_module_numbers,
 ghost use Rattle.boundary.specs.FromModule.{WritesDelivery, WritesNotice};
 
 use crate::framing::framing_of;
+use crate::refusal::Unnamed;
 use crate::single::{FlatWriting, unwritten};
 use crate::status::{StatusNumbers, remote_in, standard_in};
-use crate::unnamed::Unnamed;
 use crate::written::written_of;
 use message::{
     Delivery, FromModule, Information, Notice, Outcome, Reception, RemoteStatus, Response,

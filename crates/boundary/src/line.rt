@@ -4,7 +4,7 @@ ghost use Rattle.reader.specs.Reader.{refusal_values, feed_values_of, quiet_valu
 ghost use Rattle.boundary.specs.Line.{flat_reader, flat_values, format_in, reader_in, new_flat, unnamed, FeedsFlat, QuietsFlat};
 
 use crate::framing::{format_number, format_of};
-use crate::unnamed::Unnamed;
+use crate::refusal::{Numbered, Unnamed};
 use reader::{FeedAnswer, QuietAnswer, Reader};
 
 // A reader's state: its format as a number, the bytes that it holds, the first `count` of `held`, whether an optional byte may follow the last frame, 0 for no,

@@ -77,43 +77,46 @@ fn word_in(given: bool, v: u16) -> MaybeWord
     MaybeWord::NotGiven
 }
 
-#[tactic(auto, unfolding(crate::specs::Options::option_numbers))]
-pub(crate) fn option_numbers(options: Options) -> OptionNumbers
-    ensures { result ≡ option_numbers options }
-{
-    let retries = options.retries;
-    let lower = options.lower_delay;
-    let upper = options.upper_delay;
-    let interval = options.interval;
-    OptionNumbers {
-        mac_ack: options.mac_ack,
-        has_retries: byte_given(retries),
-        retries: byte_of(retries),
-        has_lower_delay: word_given(lower),
-        lower_delay: word_of(lower),
-        has_upper_delay: word_given(upper),
-        upper_delay: word_of(upper),
-        has_interval: word_given(interval),
-        interval: word_of(interval),
-        parallel: options.parallel,
-        no_response: options.no_response,
-        sleep: options.sleep,
+impl From<Options> for OptionNumbers {
+    ghost from_gives = { λ options numbers. numbers ≡ option_numbers options };
+
+    #[tactic(auto, unfolding(crate::specs::Options::option_numbers))]
+    fn from(options: Options) -> OptionNumbers {
+        let retries = options.retries;
+        let lower = options.lower_delay;
+        let upper = options.upper_delay;
+        let interval = options.interval;
+        OptionNumbers {
+            mac_ack: options.mac_ack,
+            has_retries: byte_given(retries),
+            retries: byte_of(retries),
+            has_lower_delay: word_given(lower),
+            lower_delay: word_of(lower),
+            has_upper_delay: word_given(upper),
+            upper_delay: word_of(upper),
+            has_interval: word_given(interval),
+            interval: word_of(interval),
+            parallel: options.parallel,
+            no_response: options.no_response,
+            sleep: options.sleep,
+        }
     }
 }
-
 // The options that the numbers stand for. The argument of an option that is not given is not looked at.
-#[tactic(auto, unfolding(crate::specs::Options::options_in))]
-pub(crate) fn options_in(n: OptionNumbers) -> Options
-    ensures { result ≡ options_in n }
-{
-    Options {
-        mac_ack: n.mac_ack,
-        retries: byte_in(n.has_retries, n.retries),
-        lower_delay: word_in(n.has_lower_delay, n.lower_delay),
-        upper_delay: word_in(n.has_upper_delay, n.upper_delay),
-        interval: word_in(n.has_interval, n.interval),
-        parallel: n.parallel,
-        no_response: n.no_response,
-        sleep: n.sleep,
+impl From<OptionNumbers> for Options {
+    ghost from_gives = { λ numbers options. options ≡ options_in numbers };
+
+    #[tactic(auto, unfolding(crate::specs::Options::options_in))]
+    fn from(n: OptionNumbers) -> Options {
+        Options {
+            mac_ack: n.mac_ack,
+            retries: byte_in(n.has_retries, n.retries),
+            lower_delay: word_in(n.has_lower_delay, n.lower_delay),
+            upper_delay: word_in(n.has_upper_delay, n.upper_delay),
+            interval: word_in(n.has_interval, n.interval),
+            parallel: n.parallel,
+            no_response: n.no_response,
+            sleep: n.sleep,
+        }
     }
 }

@@ -2,11 +2,11 @@
 ghost use Rattle.std.specs.Prelude.{◌≡◌};
 ghost use Rattle.frame.specs.Single.{reading_of, no_writing, writing_of};
 ghost use Rattle.boundary.specs.Framing.{framing_of, format_of};
-ghost use Rattle.boundary.specs.Unnamed.{number_of};
+ghost use Rattle.boundary.specs.Refusal.{unnamed_number};
 ghost use Rattle.boundary.specs.Single.{flat_reading, flat_writing, ReadsFlat, WritesFlat};
 
 use crate::framing::{format_of, framing_of};
-use crate::unnamed::Unnamed;
+use crate::refusal::{Numbered, Unnamed};
 use frame::{ReadAnswer, WriteAnswer};
 
 // A read's answer: the refusal's number, 0 for none, the bytes used and the payload's length.
@@ -28,7 +28,7 @@ pub struct FlatWriting {
 
 // A write whose numbers stand for nothing.
 pub(crate) fn unwritten(unnamed: Unnamed) -> FlatWriting
-    ensures { result ≡ flat_writing (no_writing (number_of unnamed)) }
+    ensures { result ≡ flat_writing (no_writing (unnamed_number unnamed)) }
 {
     FlatWriting {
         refusal: unnamed.number(),

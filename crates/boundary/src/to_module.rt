@@ -6,12 +6,13 @@ ghost use Rattle.boundary.specs.ToModule.{transmission_numbers, request_numbers,
 ghost use Rattle.boundary.specs.ToModule.{transmission_in, request_in, WritesRequest, WritesChange, WritesSetup};
 
 use crate::framing::framing_of;
-use crate::options::{OptionNumbers, option_numbers, options_in};
+use crate::options::OptionNumbers;
+use crate::refusal::Unnamed;
 use crate::single::{FlatWriting, unwritten};
-use crate::unnamed::Unnamed;
 use crate::written::written_of;
 use message::{
-    Address, NamedCommand, OutputChange, Request, SetupCommand, Simple, ToModule, Transmission,
+    Address, NamedCommand, Options, OutputChange, Request, SetupCommand, Simple, ToModule,
+    Transmission,
 };
 
 // A message to the module. `kind` is 0 for a refusal, 1 for a simple message, 2 for an extended one to a plain address, 3 for an extended one to an
@@ -38,8 +39,7 @@ fn transmission_numbers(m: Transmission, start: usize) -> ToModuleNumbers
     ensures { result ≡ transmission_numbers m start }
 {
     let address = m.address;
-    let options = m.options;
-    let numbers = option_numbers(options);
+    let numbers = OptionNumbers::from(m.options);
     match address {
         Address::Plain(a) => ToModuleNumbers {
             kind: 2,
@@ -110,11 +110,10 @@ fn to_module_numbers(answer: ToModule) -> ToModuleNumbers
 fn transmission_in(address: Address, n: ToModuleNumbers) -> Transmission
     ensures { result ≡ transmission_in address n }
 {
-    let options = n.options;
     Transmission {
         address: address,
         response_id: n.response_id,
-        options: options_in(options),
+        options: Options::from(n.options),
     }
 }
 

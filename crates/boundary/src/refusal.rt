@@ -1,0 +1,52 @@
+// Refusals as numbers.
+ghost use Rattle.std.specs.Prelude.{◌≡◌, ℕ};
+ghost use Rattle.frame.specs.Refusal.{number_of as frame_number};
+ghost use Rattle.message.specs.Refusal.{number_of as message_number};
+ghost use Rattle.boundary.specs.Refusal.{unnamed_number};
+
+// A refusal that has a number.
+pub(crate) trait Numbered {
+    ghost number_of: { Self → ℕ };
+
+    fn number(self) -> u8
+        ensures { result ≡ number_of self };
+}
+
+impl Numbered for frame::Refusal {
+    ghost number_of = { frame_number };
+
+    fn number(self) -> u8 {
+        frame::Refusal::number(self)
+    }
+}
+
+impl Numbered for message::Refusal {
+    ghost number_of = { message_number };
+
+    fn number(self) -> u8 {
+        message::Refusal::number(self)
+    }
+}
+
+// Why the numbers that a call was given stand for no message.
+#[derive(Clone, Copy)]
+pub(crate) enum Unnamed {
+    // 255: one that stands for no framing, format, mark or kind of message.
+    Kind,
+    // 9: one that names no command.
+    Command,
+    // 11: a result, or a state of silent mode, that is neither 0 nor 1.
+    Flag,
+}
+
+impl Numbered for Unnamed {
+    ghost number_of = { unnamed_number };
+
+    fn number(self) -> u8 {
+        match self {
+            Unnamed::Kind => 255,
+            Unnamed::Command => 9,
+            Unnamed::Flag => 11,
+        }
+    }
+}
