@@ -1,10 +1,9 @@
 // Messages from the module as numbers.
 ghost use Rattle.std.specs.Prelude.{◌≡◌};
-ghost use Rattle.message.specs.Setup.{state_byte};
-ghost use Rattle.message.specs.FromModule.{from_module_of, read_from_module, outcome_byte};
+ghost use Rattle.message.specs.FromModule.{from_module_of, read_from_module};
 ghost use Rattle.boundary.specs.Framing.{framing_of};
-ghost use Rattle.boundary.specs.FromModule.{delivery_numbers, response_numbers, standard_numbers, remote_numbers, report_numbers};
-ghost use Rattle.boundary.specs.FromModule.{notice_numbers, from_module_numbers, delivery_in, response_in, information_in, report_in, notice_in};
+ghost use Rattle.boundary.specs.FromModule.{information_numbers, delivery_numbers, report_numbers};
+ghost use Rattle.boundary.specs.FromModule.{notice_numbers, from_module_numbers, delivery_in, information_in, response_in, report_in, notice_in};
 ghost use Rattle.boundary.specs.FromModule.{WritesDelivery, WritesNotice};
 
 use crate::framing::framing_of;
@@ -13,8 +12,7 @@ use crate::single::{FlatWriting, unwritten};
 use crate::status::{StatusNumbers, remote_in, standard_in};
 use crate::written::written_of;
 use message::{
-    Delivery, FromModule, Information, Notice, Outcome, Reception, RemoteStatus, Response,
-    SetupReport, Simple, StandardStatus,
+    Delivery, FromModule, Information, Notice, Outcome, Reception, Response, SetupReport, Simple,
 };
 
 // The information of F1, its fields as in `message::Information`.
@@ -29,12 +27,44 @@ pub struct InformationNumbers {
     pub network: u8,
 }
 
-// A message from the module, its kind by a number, as C has it. `kind` is 0 for a refusal, 1 for a simple message, 2 for an extended one, 3 for a response, 4 for a standard status, 5 for a
+// What the information of F1 stands for, and back.
+impl From<Information> for InformationNumbers {
+    ghost from_gives = { λ information numbers. numbers ≡ information_numbers information };
+
+    fn from(m: Information) -> InformationNumbers {
+        InformationNumbers {
+            application: m.application,
+            version: m.version,
+            device: m.device,
+            serial: m.serial,
+            silent: m.silent,
+            network: m.network,
+        }
+    }
+}
+
+impl From<InformationNumbers> for Information {
+    ghost from_gives = { λ numbers information. information ≡ information_in numbers };
+
+    fn from(n: InformationNumbers) -> Information {
+        Information {
+            application: n.application,
+            version: n.version,
+            device: n.device,
+            serial: n.serial,
+            silent: n.silent,
+            network: n.network,
+        }
+    }
+}
+
+// A message from the module. `kind` is 0 for a refusal, 1 for a simple message, 2 for an extended one, 3 for a response, 4 for a standard status, 5 for a
 // remote status, 6 for a settings list, which is the data, 7 for a report of the module on itself. `address` is the sender's, `response_id` also a
 // response's own ID, `lqi` also a status's. `command` is a simple message's, or says which report it is: F0 an acknowledgement, F1 the information, in
 // `information`, F3 that settings were not applied, F8 the state of silent mode. `result` is a response's, 1 success and 0 failure, or F8's state, 1 released
 // and 0 not. Fields that the kind, or the report, does not have are 0 in an answer, and are not looked at in a write; `refusal` and `start`, the index at
 // which the data begin, belong to answers alone.
+// Kept: the kind, the report and the result are numbers, and one struct has the fields of every kind, since this is the C interface.
 #[repr(C)]
 #[derive(Clone, Copy, Default)]
 pub struct FromModuleNumbers {
@@ -52,15 +82,6 @@ pub struct FromModuleNumbers {
     pub start: usize,
 }
 
-fn outcome_number(outcome: Outcome) -> u8
-    ensures { result ≡ outcome_byte outcome }
-{
-    match outcome {
-        Outcome::Failure => 0,
-        Outcome::Success => 1,
-    }
-}
-
 #[tactic(auto, unfolding(crate::specs::FromModule::delivery_numbers))]
 fn delivery_numbers(delivery: Delivery, start: usize) -> FromModuleNumbers
     ensures { result ≡ delivery_numbers delivery start }
@@ -70,7 +91,7 @@ fn delivery_numbers(delivery: Delivery, start: usize) -> FromModuleNumbers
             kind: 1,
             address: m.address,
             command: m.command,
-            start: start,
+            start,
             ..FromModuleNumbers::default()
         },
         Delivery::Extended(m) => FromModuleNumbers {
@@ -80,77 +101,14 @@ fn delivery_numbers(delivery: Delivery, start: usize) -> FromModuleNumbers
             lqi: m.lqi,
             source: m.source,
             destination: m.destination,
-            start: start,
+            start,
             ..FromModuleNumbers::default()
         },
         Delivery::Settings => FromModuleNumbers {
             kind: 6,
-            start: start,
+            start,
             ..FromModuleNumbers::default()
         },
-    }
-}
-
-#[tactic(auto, unfolding(crate::specs::FromModule::response_numbers))]
-fn response_numbers(m: Response) -> FromModuleNumbers
-    ensures { result ≡ response_numbers m }
-{
-    let outcome = m.outcome;
-    FromModuleNumbers {
-        kind: 3,
-        response_id: m.id,
-        result: outcome_number(outcome),
-        ..FromModuleNumbers::default()
-    }
-}
-
-fn standard_numbers(s: StandardStatus) -> FromModuleNumbers
-    ensures { result ≡ standard_numbers s }
-{
-    FromModuleNumbers {
-        kind: 4,
-        address: s.sender,
-        lqi: s.lqi,
-        status: StatusNumbers {
-            identifier: s.identifier,
-            serial: s.serial,
-            destination: s.destination,
-            time: s.time,
-            relays: s.relays,
-            supply: s.supply,
-            unused: s.unused,
-            di: s.di,
-            di_changed: s.di_changed,
-            ad1: s.ad1,
-            ad2: s.ad2,
-            ad3: s.ad3,
-            ad4: s.ad4,
-            correction: s.correction,
-            ..StatusNumbers::default()
-        },
-        ..FromModuleNumbers::default()
-    }
-}
-
-fn remote_numbers(s: RemoteStatus) -> FromModuleNumbers
-    ensures { result ≡ remote_numbers s }
-{
-    FromModuleNumbers {
-        kind: 5,
-        address: s.sender,
-        lqi: s.lqi,
-        status: StatusNumbers {
-            serial: s.serial,
-            destination: s.destination,
-            time: s.time,
-            relays: s.relays,
-            unused: s.unused,
-            signals: s.signals,
-            mask: s.mask,
-            interrupts: s.interrupts,
-            ..StatusNumbers::default()
-        },
-        ..FromModuleNumbers::default()
     }
 }
 
@@ -158,47 +116,60 @@ fn remote_numbers(s: RemoteStatus) -> FromModuleNumbers
 fn report_numbers(report: SetupReport) -> FromModuleNumbers
     ensures { result ≡ report_numbers report }
 {
+    let own = FromModuleNumbers {
+        kind: 7,
+        ..FromModuleNumbers::default()
+    };
     match report {
         SetupReport::Acknowledged => FromModuleNumbers {
-            kind: 7,
             command: 0xF0,
-            ..FromModuleNumbers::default()
+            ..own
         },
         SetupReport::Information(m) => FromModuleNumbers {
-            kind: 7,
             command: 0xF1,
-            information: InformationNumbers {
-                application: m.application,
-                version: m.version,
-                device: m.device,
-                serial: m.serial,
-                silent: m.silent,
-                network: m.network,
-            },
-            ..FromModuleNumbers::default()
+            information: InformationNumbers::from(m),
+            ..own
         },
         SetupReport::SettingsFailed => FromModuleNumbers {
-            kind: 7,
             command: 0xF3,
-            ..FromModuleNumbers::default()
+            ..own
         },
         SetupReport::SilentMode { released } => FromModuleNumbers {
-            kind: 7,
             command: 0xF8,
             result: u8::from(released),
-            ..FromModuleNumbers::default()
+            ..own
         },
     }
 }
 
-#[tactic(auto, unfolding(crate::specs::FromModule::notice_numbers))]
+#[tactic(auto, unfolding(crate::specs::FromModule::notice_numbers, crate::specs::FromModule::response_numbers))]
 fn notice_numbers(notice: Notice) -> FromModuleNumbers
     ensures { result ≡ notice_numbers notice }
 {
     match notice {
-        Notice::Response(m) => response_numbers(m),
-        Notice::Standard(m) => standard_numbers(m),
-        Notice::Remote(m) => remote_numbers(m),
+        Notice::Response(m) => FromModuleNumbers {
+            kind: 3,
+            response_id: m.id,
+            result: match m.outcome {
+                Outcome::Failure => 0,
+                Outcome::Success => 1,
+            },
+            ..FromModuleNumbers::default()
+        },
+        Notice::Standard(m) => FromModuleNumbers {
+            kind: 4,
+            address: m.sender,
+            lqi: m.lqi,
+            status: StatusNumbers::from(m),
+            ..FromModuleNumbers::default()
+        },
+        Notice::Remote(m) => FromModuleNumbers {
+            kind: 5,
+            address: m.sender,
+            lqi: m.lqi,
+            status: StatusNumbers::from(m),
+            ..FromModuleNumbers::default()
+        },
         Notice::Setup(m) => report_numbers(m),
     }
 }
@@ -239,37 +210,27 @@ fn delivery_in(n: FromModuleNumbers) -> Option<Delivery>
 }
 
 #[tactic(auto, unfolding(crate::specs::FromModule::response_in))]
-fn response_in(id: u8, res: u8) -> Result<Notice, Unnamed>
-    ensures { result ≡ response_in id res }
+fn response_in(n: FromModuleNumbers) -> Result<Notice, Unnamed>
+    ensures { result ≡ response_in n.response_id n.result }
 {
-    let outcome = match res {
+    let outcome = match n.result {
         0 => Outcome::Failure,
         1 => Outcome::Success,
         _ => return Err(Unnamed::Flag),
     };
-    Ok(Notice::Response(Response { id, outcome }))
-}
-
-fn information_in(n: InformationNumbers) -> Information
-    ensures { result ≡ information_in n }
-{
-    Information {
-        application: n.application,
-        version: n.version,
-        device: n.device,
-        serial: n.serial,
-        silent: n.silent,
-        network: n.network,
-    }
+    Ok(Notice::Response(Response {
+        id: n.response_id,
+        outcome,
+    }))
 }
 
 #[tactic(auto, unfolding(crate::specs::FromModule::report_in, crate::specs::FromModule::silent_mode_in))]
-fn report_in(command: u8, res: u8, information: InformationNumbers) -> Result<Notice, Unnamed>
-    ensures { result ≡ report_in command res information }
+fn report_in(n: FromModuleNumbers) -> Result<Notice, Unnamed>
+    ensures { result ≡ report_in n.command n.result n.information }
 {
-    let report = match (command, res) {
+    let report = match (n.command, n.result) {
         (0xF0, _) => SetupReport::Acknowledged,
-        (0xF1, _) => SetupReport::Information(information_in(information)),
+        (0xF1, _) => SetupReport::Information(Information::from(n.information)),
         (0xF3, _) => SetupReport::SettingsFailed,
         (0xF8, 0) => SetupReport::SilentMode { released: false },
         (0xF8, 1) => SetupReport::SilentMode { released: true },
@@ -284,10 +245,10 @@ fn notice_in(n: FromModuleNumbers) -> Result<Notice, Unnamed>
     ensures { result ≡ notice_in n }
 {
     match n.kind {
-        3 => response_in(n.response_id, n.result),
+        3 => response_in(n),
         4 => Ok(Notice::Standard(standard_in(n.address, n.lqi, n.status))),
         5 => Ok(Notice::Remote(remote_in(n.address, n.lqi, n.status))),
-        7 => report_in(n.command, n.result, n.information),
+        7 => report_in(n),
         _ => Err(Unnamed::Kind),
     }
 }

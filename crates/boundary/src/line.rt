@@ -10,6 +10,7 @@ use reader::{FeedAnswer, QuietAnswer, Reader};
 // A reader's state: its format as a number, the bytes that it holds, the first `count` of `held`, whether an optional byte may follow the last frame, 0 for no,
 // 1 for yes, and how many of the held bytes were judged at the first held place. A call with a state whose mark is any other number, or whose format is none,
 // is refused with 255; one with a state that holds more bytes than a frame can have, or says that more bytes were judged than it holds, with 16.
+// Kept: the format and the mark are numbers, and the array has its count beside it, since this is the C interface.
 #[repr(C)]
 #[derive(Clone, Copy)]
 pub struct LineReader {
@@ -110,17 +111,18 @@ fn quiet_numbers(answer: QuietAnswer) -> LineAnswer
     }
 }
 
-fn flat(reader: Reader) -> LineReader
-    ensures { result ≡ flat_reader reader }
-{
-    let format = reader.format;
-    let held = reader.held;
-    LineReader {
-        format: format_number(format),
-        held: held,
-        count: reader.count,
-        follows: u8::from(reader.follows),
-        judged: reader.judged,
+impl From<Reader> for LineReader {
+    ghost from_gives = { λ reader numbers. numbers ≡ flat_reader reader };
+
+    fn from(reader: Reader) -> LineReader {
+        let held = reader.held;
+        LineReader {
+            format: format_number(reader.format),
+            held,
+            count: reader.count,
+            follows: u8::from(reader.follows),
+            judged: reader.judged,
+        }
     }
 }
 
@@ -175,7 +177,7 @@ pub fn boundary_feed(reader: LineReader, chunk: &[u8], buf: &mut [u8]) -> LineFe
         Some(known) => {
             let fed = known.feed(chunk, buf);
             LineFed {
-                reader: flat(fed.reader),
+                reader: LineReader::from(fed.reader),
                 answer: fed_numbers(fed.answer),
             }
         }
@@ -192,7 +194,7 @@ pub fn boundary_quiet(reader: LineReader, buf: &mut [u8]) -> LineFed
         Some(known) => {
             let quieted = known.quiet(buf);
             LineFed {
-                reader: flat(quieted.reader),
+                reader: LineReader::from(quieted.reader),
                 answer: quiet_numbers(quieted.answer),
             }
         }

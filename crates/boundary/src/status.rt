@@ -1,6 +1,6 @@
 // The statuses as numbers.
 ghost use Rattle.std.specs.Prelude.{◌≡◌};
-ghost use Rattle.boundary.specs.Status.{standard_in, remote_in};
+ghost use Rattle.boundary.specs.Status.{standard_part, remote_part, standard_in, remote_in};
 
 use message::{RemoteStatus, StandardStatus};
 
@@ -25,6 +25,48 @@ pub struct StatusNumbers {
     pub signals: u16,
     pub mask: u16,
     pub interrupts: u16,
+}
+
+impl From<StandardStatus> for StatusNumbers {
+    ghost from_gives = { λ status numbers. numbers ≡ standard_part status };
+
+    fn from(s: StandardStatus) -> StatusNumbers {
+        StatusNumbers {
+            identifier: s.identifier,
+            serial: s.serial,
+            destination: s.destination,
+            time: s.time,
+            relays: s.relays,
+            supply: s.supply,
+            unused: s.unused,
+            di: s.di,
+            di_changed: s.di_changed,
+            ad1: s.ad1,
+            ad2: s.ad2,
+            ad3: s.ad3,
+            ad4: s.ad4,
+            correction: s.correction,
+            ..StatusNumbers::default()
+        }
+    }
+}
+
+impl From<RemoteStatus> for StatusNumbers {
+    ghost from_gives = { λ status numbers. numbers ≡ remote_part status };
+
+    fn from(s: RemoteStatus) -> StatusNumbers {
+        StatusNumbers {
+            serial: s.serial,
+            destination: s.destination,
+            time: s.time,
+            relays: s.relays,
+            unused: s.unused,
+            signals: s.signals,
+            mask: s.mask,
+            interrupts: s.interrupts,
+            ..StatusNumbers::default()
+        }
+    }
 }
 
 pub(crate) fn standard_in(sender: u8, lqi: u8, n: StatusNumbers) -> StandardStatus

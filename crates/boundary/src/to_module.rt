@@ -19,6 +19,7 @@ use message::{
 // extended address, 4 for a change of outputs, 5 for a settings list, which is the data, 6 for a command to the module itself, whose number is `command`.
 // Fields that the kind does not have are 0 in an answer, and are not looked at in a write; `refusal` and `start`, the index at which the data begin, belong
 // to answers alone.
+// Kept: the kind and the command are numbers, and one struct has the fields of every kind, since this is the C interface.
 #[repr(C)]
 #[derive(Clone, Copy, Default)]
 pub struct ToModuleNumbers {
@@ -38,24 +39,22 @@ pub struct ToModuleNumbers {
 fn transmission_numbers(m: Transmission, start: usize) -> ToModuleNumbers
     ensures { result ≡ transmission_numbers m start }
 {
-    let address = m.address;
-    let numbers = OptionNumbers::from(m.options);
-    match address {
-        Address::Plain(a) => ToModuleNumbers {
+    let numbers = ToModuleNumbers {
+        response_id: m.response_id,
+        options: OptionNumbers::from(m.options),
+        start,
+        ..ToModuleNumbers::default()
+    };
+    match m.address {
+        Address::Plain(address) => ToModuleNumbers {
             kind: 2,
-            address: a,
-            response_id: m.response_id,
-            options: numbers,
-            start: start,
-            ..ToModuleNumbers::default()
+            address,
+            ..numbers
         },
-        Address::Extended(w) => ToModuleNumbers {
+        Address::Extended(extended) => ToModuleNumbers {
             kind: 3,
-            response_id: m.response_id,
-            extended: w,
-            options: numbers,
-            start: start,
-            ..ToModuleNumbers::default()
+            extended,
+            ..numbers
         },
     }
 }
@@ -69,13 +68,13 @@ fn request_numbers(request: Request, start: usize) -> ToModuleNumbers
             kind: 1,
             address: m.address,
             command: m.command,
-            start: start,
+            start,
             ..ToModuleNumbers::default()
         },
         Request::Extended(m) => transmission_numbers(m, start),
         Request::Settings => ToModuleNumbers {
             kind: 5,
-            start: start,
+            start,
             ..ToModuleNumbers::default()
         },
     }
@@ -111,7 +110,7 @@ fn transmission_in(address: Address, n: ToModuleNumbers) -> Transmission
     ensures { result ≡ transmission_in address n }
 {
     Transmission {
-        address: address,
+        address,
         response_id: n.response_id,
         options: Options::from(n.options),
     }
@@ -165,12 +164,9 @@ pub fn boundary_write_output_change(
 ) -> FlatWriting
     ensures { WritesChange (framing_of framing) change buf.old result buf.new }
 {
-    let Some(f) = framing_of(framing) else {
+    let (Some(f), 4) = (framing_of(framing), change.kind) else {
         return unwritten(Unnamed::Kind);
     };
-    if change.kind != 4 {
-        return unwritten(Unnamed::Kind);
-    }
     let c = OutputChange {
         address: change.address,
         signals: change.signals,
@@ -184,12 +180,9 @@ pub fn boundary_write_output_change(
 pub fn boundary_write_setup(framing: u8, command: ToModuleNumbers, buf: &mut [u8]) -> FlatWriting
     ensures { WritesSetup (framing_of framing) command buf.old result buf.new }
 {
-    let Some(f) = framing_of(framing) else {
+    let (Some(f), 6) = (framing_of(framing), command.kind) else {
         return unwritten(Unnamed::Kind);
     };
-    if command.kind != 6 {
-        return unwritten(Unnamed::Kind);
-    }
     let NamedCommand::Known(c) = SetupCommand::named(command.command) else {
         return unwritten(Unnamed::Command);
     };
