@@ -27,10 +27,12 @@ use Rattle.frame.specs.declared.framing.Format.{Format}
 use Rattle.reader.specs.declared.reader.Reader.{Reader}
 use Rattle.reader.specs.declared.reader.Fed.{Fed}
 use Rattle.reader.specs.declared.reader.Quieted.{Quieted}
+use Rattle.std.proofs.Common.{Result, Ok, Err}
+use Rattle.frame.specs.declared.refusal.Refusal.{Refusal}
 use Rattle.reader.specs.declared.answer.FeedAnswer.{FeedAnswer}
-use Rattle.reader.specs.declared.answer.FeedAnswer.TheVariants.{Frame as FeedFrame, NeedsMore, Refused as FeedRefused}
+use Rattle.reader.specs.declared.answer.FeedAnswer.TheVariants.{Frame as FeedFrame, NeedsMore}
 use Rattle.reader.specs.declared.answer.QuietAnswer.{QuietAnswer}
-use Rattle.reader.specs.declared.answer.QuietAnswer.TheVariants.{Frame as QuietFrame, Empty, Refused as QuietRefused}
+use Rattle.reader.specs.declared.answer.QuietAnswer.TheVariants.{Frame as QuietFrame, Empty}
 use Rattle.reader.proofs.Settling.{line_one, line_taken, quiet_one, quiet_left}
 use Rattle.reader.proofs.Promises.{answered, refusing, hands_out, takes}
 use Rattle.reader.proofs.Calling.{empty_none, frame_holds, emptied_fresh}
@@ -370,15 +372,15 @@ none_is_zero =
       quiet_answer = at_quiet_lem;
     }
   where
-    at_line_lem : (a : FeedAnswer) → (feed_values_of a).is_frame ≡ false → (feed_values_of a).began ≡ 0
-    at_line_lem (FeedFrame size noise judged len began) e = absurd (true≢false e)
-    at_line_lem (NeedsMore size noise judged) e = refl
-    at_line_lem (FeedRefused r) e = refl
+    at_line_lem : (a : Result FeedAnswer Refusal) → (feed_values_of a).is_frame ≡ false → (feed_values_of a).began ≡ 0
+    at_line_lem (Ok (FeedFrame size noise judged len began)) e = absurd (true≢false e)
+    at_line_lem (Ok (NeedsMore size noise judged)) e = refl
+    at_line_lem (Err r) e = refl
 
-    at_quiet_lem : (a : QuietAnswer) → (quiet_values_of a).is_frame ≡ false → (quiet_values_of a).began ≡ 0
-    at_quiet_lem (QuietFrame noise judged len began) e = absurd (true≢false e)
-    at_quiet_lem (Empty noise judged) e = refl
-    at_quiet_lem (QuietRefused r) e = refl
+    at_quiet_lem : (a : Result QuietAnswer Refusal) → (quiet_values_of a).is_frame ≡ false → (quiet_values_of a).began ≡ 0
+    at_quiet_lem (Ok (QuietFrame noise judged len began)) e = absurd (true≢false e)
+    at_quiet_lem (Ok (Empty noise judged)) e = refl
+    at_quiet_lem (Err r) e = refl
 
 pub position_examples : PositionExamples
 unfolding places positions_from binary body last_byte ascii hex_digits is_digit digit_value line_ending after_digits byte test word bytes

@@ -22,6 +22,7 @@ use Rattle.frame.specs.declared.framing.Format.{Format}
 use Rattle.reader.specs.declared.reader.Reader.{Reader}
 use Rattle.reader.specs.declared.reader.Fed.{Fed}
 use Rattle.reader.specs.declared.answer.FeedAnswer.TheVariants.{Frame as FeedFrame, NeedsMore}
+use Rattle.std.proofs.Common.{Ok}
 use Rattle.reader.specs.declared.reader.Quieted.{Quieted}
 use Rattle.reader.specs.declared.answer.QuietAnswer.TheVariants.{Frame as QuietFrame, Empty}
 use Rattle.frame.proofs.Rules.{given_behind_nil, rule_few}
@@ -107,7 +108,7 @@ module _ (r : Reader) (l : StateFits r) where
   unfolding quiet_held
   ends_empty n e h =
       let f : Format = r.format in
-      let a : Quieted = record { reader = new_reader f; answer = Empty quiet_call.out.noise (quiet_judged (state_of r)) } in
+      let a : Quieted = record { reader = new_reader f; answer = Ok (Empty quiet_call.out.noise (quiet_judged (state_of r))) } in
       let p : Quiets r buffer a buffer =
       keeps quiet_call (quiet_judged (state_of r)) [] buffer (new_reader f) (quiet_free r l) h
       (subst (λ (fs : List (List ℕ)). AfterQuiet r.format quiet_call fs (new_reader f)) (sym h) refl) in
@@ -130,7 +131,7 @@ module _ (r : Reader) (l : StateFits r) where
   ends_frame n p ps e h later =
       let s' : State = after (state_of r) quiet_call in
       let r' : Reader = reader_of s' in
-      let a : Quieted = record { reader = r'; answer = QuietFrame quiet_call.out.noise (quiet_judged (state_of r)) (length p) quiet_call.began } in
+      let a : Quieted = record { reader = r'; answer = Ok (QuietFrame quiet_call.out.noise (quiet_judged (state_of r)) (length p) quiet_call.began) } in
       let q : Quiets r buffer a (in_front p buffer) =
       keeps quiet_call (quiet_judged (state_of r)) (p ∷ ps) buffer r' (quiet_free r l) h
       (subst
@@ -230,7 +231,7 @@ module _
     goes_on : (fs : List (List ℕ)) → call.out.frames ≡ fs → Goes r todo (chunk ∷ chunks) (suc n)
     unfolding flatten
     goes_on [] h =
-        let a : Fed = record { reader = next; answer = NeedsMore call.taken call.out.noise (line_judged (state_of r) chunk) } in
+        let a : Fed = record { reader = next; answer = Ok (NeedsMore call.taken call.out.noise (line_judged (state_of r) chunk)) } in
         let q : Feeds r chunk buffer a buffer =
         keeps call (line_judged (state_of r) chunk) [] buffer next (feed_free r chunk l short.0) h (reader_holds (after (state_of r) call)) in
         let rest : drop call.taken todo ≡ flatten chunks =
@@ -246,7 +247,7 @@ module _
         }
     goes_on (p ∷ ps) h =
         let a : Fed =
-        record { reader = next; answer = FeedFrame call.taken call.out.noise (line_judged (state_of r) chunk) (length p) call.began } in
+        record { reader = next; answer = Ok (FeedFrame call.taken call.out.noise (line_judged (state_of r) chunk) (length p) call.began) } in
         let q : Feeds r chunk buffer a (in_front p buffer) =
         keeps call (line_judged (state_of r) chunk) (p ∷ ps) buffer next (feed_free r chunk l short.0) h (reader_holds (after (state_of r) call)) in
         let again : List (List ℕ) = drop call.taken chunk ∷ chunks in

@@ -9,7 +9,7 @@ use mathlib.Core.Path.{◌≡◌, refl, sym, ap, ap₂, ◌∙◌, subst}
 use lib.ListN.{length, take, drop}
 use lib.Seq.{drop-drop}
 use Rattle.frame.specs.Framing.{absorbed, behind_optional}
-use Rattle.reader.specs.Reader.{holding, Called, called, line_on, took_first, line_behind, judged_to, line_judged, Values, no_frame_values, feed_values_of}
+use Rattle.reader.specs.Reader.{holding, Called, called, line_on, took_first, line_behind, judged_to, line_judged, Values, no_frame_values, fed_values_of}
 use Rattle.reader.specs.Answer.{TookFirst, scan_whole, values_at}
 use Rattle.reader.specs.Feeding.{Leaves, line_over}
 use Rattle.frame.specs.declared.framing.Format.{Format}
@@ -34,8 +34,8 @@ behind_held f follows (b ∷ h) chunk l = refl
 
 -- An answer's bytes taken are those of its call, and no more than the chunk has.
 pub few_taken :
-    (f : Format) (h chunk : List ℕ) (total : ℕ) (answer : FeedAnswer) → feed_values_of answer ≡ values_at (line_on f h chunk) total → length chunk ≤ 65536 →
-    (feed_values_of answer).taken ≤ 65536
+    (f : Format) (h chunk : List ℕ) (total : ℕ) (answer : FeedAnswer) → fed_values_of answer ≡ values_at (line_on f h chunk) total → length chunk ≤ 65536 →
+    (fed_values_of answer).taken ≤ 65536
 few_taken f h chunk total answer e l =
     let c : Called = line_on f h chunk in
     omega (arith, ap (λ (v : Values). v.taken) e ∙ called_taken c total c.out.frames, on_taken f h chunk)

@@ -4,30 +4,28 @@ use Prim.Native.Nat.{ℕ, ◌+◌, ◌-◌, ◌≤◌, ◌<◌}
 use native.Mathlib.Nat.{le_refl, sub_self, sub-zero}
 use native.Mathlib.Omega.{arith}
 use mathlib.Core.Path.{◌≡◌, refl, sym, ap, ap₂, ◌∙◌, subst}
-use mathlib.Core.List.{List, [], ◌∷◌, ◌++◌}
+use mathlib.Core.List.{List, ◌++◌}
 use mathlib.Core.Bool.{Bool, true, false}
 use borrow.Author.Tests.{le-leb, lt-leb}
 use lib.ListN.{length, take, drop, length-append}
 use lib.Seq.{paste, take-length, take-paste, take_at, drop_at}
 use Rattle.frame.specs.Framing.{is_open, limit}
 use Rattle.frame.specs.Judged.{payload_at}
-use Rattle.frame.specs.Refusal.{number_of}
-use Rattle.reader.specs.Reader.{Values, refusal_values, called_values, sound, call_refusal}
-use Rattle.reader.specs.Reader.{holding, state_of, Called, line_on, line, line_judged, frame_values, feed_values_of, buffer_at, quiet_refusal, feed_refusal}
+use Rattle.reader.specs.Reader.{sound, call_refusal}
+use Rattle.reader.specs.Reader.{holding, state_of, Called, line_on, line, line_judged, frame_values, fed_values_of, buffer_at, quiet_refusal, feed_refusal}
 use Rattle.reader.specs.Reader.{Feeds}
 use Rattle.reader.specs.Scan.{Stop, found, undecided, passed, stop_of, judging, Scanned, scanned_to, scan_from, stop_buffer}
 use Rattle.reader.specs.View.{part}
-use Rattle.reader.specs.Answer.{HeldSo, before_scan, called_as, called_by, scan_whole, kept_as, kept_end, Usable, Answerable, Keeps, values_at}
+use Rattle.reader.specs.Answer.{HeldSo, before_scan, called_as, called_by, scan_whole, kept_as, kept_end, Usable, Answerable, Keeps}
 use Rattle.reader.specs.Feeding.{joined, Stores, Leaves, KeepsCall, QuietAnswered}
 use Rattle.frame.specs.declared.framing.Format.{Format}
-use Rattle.frame.specs.declared.refusal.Refusal.{Refusal}
-use Rattle.frame.specs.declared.refusal.Refusal.TheVariants.{Start, Cut, Length, Checksum, Footer, Character, Buffer, Payload, Chunk, State}
 use Rattle.reader.specs.declared.reader.Reader.{Reader}
 use Rattle.reader.specs.declared.reader.Left.{Left}
 use Rattle.reader.specs.declared.reader.Quieted.{Quieted}
 use Rattle.reader.specs.declared.answer.Before.{Before}
 use Rattle.reader.specs.declared.answer.Kept.{Kept}
 use Rattle.reader.specs.declared.answer.FeedAnswer.TheVariants.{Frame as FeedFrame, NeedsMore}
+use Rattle.std.proofs.Common.{Ok}
 use Rattle.reader.specs.declared.scan.ScanEnd.{ScanEnd}
 use Rattle.reader.specs.declared.scan.ScanEnd.TheVariants.{Frame, Undecided, Passed}
 use Rattle.frame.proofs.Lists.{take_rest}
@@ -110,7 +108,7 @@ module _ (f : Format) (before : Before) (w : List ℕ) (x : Scanned) (total : �
   pub stored_leaves : (held : List ℕ) (left : Left) → Stores (part k.from k.end w) k held left → Leaves (called_by f before w x) total buf left held buf'
   stored_leaves held left s =
       record {
-        values = ap feed_values_of s.answer ∙ h.values;
+        values = ap fed_values_of s.answer ∙ h.values;
         count = s.count ∙ ap length h.held;
         bytes = s.bytes ∙ h.held;
         follows = s.follows ∙ h.follows;
@@ -275,26 +273,6 @@ module _ (f : Format) (h chunk w : List ℕ) (count : ℕ) (n : length h ≡ cou
   pub long_passed : x.stop ≡ passed → scan_whole f 0 count (x.reach - count) chunk ≡ line_on f h chunk
   long_passed p = ap (λ (m : ℕ). scan_whole f 0 m (x.reach - m) chunk) (sym n) ∙ held_passed f h chunk x scan_is p
 
--- No call has the values of a refusal.
-called_number : (c : Called) (total : ℕ) (ps : List (List ℕ)) → (called_values c total ps).number ≡ 0
-called_number c total [] = refl
-called_number c total (p ∷ ps) = refl
-
-some_number : (r : Refusal) → number_of r ≡ 0 → ⊥
-some_number Start e = omega arith
-some_number Cut e = omega arith
-some_number Length e = omega arith
-some_number Checksum e = omega arith
-some_number Footer e = omega arith
-some_number Character e = omega arith
-some_number Buffer e = omega arith
-some_number Payload e = omega arith
-some_number Chunk e = omega arith
-some_number State e = omega arith
-
-pub none_refused : (r : Refusal) (c : Called) (total : ℕ) → refusal_values (number_of r) ≡ values_at c total → ⊥
-none_refused r c total e = some_number r (ap (λ (v : Values). v.number) e ∙ called_number c total c.out.frames)
-
 -- What a feed answers is what is left of the call.
 pub leaves_feeds :
     (r : Reader) (chunk buf : List ℕ) (left : Left) (held buf' : List ℕ) (judged : ℕ) → feed_refusal r (length buf) (length chunk) ≡ 0 →
@@ -302,7 +280,7 @@ pub leaves_feeds :
     Feeds r chunk buf
     (record {
       reader = record { format = r.format; held = held; count = left.count; follows = left.follows; judged = judged };
-      answer = left.answer;
+      answer = Ok left.answer;
     })
     buf'
 leaves_feeds r chunk buf left held buf' judged z h so =

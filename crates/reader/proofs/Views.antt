@@ -24,7 +24,8 @@ use Rattle.reader.specs.declared.reader.Reader.{Reader}
 use Rattle.frame.specs.declared.refusal.Refusal.{Refusal}
 use Rattle.reader.specs.declared.answer.Kept.{Kept}
 use Rattle.reader.specs.declared.answer.FeedAnswer.{FeedAnswer}
-use Rattle.reader.specs.declared.answer.FeedAnswer.TheVariants.{NeedsMore, Refused}
+use Rattle.reader.specs.declared.answer.FeedAnswer.TheVariants.{NeedsMore}
+use Rattle.std.proofs.Common.{Ok, Err}
 use Rattle.reader.specs.declared.view.View.{View}
 use Rattle.reader.specs.declared.view.Viewed.{Viewed}
 use Rattle.reader.proofs.Parts.{part_size, part_rest}
@@ -167,7 +168,7 @@ module _ (v : View) (room size : ℕ) where
 -- A refused call.
 pub refused_views :
     (v : View) (chunk buf : List ℕ) (a : Viewed) (r : Refusal) → view_refusal v (length buf) (length chunk) ≡ number_of r →
-    eqb (number_of r) 0 ≡ false → a.view ≡ v → a.answer ≡ Refused r → Views v chunk buf a buf
+    eqb (number_of r) 0 ≡ false → a.view ≡ v → a.answer ≡ Err r → Views v chunk buf a buf
 refused_views v chunk buf a r n z e f =
     record {
       refuses = λ _. (ap feed_values_of f ∙ ap refusal_values (sym n), e, refl);
@@ -177,7 +178,7 @@ refused_views v chunk buf a r n z e f =
 -- A call with no byte held or offered, where the view is at the chunk's end.
 pub waiting_views :
     (v : View) (chunk buf : List ℕ) (a : Viewed) → Inside v (length chunk) → v.from ≡ length chunk → 256 ≤ length buf → length chunk ≤ 65536 →
-    a.view ≡ v → a.answer ≡ NeedsMore 0 0 0 → Views v chunk buf a buf
+    a.view ≡ v → a.answer ≡ Ok (NeedsMore 0 0 0) → Views v chunk buf a buf
 waiting_views v chunk buf a h last room few same is =
     let f : Format = v.format in
     let end : v.end ≡ length chunk = omega (arith, h.onward, h.there) in
@@ -287,7 +288,7 @@ pub kept_views :
     Views v chunk buf
     (record {
       view = record { format = at.format; from = at.from + k.from; end = at.from + k.end; follows = k.follows; judged = judged };
-      answer = answer;
+      answer = Ok answer;
     })
     buf'
 kept_views v chunk rest buf buf' at k answer judged h p room few r fed so took =

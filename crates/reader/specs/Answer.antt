@@ -3,7 +3,7 @@ use Rattle.std.specs.Prelude.{ℕ, ◌+◌, ◌-◌, ◌≤◌, ◌≡◌, List,
 use Rattle.frame.specs.Checks.{cut, frame}
 use Rattle.frame.specs.Framing.{judge, is_open}
 use Rattle.frame.specs.Rule.{output}
-use Rattle.reader.specs.Reader.{Called, called, took_first, judged_held, Values, feed_values_of, called_values}
+use Rattle.reader.specs.Reader.{Called, called, took_first, judged_held, Values, fed_values_of, called_values}
 use Rattle.reader.specs.View.{part}
 use Rattle.reader.specs.Scan.{Stop, found, undecided, passed, Scanned, scan_from}
 use Rattle.frame.specs.declared.framing.Format.{Format}
@@ -21,12 +21,12 @@ values_at c judged = called_values c judged c.out.frames
 
 -- Where an answer stands for a call, r stands for the call that took n bytes more, before the others.
 abbrev pub TookFirst : ℕ → FeedAnswer → FeedAnswer → Type 0
-TookFirst n answer r = (c : Called) (total : ℕ) → feed_values_of answer ≡ values_at c total → feed_values_of r ≡ values_at (took_first n c) total
+TookFirst n answer r = (c : Called) (total : ℕ) → fed_values_of answer ≡ values_at c total → fed_values_of r ≡ values_at (took_first n c) total
 
 -- Where an answer stands for a call that holds `count` bytes afterwards, as many of them as r were judged at the first.
 abbrev pub HeldSo : FeedAnswer → ℕ → ℕ → Type 0
 HeldSo answer count r =
-    (c : Called) (total : ℕ) → feed_values_of answer ≡ values_at c total → count ≡ length c.held → r ≡ judged_held c.out.frames c.held
+    (c : Called) (total : ℕ) → fed_values_of answer ≡ values_at c total → count ≡ length c.held → r ≡ judged_held c.out.frames c.held
 
 -- What a scan of w that stopped so gives as a call.
 abbrev pub called_as : Format → Stop → Before → List ℕ → ℕ → ℕ → Called
@@ -67,7 +67,7 @@ kept_end passed w reach = length w
 
 -- The answer that is made of a scan of w, where the call judged `total` bytes, and the part of w that is held afterwards. The buffer is another function's.
 pub record Keeps (m : Format) (before : Before) (w : List ℕ) (x : Scanned) (total : ℕ) (k : Kept) : Type 0 where
-  pub values : feed_values_of k.answer ≡ values_at (called_by m before w x) total
+  pub values : fed_values_of k.answer ≡ values_at (called_by m before w x) total
   pub held : part k.from k.end w ≡ (called_by m before w x).held
   pub follows : k.follows ≡ (called_by m before w x).follows
   pub inside : k.from ≤ k.end

@@ -2,7 +2,7 @@
 -- what `line` and `quiet` give.
 use Rattle.std.specs.Prelude.{ℕ, ◌+◌, ◌*◌, ◌≤◌, max, ◌≡◌, List, ◌++◌, Bool, false, cond, eqb, length, take, drop}
 use Rattle.frame.specs.Framing.{limit, absorbed}
-use Rattle.reader.specs.Reader.{holding, Called, line_on, line_behind, line_judged, AfterQuiet, feed_values_of, quiet_values_of, buffer_at}
+use Rattle.reader.specs.Reader.{holding, Called, line_on, line_behind, line_judged, AfterQuiet, fed_values_of, quiet_values_of, buffer_at}
 use Rattle.reader.specs.View.{part}
 use Rattle.reader.specs.Answer.{values_at}
 use Rattle.frame.specs.declared.framing.Format.{Format}
@@ -30,7 +30,7 @@ pub record Stores (s : List ℕ) (k : Kept) (held : List ℕ) (left : Left) : Ty
 
 -- A function behind `feed` answers what c gives, which judged `total` bytes: values, the held bytes in the front of an array, and the buffer.
 pub record Leaves (c : Called) (total : ℕ) (buf : List ℕ) (left : Left) (held buf' : List ℕ) : Type 0 where
-  pub values : feed_values_of left.answer ≡ values_at c total
+  pub values : fed_values_of left.answer ≡ values_at c total
   pub count : left.count ≡ length c.held
   pub bytes : take left.count held ≡ c.held
   pub follows : left.follows ≡ c.follows
@@ -62,7 +62,7 @@ judged_in f follows count judged w = line_judged (holding f (take count w) follo
 
 -- What a view's call that judged `total` bytes answers, and the part of w that is held afterwards, where the first `count` bytes of w were held.
 pub record KeepsCall (c : Called) (total count : ℕ) (w : List ℕ) (k : Kept) (buf buf' : List ℕ) : Type 0 where
-  pub values : feed_values_of k.answer ≡ values_at c total
+  pub values : fed_values_of k.answer ≡ values_at c total
   pub held : part k.from k.end w ≡ c.held
   pub inside : k.from ≤ k.end
   pub there : k.end ≤ length w

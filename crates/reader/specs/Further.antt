@@ -1,5 +1,5 @@
 -- Further claims: on single calls, on the rule over damage, and on calls from states made by hand. Document 00's demands are stated without them.
-use Rattle.std.specs.Prelude.{ℕ, ◌+◌, ◌*◌, ◌≤◌, ◌≡◌, true, false, length, drop}
+use Rattle.std.specs.Prelude.{ℕ, ◌+◌, ◌*◌, ◌≤◌, ◌≡◌, true, false, length, drop, Result}
 use mathlib.Core.List.{List, [], ◌∷◌, ◌++◌, flatten, Memᴰ}
 use Rattle.frame.specs.Checks.{frame}
 use Rattle.frame.specs.Framing.{judge, is_open, is_optional, absorbed, behind_optional}
@@ -15,6 +15,7 @@ use Rattle.frame.specs.declared.framing.Footer.{Footer}
 use Rattle.frame.specs.declared.framing.Ending.{Ending}
 use Rattle.frame.specs.declared.framing.Format.{Format}
 use Rattle.frame.specs.declared.framing.Format.TheVariants.{Binary, Ascii}
+use Rattle.frame.specs.declared.refusal.Refusal.{Refusal}
 use Rattle.reader.specs.declared.reader.Reader.{Reader}
 use Rattle.reader.specs.declared.reader.Fed.{Fed}
 use Rattle.reader.specs.declared.reader.Quieted.{Quieted}
@@ -173,5 +174,5 @@ CallsGiveAfter =
 pub record NoneIsZero : Type 0 where
   pub line_call : (s : State) (chunk : List ℕ) → (line s chunk).out.frames ≡ [] → (line s chunk).began ≡ 0
   pub quiet_call : (s : State) → (quiet s).out.frames ≡ [] → (quiet s).began ≡ 0
-  pub line_answer : (a : FeedAnswer) → (feed_values_of a).is_frame ≡ false → (feed_values_of a).began ≡ 0
-  pub quiet_answer : (a : QuietAnswer) → (quiet_values_of a).is_frame ≡ false → (quiet_values_of a).began ≡ 0
+  pub line_answer : (a : Result FeedAnswer Refusal) → (feed_values_of a).is_frame ≡ false → (feed_values_of a).began ≡ 0
+  pub quiet_answer : (a : Result QuietAnswer Refusal) → (quiet_values_of a).is_frame ≡ false → (quiet_values_of a).began ≡ 0

@@ -1,18 +1,20 @@
 -- The line reader's calls. Document 01, "The leftmost rule and the line reader" and "Refusal numbers". A line call offers a chunk; a quiet call, document
 -- 01's term, says that the line was silent and the segment has ended.
 use Rattle.std.specs.Prelude.{ℕ, zero, suc, ◌+◌, ◌-◌, min, ◌≡◌, List, [], ◌∷◌, ◌++◌, Bool, true, false, cond, ◌&&◌, leb, eqb, length, take, drop, replicate}
+use Rattle.std.specs.Prelude.{Result, Ok, Err}
 use Rattle.frame.specs.Checks.{Verdict, cut, refused, frame}
 use Rattle.frame.specs.Framing.{judge, judged_at, is_open, absorbed, behind_optional, limit, in_front}
 use Rattle.frame.specs.Refusal.{number_of}
 use Rattle.frame.specs.Rule.{Output, output, nothing, join}
 use Rattle.frame.specs.declared.framing.Format.{Format}
+use Rattle.frame.specs.declared.refusal.Refusal.{Refusal}
 use Rattle.reader.specs.declared.reader.Reader.{Reader}
 use Rattle.reader.specs.declared.reader.Fed.{Fed}
 use Rattle.reader.specs.declared.answer.FeedAnswer.{FeedAnswer}
-use Rattle.reader.specs.declared.answer.FeedAnswer.TheVariants.{Frame as FeedFrame, NeedsMore, Refused as FeedRefused}
+use Rattle.reader.specs.declared.answer.FeedAnswer.TheVariants.{Frame as FeedFrame, NeedsMore}
 use Rattle.reader.specs.declared.reader.Quieted.{Quieted}
 use Rattle.reader.specs.declared.answer.QuietAnswer.{QuietAnswer}
-use Rattle.reader.specs.declared.answer.QuietAnswer.TheVariants.{Frame as QuietFrame, Empty, Refused as QuietRefused}
+use Rattle.reader.specs.declared.answer.QuietAnswer.TheVariants.{Frame as QuietFrame, Empty}
 
 -- What a reader's calls depend on: its format, the bytes that it holds, and the mark of document 02, CR 2 and 9: whether an optional byte may still follow the
 -- last frame and belong to it. In a format without such a byte it means nothing (MarkMeansNothing, Further.antt). CR 7: how many of the held bytes were judged
@@ -177,16 +179,23 @@ frame_values taken noise judged len began =
 abbrev pub no_frame_values : ℕ → ℕ → ℕ → Values
 no_frame_values taken noise judged = record { number = 0; taken = taken; noise = noise; judged = judged; len = 0; began = 0; is_frame = false }
 
--- The values of each answer; everything else that is said of answers goes by them.
-abbrev pub feed_values_of : FeedAnswer → Values
-feed_values_of (FeedFrame taken noise judged len began) = frame_values taken noise judged len began
-feed_values_of (NeedsMore taken noise judged) = no_frame_values taken noise judged
-feed_values_of (FeedRefused r) = refusal_values (number_of r)
+-- The values of each answer of a call that is not refused.
+abbrev pub fed_values_of : FeedAnswer → Values
+fed_values_of (FeedFrame taken noise judged len began) = frame_values taken noise judged len began
+fed_values_of (NeedsMore taken noise judged) = no_frame_values taken noise judged
 
-abbrev pub quiet_values_of : QuietAnswer → Values
-quiet_values_of (QuietFrame noise judged len began) = frame_values 0 noise judged len began
-quiet_values_of (Empty noise judged) = no_frame_values 0 noise judged
-quiet_values_of (QuietRefused r) = refusal_values (number_of r)
+abbrev pub quieted_values_of : QuietAnswer → Values
+quieted_values_of (QuietFrame noise judged len began) = frame_values 0 noise judged len began
+quieted_values_of (Empty noise judged) = no_frame_values 0 noise judged
+
+-- The values of what a call gives back; everything else that is said of answers goes by them.
+abbrev pub feed_values_of : Result FeedAnswer Refusal → Values
+feed_values_of (Ok answer) = fed_values_of answer
+feed_values_of (Err r) = refusal_values (number_of r)
+
+abbrev pub quiet_values_of : Result QuietAnswer Refusal → Values
+quiet_values_of (Ok answer) = quieted_values_of answer
+quiet_values_of (Err r) = refusal_values (number_of r)
 
 -- The values of a call that is not refused, by the bytes that it judged and the payloads that came out.
 abbrev pub called_values : Called → ℕ → List (List ℕ) → Values

@@ -1,13 +1,13 @@
 // What the line reader's calls answer, and how an answer is made of a scan.
 ghost use Rattle.std.specs.Prelude.{◌≡◌, false, ◌-◌, ◌≤◌};
-ghost use Rattle.reader.specs.Reader.{feed_values_of};
+ghost use Rattle.reader.specs.Reader.{fed_values_of};
 ghost use Rattle.reader.specs.Scan.{scanned};
 ghost use Rattle.reader.specs.Answer.{HeldSo, TookFirst, kept_as, Answerable, Keeps};
 
 use crate::scan::{ScanEnd, ScanResult};
-use frame::{Format, Refusal, may_follow};
+use frame::{Format, may_follow};
 
-#[derive(Clone, Copy)]
+#[derive(Clone, Copy, Debug, PartialEq, Eq)]
 pub enum FeedAnswer {
     // A frame: `taken` bytes of the chunk were taken, an optional one that follows the frame before this among them, `noise` bytes were settled as noise,
     // the leftmost rule judges `judged` bytes at the places where the call stood, without those that the state before said were judged, the payload of
@@ -25,10 +25,9 @@ pub enum FeedAnswer {
         noise: usize,
         judged: usize,
     },
-    Refused(Refusal),
 }
 
-#[derive(Clone, Copy)]
+#[derive(Clone, Copy, Debug, PartialEq, Eq)]
 pub enum QuietAnswer {
     // A frame among the held bytes, with the same numbers but for `taken`, which is 0; it began `began` bytes before their end, which is the segment's.
     Frame {
@@ -42,7 +41,6 @@ pub enum QuietAnswer {
         noise: usize,
         judged: usize,
     },
-    Refused(Refusal),
 }
 
 // What was there before a scan: held bytes at the front of the slice, noise bytes settled, and the chunk's length.
@@ -70,13 +68,12 @@ pub(crate) fn judged_held(answer: FeedAnswer, count: usize) -> usize
     match answer {
         FeedAnswer::Frame { .. } => 0,
         FeedAnswer::NeedsMore { .. } => count,
-        FeedAnswer::Refused(_) => 0,
     }
 }
 
 // The answer of a call that took `first` bytes more, before the others.
 pub(crate) fn took_first(answer: FeedAnswer, first: usize) -> FeedAnswer
-    requires answer_bound { (feed_values_of answer).taken ≤ 65536 }
+    requires answer_bound { (fed_values_of answer).taken ≤ 65536 }
     requires first_bound { first ≤ 1 }
     ensures { TookFirst first answer result }
 {
@@ -103,7 +100,6 @@ pub(crate) fn took_first(answer: FeedAnswer, first: usize) -> FeedAnswer
             noise: noise,
             judged: judged,
         },
-        FeedAnswer::Refused(refusal) => FeedAnswer::Refused(refusal),
     }
 }
 

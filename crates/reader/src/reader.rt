@@ -1,5 +1,5 @@
 // The line reader: frames out of chunks of a serial line, as they come.
-ghost use Rattle.std.specs.Prelude.{◌≡◌, [], false, cond, ◌+◌, ◌≤◌, eqb, length, take, drop};
+ghost use Rattle.std.specs.Prelude.{◌≡◌, [], false, cond, ◌+◌, ◌≤◌, eqb, length, take, drop, Ok};
 ghost use Rattle.std.proofs.Math.Seq.{paste};
 ghost use Rattle.frame.specs.Framing.{format_of, judge, limit, behind_optional};
 ghost use Rattle.reader.specs.Reader.{holding, line_behind, quiet_held, judged_to, line_judged, quiet_judged, new_reader, Holds, can_hold, Feeds, Quiets};
@@ -8,7 +8,7 @@ ghost use Rattle.reader.specs.Answer.{scan_whole};
 ghost use Rattle.reader.specs.Feeding.{Joins, Stores, Leaves, LeavesHeld, LeavesLine, QuietAnswered, ChunkFed, HeldFed};
 
 use crate::answer::{Before, FeedAnswer, Kept, QuietAnswer, answer, judged_held, took_first};
-use crate::scan::{ScanEnd, find, left_out, smaller};
+use crate::scan::{ScanEnd, find, left_out};
 use frame::{Format, Framing, Refusal, absorbed, may_follow};
 
 // A reader's state, by value: its format; the bytes that it holds, the first `count` of `held`; and `follows`, whether an optional byte, the 04 of a frame that
@@ -27,14 +27,14 @@ pub struct Reader {
 #[derive(Clone, Copy)]
 pub struct Fed {
     pub reader: Reader,
-    pub answer: FeedAnswer,
+    pub answer: Result<FeedAnswer, Refusal>,
 }
 
 // The answer to a quiet, with the state that follows.
 #[derive(Clone, Copy)]
 pub struct Quieted {
     pub reader: Reader,
-    pub answer: QuietAnswer,
+    pub answer: Result<QuietAnswer, Refusal>,
 }
 
 // The held bytes of a state, and as much of a chunk as a frame that begins in them can have: the first `size` of `bytes`.
@@ -85,7 +85,7 @@ fn join(format: Format, held: &[u8], chunk: &[u8]) -> Joined
     ensures { Joins format held.now chunk.now result }
 {
     let count = held.len();
-    let more = smaller(chunk.len(), limit_of(format));
+    let more = chunk.len().min(limit_of(format));
     let mut bytes = [0u8; 1034];
     octets::copy(held, &mut bytes);
     octets::copy(&chunk[..more], &mut bytes[count..]);
@@ -122,24 +122,12 @@ fn shift(held: &mut [u8], kept: Kept) -> Left
     let answer = kept.answer;
     let follows = kept.follows;
     if 0 < from {
-        move_down(held, from, count);
+        held.copy_within(from..kept.end, 0);
     }
     Left {
         answer,
         count,
         follows,
-    }
-}
-
-// Moves `count` bytes of s from `from` on to its front.
-fn move_down(s: &mut [u8], from: usize, count: usize)
-    requires { from + count ≤ length s.old }
-    ensures { take count s.new ≡ take count (drop from s.old) }
-{
-    let mut i = 0;
-    while i < count {
-        s[i] = s[from + i];
-        i += 1;
     }
 }
 
@@ -296,7 +284,7 @@ fn drop_optional(format: Format, held: &mut [u8], count: usize, follows: bool) -
         return count;
     }
     let rest = count - 1;
-    move_down(held, 1, rest);
+    held.copy_within(1..count, 0);
     rest
 }
 
@@ -349,11 +337,11 @@ fn is_sound(format: Format, count: usize, judged: usize) -> bool
 // The answer that no frame is left, with a new reader.
 fn emptied(format: Format, noise: usize, judged: usize) -> Quieted
     ensures reader_value { result.reader ≡ new_reader format }
-    ensures answer_value { result.answer ≡ QuietAnswer.Empty noise judged }
+    ensures answer_value { result.answer ≡ Ok (QuietAnswer.Empty noise judged) }
 {
     Quieted {
         reader: Reader::open(format),
-        answer: QuietAnswer::Empty { noise, judged },
+        answer: Ok(QuietAnswer::Empty { noise, judged }),
     }
 }
 
@@ -376,12 +364,12 @@ fn quiet_held(format: Format, s: &[u8], known: usize, buf: &mut [u8]) -> Quieted
             let began = s.len() - place;
             Quieted {
                 reader: reader,
-                answer: QuietAnswer::Frame {
+                answer: Ok(QuietAnswer::Frame {
                     noise: place,
                     judged: judged,
                     len: len,
                     began: began,
-                },
+                }),
             }
         }
         ScanEnd::Undecided => emptied(format, place, judged),
@@ -431,19 +419,19 @@ impl Reader {
         if !is_sound(format, count, judged) {
             return Fed {
                 reader: self,
-                answer: FeedAnswer::Refused(Refusal::State),
+                answer: Err(Refusal::State),
             };
         }
         if buf.len() < Reader::MAX_PAYLOAD {
             return Fed {
                 reader: self,
-                answer: FeedAnswer::Refused(Refusal::Buffer),
+                answer: Err(Refusal::Buffer),
             };
         }
         if 65536 < chunk.len() {
             return Fed {
                 reader: self,
-                answer: FeedAnswer::Refused(Refusal::Chunk),
+                answer: Err(Refusal::Chunk),
             };
         }
         let follows = self.follows;
@@ -454,7 +442,7 @@ impl Reader {
         self.judged = judged_held(answer, left.count);
         Fed {
             reader: self,
-            answer: answer,
+            answer: Ok(answer),
         }
     }
 
@@ -469,13 +457,13 @@ impl Reader {
         if !is_sound(format, count, self.judged) {
             return Quieted {
                 reader: self,
-                answer: QuietAnswer::Refused(Refusal::State),
+                answer: Err(Refusal::State),
             };
         }
         if buf.len() < Reader::MAX_PAYLOAD {
             return Quieted {
                 reader: self,
-                answer: QuietAnswer::Refused(Refusal::Buffer),
+                answer: Err(Refusal::Buffer),
             };
         }
         let held = self.held;

@@ -1,11 +1,11 @@
 // A line reader's state whose held bytes are a part of the chunk at hand. Whoever has the chunk saves the copies of a reader's array.
-ghost use Rattle.std.specs.Prelude.{◌≡◌, true, false, ◌≤◌, length};
+ghost use Rattle.std.specs.Prelude.{◌≡◌, true, false, ◌≤◌, length, Ok, Err};
 ghost use Rattle.reader.specs.View.{inside, Views, Stands};
 ghost use Rattle.reader.specs.Feeding.{line_over, judged_in, KeepsCall, PartFed, past_optional};
 
 use crate::answer::{Before, FeedAnswer, Kept, answer, judged_held, took_first};
 use crate::reader::{Reader, hold, judged_behind, limit_of};
-use crate::scan::{find_first, larger};
+use crate::scan::find_first;
 use frame::{Format, Refusal, absorbed};
 
 // A reader's state, by value, whose held bytes are those of a chunk from index `from` up to `end`, which is behind them; `follows` and `judged` are the
@@ -23,16 +23,16 @@ pub struct View {
 #[derive(Clone, Copy)]
 pub struct Viewed {
     pub view: View,
-    pub answer: FeedAnswer,
+    pub answer: Result<FeedAnswer, Refusal>,
 }
 
 fn refused(view: View, refusal: Refusal) -> Viewed
     ensures view_value { result.view ≡ view }
-    ensures answer_value { result.answer ≡ FeedAnswer.Refused refusal }
+    ensures answer_value { result.answer ≡ Err refusal }
 {
     Viewed {
         view: view,
-        answer: FeedAnswer::Refused(refusal),
+        answer: Err(refusal),
     }
 }
 
@@ -73,15 +73,15 @@ fn feed_part(format: Format, w: &[u8], count: usize, judged: usize, buf: &mut [u
 // The answer of a view with no byte held or offered: where an optional byte might follow the last frame, it still may.
 fn waiting(view: View) -> Viewed
     ensures view_value { result.view ≡ view }
-    ensures answer_value { result.answer ≡ FeedAnswer.NeedsMore 0 0 0 }
+    ensures answer_value { result.answer ≡ Ok (FeedAnswer.NeedsMore 0 0 0) }
 {
     Viewed {
         view: view,
-        answer: FeedAnswer::NeedsMore {
+        answer: Ok(FeedAnswer::NeedsMore {
             taken: 0,
             noise: 0,
             judged: 0,
-        },
+        }),
     }
 }
 
@@ -100,7 +100,7 @@ fn past_optional(view: View, chunk: &[u8]) -> View
     View {
         format: format,
         from: next,
-        end: larger(view.end, next),
+        end: view.end.max(next),
         follows: false,
         judged: judged_behind(first, view.judged),
     }
@@ -130,7 +130,7 @@ fn feed_view(view: View, chunk: &[u8], buf: &mut [u8]) -> Viewed
             follows: kept.follows,
             judged: judged_held(answer, kept.end - kept.from),
         },
-        answer: took_first(answer, at.end - view.end),
+        answer: Ok(took_first(answer, at.end - view.end)),
     }
 }
 

@@ -5,10 +5,9 @@ use mathlib.Core.Bool.{true, false, false≢true}
 use mathlib.Core.List.{List, [], ◌∷◌}
 use mathlib.Core.Path.{◌≡◌, refl, sym, ap, ◌∙◌}
 use lib.ListN.{length}
-use Rattle.reader.specs.Reader.{Called, judged_held, Values, called_values, feed_values_of}
+use Rattle.reader.specs.Reader.{Called, judged_held, Values, called_values, fed_values_of}
 use Rattle.reader.specs.declared.answer.FeedAnswer.{FeedAnswer}
 use Rattle.reader.proofs.Promises.{no_frames}
-use Rattle.reader.proofs.Readers.{none_refused}
 use Rattle.reader.proofs.answer.judged_held.Goals as goal
 
 -- Behind a frame none of the held bytes was judged.
@@ -24,14 +23,11 @@ pub returns-in-Frame : goal.returns-in-Frame
 returns-in-Frame c =
     λ call total e n.
     behind-frame call total call.out.frames
-    (ap (λ (v : Values). v.is_frame) (sym e) ∙ ap (λ (a : FeedAnswer). (feed_values_of a).is_frame) c.in-Frame.is)
+    (ap (λ (v : Values). v.is_frame) (sym e) ∙ ap (λ (a : FeedAnswer). (fed_values_of a).is_frame) c.in-Frame.is)
 
 pub returns-in-NeedsMore : goal.returns-in-NeedsMore
 returns-in-NeedsMore c =
     λ call total e n.
     n
     ∙ more-held call total call.out.frames
-    (ap (λ (v : Values). v.is_frame) (sym e) ∙ ap (λ (a : FeedAnswer). (feed_values_of a).is_frame) c.in-NeedsMore.is)
-
-pub returns-in-Refused : goal.returns-in-Refused
-returns-in-Refused c = λ call total e n. absurd (none_refused c.in-Refused.field-0 call total (sym (ap feed_values_of c.in-Refused.is) ∙ e))
+    (ap (λ (v : Values). v.is_frame) (sym e) ∙ ap (λ (a : FeedAnswer). (fed_values_of a).is_frame) c.in-NeedsMore.is)

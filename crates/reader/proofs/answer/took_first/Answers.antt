@@ -4,10 +4,9 @@ use Prim.Native.Nat.{ℕ, ◌+◌}
 use native.Mathlib.Omega.{arith}
 use mathlib.Core.Path.{◌≡◌, refl, sym, ap, ◌∙◌}
 use mathlib.Core.List.{List, [], ◌∷◌}
-use Rattle.reader.specs.Reader.{Called, took_first, Values, called_values, feed_values_of}
+use Rattle.reader.specs.Reader.{Called, took_first, Values, called_values, fed_values_of}
 use Rattle.reader.specs.Answer.{values_at}
 use Rattle.reader.specs.declared.answer.FeedAnswer.{FeedAnswer}
-use Rattle.reader.proofs.Readers.{none_refused}
 use Rattle.reader.proofs.answer.took_first.Goals as goal
 
 -- Values with n bytes more taken.
@@ -33,7 +32,7 @@ took n c total v e = ap (more n) e ∙ took-values n c total c.out.frames
 
 -- As many bytes as the answer says were taken.
 abbrev taken-by : FeedAnswer → ℕ
-taken-by a = (feed_values_of a).taken
+taken-by a = (fed_values_of a).taken
 
 pub overflow_add-result : goal.overflow_add-result
 overflow_add-result c = omega (arith, ap taken-by c.in-Frame.is)
@@ -44,14 +43,9 @@ overflow_add-result-in-NeedsMore c = omega (arith, ap taken-by c.in-NeedsMore.is
 pub returns-in-Frame : goal.returns-in-Frame
 returns-in-Frame c =
     λ call total e.
-    took c.args.first call total _ (sym (ap feed_values_of c.in-Frame.is) ∙ e)
+    took c.args.first call total _ (sym (ap fed_values_of c.in-Frame.is) ∙ e)
 
 pub returns-in-NeedsMore : goal.returns-in-NeedsMore
 returns-in-NeedsMore c =
     λ call total e.
-    took c.args.first call total _ (sym (ap feed_values_of c.in-NeedsMore.is) ∙ e)
-
-pub returns-in-Refused : goal.returns-in-Refused
-returns-in-Refused c =
-    λ call total e.
-    absurd (none_refused c.in-Refused.refusal call total (sym (ap feed_values_of c.in-Refused.is) ∙ e))
+    took c.args.first call total _ (sym (ap fed_values_of c.in-NeedsMore.is) ∙ e)
