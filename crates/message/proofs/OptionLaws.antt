@@ -1,5 +1,6 @@
 -- Laws on the bytes of options, and on what an option string says, option by option.
 -- Assumes nothing.
+use Rattle.std.specs.Prelude.{Option, Some, None}
 use Prim.Native.Nat.{ℕ, ◌+◌, ◌*◌, ◌≤◌, ◌<◌}
 use native.Mathlib.Numerals.{add-one}
 use native.Mathlib.Omega.{arith}
@@ -11,10 +12,6 @@ use borrow.Author.Tests.{eq-eqb, ne_eqb, le-leb, lt-leb}
 use lib.ListN.{length, get_or, drop, length-append, length-drop}
 use lib.Seq.{drop-cons}
 use Rattle.message.specs.Number.{word_at}
-use Rattle.message.specs.declared.options.MaybeByte.{MaybeByte}
-use Rattle.message.specs.declared.options.MaybeByte.TheVariants.{NotGiven as NoByte, Given as Byte}
-use Rattle.message.specs.declared.options.MaybeWord.{MaybeWord}
-use Rattle.message.specs.declared.options.MaybeWord.TheVariants.{NotGiven as NoWord, Given as Word}
 use Rattle.message.specs.declared.options.Options.{Options}
 use Rattle.message.specs.Options.{has_option, give_flag, give_retries, give_word, is_retry, is_option, expected_after, given_after}
 use Rattle.message.specs.Options.{Expected, option, retry_byte, first_of, second_of, bad, opted, options_from}
@@ -28,14 +25,14 @@ flag_length id true = omega arith
 flag_length id false = omega arith
 
 -- The retries have at most two bytes.
-retry_length : (r : MaybeByte) → length (retry_bytes r) ≤ 2
-retry_length NoByte = omega arith
-retry_length (Byte b) = omega arith
+retry_length : (r : Option ℕ) → length (retry_bytes r) ≤ 2
+retry_length None = omega arith
+retry_length (Some b) = omega arith
 
 -- An option of two bytes has at most three bytes.
-word_length : (id : ℕ) (v : MaybeWord) → length (word_bytes id v) ≤ 3
-word_length id NoWord = omega arith
-word_length id (Word v) = omega arith
+word_length : (id : ℕ) (v : Option ℕ) → length (word_bytes id v) ≤ 3
+word_length id None = omega arith
+word_length id (Some v) = omega arith
 
 -- An option string has at most 16 bytes.
 pub option_length : (o : Options) → length (option_bytes o) ≤ 16
@@ -86,12 +83,12 @@ pub placed_flag : {d m n s : List ℕ} {at most e f : ℕ} (id : ℕ) (given : B
 placed_flag id given few p q = placed_next 1 few (flag_length id given) p q
 
 -- What is placed, and the retries.
-pub placed_retries : {d m n s : List ℕ} {at most e f : ℕ} (r : MaybeByte) → most + 2 ≤ 16
+pub placed_retries : {d m n s : List ℕ} {at most e f : ℕ} (r : Option ℕ) → most + 2 ≤ 16
     → Placed d at most s e m → Puts m e (retry_bytes r) f n → Placed d at (most + 2) (s ++ retry_bytes r) f n
 placed_retries r few p q = placed_next 2 few (retry_length r) p q
 
 -- What is placed, and an option of two bytes.
-pub placed_word : {d m n s : List ℕ} {at most e f : ℕ} (id : ℕ) (v : MaybeWord) → most + 3 ≤ 16
+pub placed_word : {d m n s : List ℕ} {at most e f : ℕ} (id : ℕ) (v : Option ℕ) → most + 3 ≤ 16
     → Placed d at most s e m → Puts m e (word_bytes id v) f n → Placed d at (most + 3) (s ++ word_bytes id v) f n
 placed_word id v few p q = placed_next 3 few (word_length id v) p q
 

@@ -1,5 +1,6 @@
 -- The meaning of a payload of the family DB at each way out of its readers.
 -- Assumes nothing.
+use Rattle.std.specs.Prelude.{Option, Some}
 use Prim.Native.Nat.{ℕ, ◌-◌, ◌≤◌, ◌<◌}
 use mathlib.Core.Path.{◌≡◌, ap, sym, ◌∙◌}
 use mathlib.Core.Bool.{Bool, true, false, ◌&&◌}
@@ -13,8 +14,6 @@ use Rattle.settings.specs.List.{is_list}
 use Rattle.message.specs.Number.{byte_at}
 use Rattle.message.specs.Meaning.{refused, carrying, bare}
 use Rattle.message.specs.Setup.{command_of, information_at}
-use Rattle.message.specs.declared.setup.NamedCommand.{NamedCommand}
-use Rattle.message.specs.declared.setup.NamedCommand.TheVariants.{Known}
 use Rattle.message.specs.ToModule.{setup, command_as, to_itself}
 use Rattle.message.specs.FromModule.{ack_meaning, information_meaning, settings_meaning, control_meaning}
 use Rattle.message.specs.declared.setup.SetupCommand.{SetupCommand}
@@ -41,17 +40,17 @@ module _ (p : List ℕ) where
     setup_list h = simp (eq-eqb (byte_at p 1) 0xF2 e, h)
 
   -- Any other command, by what its number names.
-  pub setup_named : (byte_at p 1 ≡ 0xF2 → ⊥) → {x : NamedCommand} → x ≡ command_of (byte_at p 1) → command_as x p ≡ to_itself p
+  pub setup_named : (byte_at p 1 ≡ 0xF2 → ⊥) → {x : Option SetupCommand} → x ≡ command_of (byte_at p 1) → command_as x p ≡ to_itself p
   unfolding to_itself
   setup_named n e = simp (ne_eqb (byte_at p 1) 0xF2 n) (ap (λ x. command_as x p) e)
 
   module _ (c : SetupCommand) where
     -- A known one: the length (7).
-    pub known_length : (length p ≡ 2 → ⊥) → refused 7 ≡ command_as (Known c) p
+    pub known_length : (length p ≡ 2 → ⊥) → refused 7 ≡ command_as (Some c) p
     known_length h = simp (ne_eqb (length p) 2 h)
 
     -- The command.
-    pub known_read : length p ≡ 2 → bare (setup c) ≡ command_as (Known c) p
+    pub known_read : length p ≡ 2 → bare (setup c) ≡ command_as (Some c) p
     known_read h = simp (eq-eqb (length p) 2 h)
 
   -- An acknowledgement: 7.

@@ -1,5 +1,7 @@
 -- Laws on writing messages: why one is refused, and the buffers on the way.
 -- Assumes nothing.
+use Rattle.std.specs.Prelude.{Result, Ok, Err, MatchResult, IsErrAnd, ◌≢◌, ◌⊎◌}
+use mathlib.Core.Logic.{inl, inr}
 use Prim.Native.Nat.{ℕ, ◌+◌, ◌/◌, ◌%◌, ◌≤◌, ◌<◌}
 use native.Mathlib.Nat.{zero-add}
 use native.Mathlib.Omega.{arith}
@@ -12,13 +14,11 @@ use lib.ListN.{length, take, drop, set}
 use lib.Seq.{paste, take_at, take-length, take-paste, take-append-add, length-paste}
 use Rattle.frame.specs.Framing.{layout, in_front}
 use Rattle.frame.specs.Refusal.{number_of as frame_number}
-use Rattle.frame.specs.Single.{Writing, length_writing, no_writing, writing, writing_of, Writes as FrameWrites}
+use Rattle.frame.specs.Single.{Writing, length_writing, no_writing, writing, Writes as FrameWrites}
 use Rattle.frame.specs.declared.framing.Framing.{Framing}
 use Rattle.frame.specs.declared.refusal.Refusal.{Refusal as FrameRefusal}
 use Rattle.frame.specs.declared.refusal.Refusal.TheVariants.{Start, Cut, Length as FrameLength, Checksum, Footer, Character}
 use Rattle.frame.specs.declared.refusal.Refusal.TheVariants.{Buffer as FrameBuffer, Payload as FramePayload, Chunk, State}
-use Rattle.frame.specs.declared.single.WriteAnswer.{WriteAnswer as FrameAnswer}
-use Rattle.frame.specs.declared.single.WriteAnswer.TheVariants.{Refused as FrameRefused}
 use Rattle.settings.specs.List.{is_list}
 use Rattle.message.specs.Address.{is_plain, plain_refusal}
 use Rattle.message.specs.Options.{retry_allowed}
@@ -27,7 +27,7 @@ use Rattle.message.specs.Refusal.{number_of}
 use Rattle.message.specs.Setup.{settings_refusal}
 use Rattle.message.specs.Simple.{simple_refusal}
 use Rattle.message.specs.ToModule.{address_bytes, address_allowed, transmission_refusal}
-use Rattle.message.specs.Write.{written_of, Writes}
+use Rattle.message.specs.Write.{Writes}
 use Rattle.message.specs.declared.refusal.Refusal.{Refusal}
 use Rattle.message.specs.declared.refusal.Refusal.TheVariants.{Length, Address as BadAddress, Command, Option}
 use Rattle.message.specs.declared.refusal.Refusal.TheVariants.{Field, Count, Buffer, Payload, Identifier}
@@ -35,8 +35,6 @@ use Rattle.message.specs.declared.to_module.Address.{Address}
 use Rattle.message.specs.declared.to_module.Address.TheVariants.{Plain, Extended as ExtendedAddress}
 use Rattle.message.specs.declared.simple.Simple.{Simple}
 use Rattle.message.specs.declared.to_module.Transmission.{Transmission}
-use Rattle.message.specs.declared.write.WriteAnswer.{WriteAnswer}
-use Rattle.message.specs.declared.write.WriteAnswer.TheVariants.{Refused}
 
 -- No refusal has the number 0.
 refusal_numbered : (r : Refusal) → eqb (number_of r) 0 ≡ false
@@ -50,18 +48,18 @@ refusal_numbered Buffer = refl
 refusal_numbered Payload = refl
 refusal_numbered Identifier = refl
 
--- No refusal of a frame has the number 0.
-frame_numbered : (r : FrameRefusal) → 1 ≤ frame_number r
-frame_numbered Start = omega arith
-frame_numbered Cut = omega arith
-frame_numbered FrameLength = omega arith
-frame_numbered Checksum = omega arith
-frame_numbered Footer = omega arith
-frame_numbered Character = omega arith
-frame_numbered FrameBuffer = omega arith
-frame_numbered FramePayload = omega arith
-frame_numbered Chunk = omega arith
-frame_numbered State = omega arith
+-- A refusal of a frame is 14 or has another number, which is not 0.
+frame_numbered : (e : FrameRefusal) → (e ≡ FramePayload) ⊎ ((1 ≤ frame_number e) × (frame_number e ≢ 14))
+frame_numbered FramePayload = inl refl
+frame_numbered Start = inr (omega arith, λ h. omega arith)
+frame_numbered Cut = inr (omega arith, λ h. omega arith)
+frame_numbered FrameLength = inr (omega arith, λ h. omega arith)
+frame_numbered Checksum = inr (omega arith, λ h. omega arith)
+frame_numbered Footer = inr (omega arith, λ h. omega arith)
+frame_numbered Character = inr (omega arith, λ h. omega arith)
+frame_numbered FrameBuffer = inr (omega arith, λ h. omega arith)
+frame_numbered Chunk = inr (omega arith, λ h. omega arith)
+frame_numbered State = inr (omega arith, λ h. omega arith)
 
 -- A conjunction whose second part fails.
 and_fails : (a b : Bool) → b ≡ false → (a && b) ≡ false
@@ -77,21 +75,21 @@ only_buffer false l n len e h k = absurd (k (ap (λ (x : Writing). x.number) e))
 
 module _ (f : Framing) (p buf : List ℕ) where
   -- A message that is refused leaves the buffer.
-  pub writes_refused : (n : ℕ) (r : Refusal) → n ≡ number_of r → Writes f n p buf (Refused r) buf
+  pub writes_refused : (n : ℕ) (r : Refusal) → n ≡ number_of r → Writes f n p buf (Err r) buf
   writes_refused n r e =
-      subst (λ (k : ℕ). Writes f k p buf (Refused r) buf) (sym e)
+      subst (λ (k : ℕ). Writes f k p buf (Err r) buf) (sym e)
       (record {
         answers = ap (λ (q : Bool). cond q (writing p (layout f p) (length buf)) (no_writing (number_of r))) (sym (refusal_numbered r));
         leaves = simp (refusal_numbered r);
       })
 
   -- A message that is not refused is written as its payload is.
-  pub writes_allowed : (n : ℕ) (answer : WriteAnswer) (after : List ℕ) → n ≡ 0 → Writes f 0 p buf answer after
+  pub writes_allowed : (n : ℕ) (answer : Result ℕ Refusal) (after : List ℕ) → n ≡ 0 → Writes f 0 p buf answer after
       → Writes f n p buf answer after
   writes_allowed n answer after e h = subst (λ (k : ℕ). Writes f k p buf answer after) (sym e) h
 
   -- 14: a payload over 256 bytes.
-  pub writes_payload : 256 < length p → Writes f 0 p buf (Refused Payload) buf
+  pub writes_payload : 256 < length p → Writes f 0 p buf (Err Payload) buf
   writes_payload h =
       let n : ℕ = length (layout f p) in
       let fits : Bool = leb n (length buf) in
@@ -102,17 +100,20 @@ module _ (f : Framing) (p buf : List ℕ) where
         leaves = ap (λ (q : Bool). cond (q && fits) (in_front (layout f p) buf) buf) (sym over);
       }
 
-  -- The answer of the frame's write, as this crate's.
-  pub writes_sent : (answer : FrameAnswer) (mine : WriteAnswer) (after : List ℕ) → written_of mine ≡ writing_of answer
-      → FrameWrites f p buf answer after → Writes f 0 p buf mine after
-  writes_sent answer mine after e h = record { answers = e ∙ h.answers; leaves = h.leaves }
-
-  -- The frame's write refuses with 13 where it does not refuse with 14.
-  pub refused_buffer : (answer : FrameAnswer) (r : FrameRefusal) (after : List ℕ) → answer ≡ FrameRefused r
-      → FrameWrites f p buf answer after → (frame_number r ≡ 14 → ⊥) → frame_number r ≡ 13
-  refused_buffer answer r after e h k =
-      only_buffer (leb 1 (length p) && leb (length p) 256) (leb (length (layout f p)) (length buf)) (frame_number r) (length (layout f p))
-      (ap writing_of (sym e) ∙ h.answers) (frame_numbered r) k
+  -- The answer of the frame's write, as this crate's: the length, or a refusal that 14 stands for where it is 14, and else 13.
+  pub writes_sent : (answer : Result ℕ FrameRefusal) (mine : Result ℕ Refusal) (after : List ℕ) (Q : FrameRefusal → Refusal → Type 0)
+      → ((e : FrameRefusal) (r : Refusal) → Q e r → (e ≡ FramePayload → r ≡ Payload) × (e ≢ FramePayload → r ≡ Buffer))
+      → MatchResult answer (λ n. mine ≡ Ok n) (λ e. IsErrAnd mine (Q e)) → FrameWrites f p buf answer after → Writes f 0 p buf mine after
+  writes_sent (Ok n) (Ok k) after Q q is h = let same : k ≡ n = cc in record { answers = rw same h.answers; leaves = h.leaves }
+  writes_sent (Ok n) (Err r) after Q q is h = cc
+  writes_sent (Err e) (Ok k) after Q q is h = absurd is
+  writes_sent (Err e) (Err r) after Q q is h = record { answers = rw (same (frame_numbered e)) h.answers; leaves = h.leaves }
+    where
+      same : (e ≡ FramePayload) ⊎ ((1 ≤ frame_number e) × (frame_number e ≢ 14)) → number_of r ≡ frame_number e
+      same (inl payload) = rw ((q e r is).0 payload, payload)
+      same (inr (some, other)) =
+          rw ((q e r is).1 (λ payload. other (ap frame_number payload)))
+          (sym (only_buffer (leb 1 (length p) && leb (length p) 256) (leb (length (layout f p)) (length buf)) (frame_number e) (length (layout f p)) h.answers some other))
 
 -- Two copies into a buffer: h to its front, d behind it.
 pub two_copies : (h d z w rest x y : List ℕ) → x ≡ take (length h) h ++ z → y ≡ take (length d) d ++ w
@@ -216,23 +217,23 @@ module _ (m : Transmission) where
 -- Why a message with a plain address is not written, where that is all that can be wrong.
 module _ {f : Framing} (a : ℕ) {p buf : List ℕ} where
   -- An address that is not plain (8).
-  pub plain_refused : is_plain a ≡ false → Writes f (plain_refusal a) p buf (Refused BadAddress) buf
+  pub plain_refused : is_plain a ≡ false → Writes f (plain_refusal a) p buf (Err BadAddress) buf
   plain_refused h = record { answers = simp h; leaves = simp h }
 
   -- It is written.
-  pub plain_written : is_plain a ≡ true → {r : WriteAnswer} {after : List ℕ} → Writes f 0 p buf r after → Writes f (plain_refusal a) p buf r after
+  pub plain_written : is_plain a ≡ true → {r : Result ℕ Refusal} {after : List ℕ} → Writes f 0 p buf r after → Writes f (plain_refusal a) p buf r after
   plain_written plain w = rw plain w
 
   -- A payload over 256 bytes (14).
-  pub plain_payload : is_plain a ≡ true → 256 < length p → Writes f (plain_refusal a) p buf (Refused Payload) buf
+  pub plain_payload : is_plain a ≡ true → 256 < length p → Writes f (plain_refusal a) p buf (Err Payload) buf
   plain_payload plain h = plain_written plain (writes_payload f p buf h)
 
 -- Why settings are not written.
 module _ {f : Framing} (list : List ℕ) {p buf : List ℕ} where
   -- No settings list (17).
-  pub settings_refused : is_list list ≡ false → Writes f (settings_refusal list) p buf (Refused Identifier) buf
+  pub settings_refused : is_list list ≡ false → Writes f (settings_refusal list) p buf (Err Identifier) buf
   settings_refused h = record { answers = simp h; leaves = simp h }
 
   -- They are written.
-  pub settings_written : is_list list ≡ true → {r : WriteAnswer} {after : List ℕ} → Writes f 0 p buf r after → Writes f (settings_refusal list) p buf r after
+  pub settings_written : is_list list ≡ true → {r : Result ℕ Refusal} {after : List ℕ} → Writes f 0 p buf r after → Writes f (settings_refusal list) p buf r after
   settings_written good w = rw good w

@@ -16,7 +16,7 @@ use crate::setup::{
 };
 use crate::simple::{Simple, write_simple};
 use crate::status::{RemoteStatus, StandardStatus};
-use crate::write::{WriteAnswer, send, write_parts};
+use crate::write::{send, write_parts};
 use frame::Framing;
 
 // An extended message from the module. Both addresses are carried unjudged.
@@ -61,41 +61,40 @@ pub enum Notice {
     Setup(SetupReport),
 }
 
-// What a payload from the module is.
+// A payload from the module.
 #[derive(Clone, Copy)]
 pub enum FromModule {
     // A message whose data are the payload's bytes from `start` on.
     Delivery { delivery: Delivery, start: usize },
     Notice(Notice),
-    Refused(Refusal),
 }
 
 // Reads a response.
-fn read_response(payload: &[u8]) -> FromModule
+fn read_response(payload: &[u8]) -> Result<FromModule, Refusal>
     ensures { from_module_of result ≡ response_meaning payload.now }
 {
     if payload.len() != 4 {
-        return FromModule::Refused(Refusal::Length);
+        return Err(Refusal::Length);
     }
     let id = payload[2];
     let result = payload[3];
     if result == 0 {
-        return FromModule::Notice(Notice::Response(Response {
+        return Ok(FromModule::Notice(Notice::Response(Response {
             id: id,
             outcome: Outcome::Failure,
-        }));
+        })));
     }
     if result == 1 {
-        return FromModule::Notice(Notice::Response(Response {
+        return Ok(FromModule::Notice(Notice::Response(Response {
             id: id,
             outcome: Outcome::Success,
-        }));
+        })));
     }
-    FromModule::Refused(Refusal::Field)
+    Err(Refusal::Field)
 }
 
 // Reads a payload that begins with DB: a response, or a report of the module on itself.
-fn read_from_itself(payload: &[u8]) -> FromModule
+fn read_from_itself(payload: &[u8]) -> Result<FromModule, Refusal>
     requires { 2 ≤ length payload.now }
     ensures { from_module_of result ≡ from_itself payload.now }
 {
@@ -105,23 +104,23 @@ fn read_from_itself(payload: &[u8]) -> FromModule
         0xF1 => read_information(payload),
         0xF3 => read_settings(payload),
         0xF8 => read_control(payload),
-        _ => FromModule::Refused(Refusal::Command),
+        _ => Err(Refusal::Command),
     }
 }
 
 // Reads an extended message.
-fn read_reception(payload: &[u8]) -> FromModule
+fn read_reception(payload: &[u8]) -> Result<FromModule, Refusal>
     requires { length payload.now ≤ 256 }
     ensures { from_module_of result ≡ reception_meaning payload.now }
 {
     let len = payload.len();
     if len < 14 {
-        return FromModule::Refused(Refusal::Length);
+        return Err(Refusal::Length);
     }
     if word(payload, 12) as usize != len - 14 {
-        return FromModule::Refused(Refusal::Count);
+        return Err(Refusal::Count);
     }
-    FromModule::Delivery {
+    Ok(FromModule::Delivery {
         delivery: Delivery::Extended(Reception {
             sender: payload[0],
             response_id: payload[2],
@@ -130,16 +129,16 @@ fn read_reception(payload: &[u8]) -> FromModule
             lqi: payload[11],
         }),
         start: 14,
-    }
+    })
 }
 
 // Reads a standard status of 23 bytes, whose fixed byte is right.
-fn read_standard(payload: &[u8]) -> FromModule
+fn read_standard(payload: &[u8]) -> Result<FromModule, Refusal>
     requires payload_len { length payload.now ≡ 23 }
     requires payload_value { get_or payload.now 3 0 ≡ 0x01 }
     ensures { from_module_of result ≡ standard_meaning payload.now }
 {
-    FromModule::Notice(Notice::Standard(StandardStatus {
+    Ok(FromModule::Notice(Notice::Standard(StandardStatus {
         sender: payload[0],
         identifier: payload[2],
         lqi: payload[4],
@@ -156,17 +155,17 @@ fn read_standard(payload: &[u8]) -> FromModule
         ad3: payload[20],
         ad4: payload[21],
         correction: payload[22],
-    }))
+    })))
 }
 
 // Reads a remote status of 20 bytes, whose fixed bytes are right.
-fn read_remote(payload: &[u8]) -> FromModule
+fn read_remote(payload: &[u8]) -> Result<FromModule, Refusal>
     requires payload_len { length payload.now ≡ 20 }
     requires payload_value { get_or payload.now 2 0 ≡ 0x0F }
     requires payload_value_2 { get_or payload.now 3 0 ≡ 0x01 }
     ensures { from_module_of result ≡ remote_meaning payload.now }
 {
-    FromModule::Notice(Notice::Remote(RemoteStatus {
+    Ok(FromModule::Notice(Notice::Remote(RemoteStatus {
         sender: payload[0],
         lqi: payload[4],
         serial: long(payload, 5),
@@ -177,44 +176,44 @@ fn read_remote(payload: &[u8]) -> FromModule
         mask: word(payload, 15),
         interrupts: word(payload, 17),
         unused: payload[19],
-    }))
+    })))
 }
 
 // Reads a status; the length says which one it is. The fixed bytes are tested here, so that each message is made in one place, which the compiler
 // can follow to where it is used.
-fn read_status(payload: &[u8]) -> FromModule
+fn read_status(payload: &[u8]) -> Result<FromModule, Refusal>
     ensures { from_module_of result ≡ status_meaning payload.now }
 {
     let len = payload.len();
     if len == 23 {
         if payload[3] != 0x01 {
-            return FromModule::Refused(Refusal::Field);
+            return Err(Refusal::Field);
         }
         return read_standard(payload);
     }
     if len == 20 {
         if payload[2] != 0x0F {
-            return FromModule::Refused(Refusal::Field);
+            return Err(Refusal::Field);
         }
         if payload[3] != 0x01 {
-            return FromModule::Refused(Refusal::Field);
+            return Err(Refusal::Field);
         }
         return read_remote(payload);
     }
-    FromModule::Refused(Refusal::Length)
+    Err(Refusal::Length)
 }
 
 // Reads a payload as a message from the module. The refusals in their order: 7 where it has under 2 or over 256 bytes, 8 for an address, 9 for a
 // command, 7 for a length, then 11, 12, 17.
-pub fn read_from_module(payload: &[u8]) -> FromModule
+pub fn read_from_module(payload: &[u8]) -> Result<FromModule, Refusal>
     ensures { from_module_of result ≡ read_from_module payload.now }
 {
     let len = payload.len();
     if len < 2 {
-        return FromModule::Refused(Refusal::Length);
+        return Err(Refusal::Length);
     }
     if 256 < len {
-        return FromModule::Refused(Refusal::Length);
+        return Err(Refusal::Length);
     }
     let address = payload[0];
     let command = payload[1];
@@ -222,7 +221,7 @@ pub fn read_from_module(payload: &[u8]) -> FromModule
         return read_from_itself(payload);
     }
     if !is_plain(address) {
-        return FromModule::Refused(Refusal::Address);
+        return Err(Refusal::Address);
     }
     if command == 0x81 {
         return read_status(payload);
@@ -231,24 +230,29 @@ pub fn read_from_module(payload: &[u8]) -> FromModule
         return read_reception(payload);
     }
     if command < 0x80 {
-        return FromModule::Delivery {
+        return Ok(FromModule::Delivery {
             delivery: Delivery::Simple(Simple { address, command }),
             start: 2,
-        };
+        });
     }
-    FromModule::Refused(Refusal::Command)
+    Err(Refusal::Command)
 }
 
 // Writes an extended message with its data.
-fn write_reception(framing: Framing, message: Reception, data: &[u8], buf: &mut [u8]) -> WriteAnswer
+fn write_reception(
+    framing: Framing,
+    message: Reception,
+    data: &[u8],
+    buf: &mut [u8],
+) -> Result<usize, Refusal>
     ensures { Writes framing (reception_refusal message) (reception_layout message «data».now) buf.old result buf.new }
 {
     if !is_plain(message.sender) {
-        return WriteAnswer::Refused(Refusal::Address);
+        return Err(Refusal::Address);
     }
     let len = data.len();
     if 242 < len {
-        return WriteAnswer::Refused(Refusal::Payload);
+        return Err(Refusal::Payload);
     }
     let source = message.source;
     let destination = message.destination;
@@ -278,7 +282,7 @@ pub fn write_delivery(
     delivery: Delivery,
     data: &[u8],
     buf: &mut [u8],
-) -> WriteAnswer
+) -> Result<usize, Refusal>
     ensures { Writes framing (delivery_refusal delivery «data».now) (delivery_layout delivery «data».now)
         buf.old result buf.new }
 {
@@ -299,11 +303,11 @@ fn outcome_byte(outcome: Outcome) -> u8
 }
 
 // Writes a standard status.
-fn write_standard(framing: Framing, s: StandardStatus, buf: &mut [u8]) -> WriteAnswer
+fn write_standard(framing: Framing, s: StandardStatus, buf: &mut [u8]) -> Result<usize, Refusal>
     ensures { Writes framing (plain_refusal s.sender) (standard_layout s) buf.old result buf.new }
 {
     if !is_plain(s.sender) {
-        return WriteAnswer::Refused(Refusal::Address);
+        return Err(Refusal::Address);
     }
     let serial = s.serial;
     let time = s.time;
@@ -337,11 +341,11 @@ fn write_standard(framing: Framing, s: StandardStatus, buf: &mut [u8]) -> WriteA
 }
 
 // Writes a remote status.
-fn write_remote(framing: Framing, s: RemoteStatus, buf: &mut [u8]) -> WriteAnswer
+fn write_remote(framing: Framing, s: RemoteStatus, buf: &mut [u8]) -> Result<usize, Refusal>
     ensures { Writes framing (plain_refusal s.sender) (remote_layout s) buf.old result buf.new }
 {
     if !is_plain(s.sender) {
-        return WriteAnswer::Refused(Refusal::Address);
+        return Err(Refusal::Address);
     }
     let serial = s.serial;
     let time = s.time;
@@ -375,7 +379,7 @@ fn write_remote(framing: Framing, s: RemoteStatus, buf: &mut [u8]) -> WriteAnswe
 
 // Writes a message from the module that carries no data as a frame into the front of buf; the rest of buf stays. The refusals in their order: 8, 13. A
 // refusal leaves all of buf.
-pub fn write_notice(framing: Framing, notice: Notice, buf: &mut [u8]) -> WriteAnswer
+pub fn write_notice(framing: Framing, notice: Notice, buf: &mut [u8]) -> Result<usize, Refusal>
     ensures { Writes framing (notice_refusal notice) (notice_layout notice) buf.old result buf.new }
 {
     match notice {

@@ -1,25 +1,11 @@
 // The option string of an extended message to the module.
 ghost use Rattle.std.specs.Prelude.{◌≡◌, ◌+◌, ◌<◌, ◌≤◌, length, drop};
-ghost use Rattle.message.specs.Options.{no_options, byte_given, word_given, has_option, give_flag, give_retries, word_or, give_word, is_retry};
+ghost use Rattle.message.specs.Options.{no_options, has_option, give_flag, give_retries, word_or, give_word, is_retry};
 ghost use Rattle.message.specs.Options.{option, options_from, retry_allowed, flag_bytes, retry_bytes, word_bytes, option_bytes};
 ghost use Rattle.message.specs.Parts.{options_read};
 ghost use Rattle.message.specs.Put.{Puts};
 
 use crate::number::word;
-
-// An option's argument of one byte, where it is given.
-#[derive(Clone, Copy)]
-pub enum MaybeByte {
-    NotGiven,
-    Given(u8),
-}
-
-// An option's argument of two bytes, where it is given.
-#[derive(Clone, Copy)]
-pub enum MaybeWord {
-    NotGiven,
-    Given(u16),
-}
 
 // Which options are given, and their arguments.
 #[derive(Clone, Copy)]
@@ -27,27 +13,19 @@ pub struct Options {
     // 01: enables MAC acknowledgement.
     pub mac_ack: bool,
     // 02: retries by the application, as the retry byte 00 to 0F or 81 to 8F.
-    pub retries: MaybeByte,
+    pub retries: Option<u8>,
     // 03: the minimum delay before the first transmission, in ms.
-    pub lower_delay: MaybeWord,
+    pub lower_delay: Option<u16>,
     // 04: the maximum delay before the first transmission, in ms.
-    pub upper_delay: MaybeWord,
+    pub upper_delay: Option<u16>,
     // 05: the interval between retries, in ms.
-    pub interval: MaybeWord,
+    pub interval: Option<u16>,
     // 06: allows parallel requests.
     pub parallel: bool,
     // 07: disables the response message.
     pub no_response: bool,
     // 08: sleep after the transmission.
     pub sleep: bool,
-}
-
-// What an option string is.
-#[derive(Drop)]
-pub(crate) enum OptionsRead {
-    // It ends before index `end`.
-    Ended { options: Options, end: usize },
-    Bad,
 }
 
 impl Options {
@@ -57,10 +35,10 @@ impl Options {
     {
         Options {
             mac_ack: false,
-            retries: MaybeByte::NotGiven,
-            lower_delay: MaybeWord::NotGiven,
-            upper_delay: MaybeWord::NotGiven,
-            interval: MaybeWord::NotGiven,
+            retries: None,
+            lower_delay: None,
+            upper_delay: None,
+            interval: None,
             parallel: false,
             no_response: false,
             sleep: false,
@@ -68,38 +46,17 @@ impl Options {
     }
 }
 
-fn is_byte_given(m: MaybeByte) -> bool
-    ensures { result ≡ byte_given m }
-{
-    match m {
-        MaybeByte::NotGiven => false,
-        MaybeByte::Given(_) => true,
-    }
-}
-
-fn is_word_given(m: MaybeWord) -> bool
-    ensures { result ≡ word_given m }
-{
-    match m {
-        MaybeWord::NotGiven => false,
-        MaybeWord::Given(_) => true,
-    }
-}
-
 // Whether the option is given already.
+#[tactic(auto, unfolding(crate::specs::Options::has_option))]
 fn has(options: Options, id: u8) -> bool
     ensures { result ≡ has_option options id }
 {
-    let retries = options.retries;
-    let lower_delay = options.lower_delay;
-    let upper_delay = options.upper_delay;
-    let interval = options.interval;
     match id {
         0x01 => options.mac_ack,
-        0x02 => is_byte_given(retries),
-        0x03 => is_word_given(lower_delay),
-        0x04 => is_word_given(upper_delay),
-        0x05 => is_word_given(interval),
+        0x02 => options.retries.is_some(),
+        0x03 => options.lower_delay.is_some(),
+        0x04 => options.upper_delay.is_some(),
+        0x05 => options.interval.is_some(),
         0x06 => options.parallel,
         0x07 => options.no_response,
         0x08 => options.sleep,
@@ -134,27 +91,18 @@ fn give_flag(options: Options, id: u8) -> Options
 fn give_retries(options: Options, b: u8) -> Options
     ensures { result ≡ give_retries options b }
 {
-    let lower_delay = options.lower_delay;
-    let upper_delay = options.upper_delay;
-    let interval = options.interval;
     Options {
-        mac_ack: options.mac_ack,
-        retries: MaybeByte::Given(b),
-        lower_delay: lower_delay,
-        upper_delay: upper_delay,
-        interval: interval,
-        parallel: options.parallel,
-        no_response: options.no_response,
-        sleep: options.sleep,
+        retries: Some(b),
+        ..options
     }
 }
 
 // One argument of two bytes, given or as it was.
-fn word_or(id: u8, given: u8, v: u16, was: MaybeWord) -> MaybeWord
+fn word_or(id: u8, given: u8, v: u16, was: Option<u16>) -> Option<u16>
     ensures { result ≡ word_or id given v was }
 {
     if id == given {
-        return MaybeWord::Given(v);
+        return Some(v);
     }
     was
 }
@@ -163,19 +111,11 @@ fn word_or(id: u8, given: u8, v: u16, was: MaybeWord) -> MaybeWord
 fn give_word(options: Options, id: u8, v: u16) -> Options
     ensures { result ≡ give_word options id v }
 {
-    let retries = options.retries;
-    let lower_delay = options.lower_delay;
-    let upper_delay = options.upper_delay;
-    let interval = options.interval;
     Options {
-        mac_ack: options.mac_ack,
-        retries: retries,
-        lower_delay: word_or(0x03, id, v, lower_delay),
-        upper_delay: word_or(0x04, id, v, upper_delay),
-        interval: word_or(0x05, id, v, interval),
-        parallel: options.parallel,
-        no_response: options.no_response,
-        sleep: options.sleep,
+        lower_delay: word_or(0x03, id, v, options.lower_delay),
+        upper_delay: word_or(0x04, id, v, options.upper_delay),
+        interval: word_or(0x05, id, v, options.interval),
+        ..options
     }
 }
 
@@ -192,53 +132,51 @@ pub(crate) fn is_retry(b: u8) -> bool
     b <= 0x8F
 }
 
-// Reads the rest of an option string, from `at` on, where `options` are given already: an option, its argument, then the rest, until FF.
-pub(crate) fn read_options(s: &[u8], at: usize, options: Options) -> OptionsRead
+// Reads the rest of an option string, from `at` on, where `options` are given already: an option, its argument, then the rest, until FF. Gives all options
+// and the index behind FF; none where it is no option string.
+pub(crate) fn read_options(s: &[u8], at: usize, options: Options) -> Option<(Options, usize)>
     requires { at ≤ length s.now }
     ensures { options_read result ≡ options_from option options at (drop at s.now) }
 {
     if s.len() <= at {
-        return OptionsRead::Bad;
+        return None;
     }
     let id = s[at];
     if id == 0xFF {
-        return OptionsRead::Ended {
-            options: options,
-            end: at + 1,
-        };
+        return Some((options, at + 1));
     }
     if has(options, id) {
-        return OptionsRead::Bad;
+        return None;
     }
     match id {
         0x01 | 0x06 | 0x07 | 0x08 => read_options(s, at + 1, give_flag(options, id)),
         0x02 => {
             if s.len() <= at + 1 {
-                return OptionsRead::Bad;
+                return None;
             }
             let b = s[at + 1];
             if !is_retry(b) {
-                return OptionsRead::Bad;
+                return None;
             }
             read_options(s, at + 2, give_retries(options, b))
         }
         0x03 | 0x04 | 0x05 => {
             if s.len() <= at + 2 {
-                return OptionsRead::Bad;
+                return None;
             }
             read_options(s, at + 3, give_word(options, id, word(s, at + 1)))
         }
-        _ => OptionsRead::Bad,
+        _ => None,
     }
 }
 
 // Whether the retry byte, where it is given, is one of those allowed.
-pub(crate) fn retry_allowed(retries: MaybeByte) -> bool
+pub(crate) fn retry_allowed(retries: Option<u8>) -> bool
     ensures { result ≡ retry_allowed retries }
 {
     match retries {
-        MaybeByte::NotGiven => true,
-        MaybeByte::Given(b) => is_retry(b),
+        None => true,
+        Some(b) => is_retry(b),
     }
 }
 
@@ -255,13 +193,13 @@ fn put_flag(dst: &mut [u8], at: usize, id: u8, given: bool) -> usize
 }
 
 // Puts the retries into dst at `at` where they are given, and gives the place behind them.
-fn put_retries(dst: &mut [u8], at: usize, retries: MaybeByte) -> usize
+fn put_retries(dst: &mut [u8], at: usize, retries: Option<u8>) -> usize
     requires { at + 1 < length dst.old }
     ensures { Puts dst.old at (retry_bytes retries) result dst.new }
 {
     match retries {
-        MaybeByte::NotGiven => at,
-        MaybeByte::Given(b) => {
+        None => at,
+        Some(b) => {
             dst[at] = 0x02;
             dst[at + 1] = b;
             at + 2
@@ -270,13 +208,13 @@ fn put_retries(dst: &mut [u8], at: usize, retries: MaybeByte) -> usize
 }
 
 // Puts an option of two bytes into dst at `at` where it is given, and gives the place behind it.
-fn put_word(dst: &mut [u8], at: usize, id: u8, argument: MaybeWord) -> usize
+fn put_word(dst: &mut [u8], at: usize, id: u8, argument: Option<u16>) -> usize
     requires { at + 2 < length dst.old }
     ensures { Puts dst.old at (word_bytes id argument) result dst.new }
 {
     match argument {
-        MaybeWord::NotGiven => at,
-        MaybeWord::Given(v) => {
+        None => at,
+        Some(v) => {
             dst[at] = id;
             dst[at + 1] = (v / 256 % 256) as u8;
             dst[at + 2] = (v % 256) as u8;

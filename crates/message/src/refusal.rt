@@ -2,25 +2,37 @@
 ghost use Rattle.std.specs.Prelude.{◌≡◌};
 ghost use Rattle.message.specs.Refusal.{number_of};
 
-#[derive(Clone, Copy)]
+use thiserror::Error;
+
+// Each refusal has a number in documents 01 and 02.
+#[derive(Clone, Copy, Debug, PartialEq, Eq, Error)]
 pub enum Refusal {
-    // 7: the payload is too short, over 256 bytes, or of no length that its layout has.
+    // 7.
+    #[error("the payload is too short, over 256 bytes, or of no length that its layout has")]
     Length,
-    // 8: an address that is not allowed.
+    // 8.
+    #[error("an address that is not allowed")]
     Address,
-    // 9: a command that is not known for this direction.
+    // 9.
+    #[error("a command that is not known for this direction")]
     Command,
-    // 10: an option unknown, repeated or cut, a wrong retry byte, or no FF.
+    // 10.
+    #[error("an option is unknown, repeated or cut, the retry byte is wrong, or FF is missing")]
     Option,
-    // 11: a fixed field, a zero word, a result or a state has another value.
+    // 11.
+    #[error("a fixed field, a zero word, a result or a state has another value")]
     Field,
-    // 12: the count of data bytes in an extended message is not the payload's length less 14.
+    // 12.
+    #[error("the count of data bytes in an extended message is not the payload's length less 14")]
     Count,
-    // 13: the buffer is too short.
+    // 13.
+    #[error("the buffer is too short")]
     Buffer,
-    // 14: the payload to write is longer than 256 bytes. (None is empty.)
+    // 14. (No payload to write is empty.)
+    #[error("the payload to write is longer than 256 bytes")]
     Payload,
-    // 17: in a settings list an identifier unknown, repeated or cut.
+    // 17.
+    #[error("in a settings list an identifier is unknown, repeated or cut")]
     Identifier,
 }
 

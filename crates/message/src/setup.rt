@@ -9,7 +9,7 @@ use crate::from_module::{Delivery, FromModule, Notice};
 use crate::number::long;
 use crate::refusal::Refusal;
 use crate::to_module::{Request, ToModule};
-use crate::write::{WriteAnswer, send, write_parts};
+use crate::write::{send, write_parts};
 use frame::Framing;
 
 // The commands to the module itself with nothing after them.
@@ -27,13 +27,6 @@ pub enum SetupCommand {
     SaveSettings,
     // FF: drops the settings that were applied and resets the module.
     Reset,
-}
-
-// The command that a number names, if any.
-#[derive(Clone, Copy)]
-pub enum NamedCommand {
-    Known(SetupCommand),
-    Unknown,
 }
 
 // The information of F1. Every field is carried unjudged.
@@ -80,112 +73,108 @@ impl SetupCommand {
     }
 
     // The command with this number, if any.
-    pub fn named(number: u8) -> NamedCommand
+    pub fn named(number: u8) -> Option<SetupCommand>
         ensures { result ≡ command_of number }
     {
         match number {
-            0xF0 => NamedCommand::Known(SetupCommand::EnableAck),
-            0xF1 => NamedCommand::Known(SetupCommand::GetInformation),
-            0xF3 => NamedCommand::Known(SetupCommand::GetSettings),
-            0xFD => NamedCommand::Known(SetupCommand::EraseSettings),
-            0xFE => NamedCommand::Known(SetupCommand::SaveSettings),
-            0xFF => NamedCommand::Known(SetupCommand::Reset),
-            _ => NamedCommand::Unknown,
+            0xF0 => Some(SetupCommand::EnableAck),
+            0xF1 => Some(SetupCommand::GetInformation),
+            0xF3 => Some(SetupCommand::GetSettings),
+            0xFD => Some(SetupCommand::EraseSettings),
+            0xFE => Some(SetupCommand::SaveSettings),
+            0xFF => Some(SetupCommand::Reset),
+            _ => None,
         }
     }
 }
 
 // Reads a payload to the module that begins with DB.
-pub(crate) fn read_setup(payload: &[u8]) -> ToModule
+pub(crate) fn read_setup(payload: &[u8]) -> Result<ToModule, Refusal>
     requires { 2 ≤ length payload.now }
     ensures { to_module_of result ≡ to_itself payload.now }
 {
     let number = payload[1];
     if number == 0xF2 {
         if !settings::is_list(&payload[2..]) {
-            return ToModule::Refused(Refusal::Identifier);
+            return Err(Refusal::Identifier);
         }
-        return ToModule::Request {
+        return Ok(ToModule::Request {
             request: Request::Settings,
             start: 2,
-        };
+        });
     }
-    match SetupCommand::named(number) {
-        NamedCommand::Known(command) => {
-            if payload.len() != 2 {
-                return ToModule::Refused(Refusal::Length);
-            }
-            ToModule::Setup(command)
-        }
-        NamedCommand::Unknown => ToModule::Refused(Refusal::Command),
+    let command = SetupCommand::named(number).ok_or(Refusal::Command)?;
+    if payload.len() != 2 {
+        return Err(Refusal::Length);
     }
+    Ok(ToModule::Setup(command))
 }
 
 // Reads an acknowledgement.
-pub(crate) fn read_ack(payload: &[u8]) -> FromModule
+pub(crate) fn read_ack(payload: &[u8]) -> Result<FromModule, Refusal>
     ensures { from_module_of result ≡ ack_meaning payload.now }
 {
     if payload.len() != 3 {
-        return FromModule::Refused(Refusal::Length);
+        return Err(Refusal::Length);
     }
     if payload[2] != 0x01 {
-        return FromModule::Refused(Refusal::Field);
+        return Err(Refusal::Field);
     }
-    FromModule::Notice(Notice::Setup(SetupReport::Acknowledged))
+    Ok(FromModule::Notice(Notice::Setup(SetupReport::Acknowledged)))
 }
 
 // Reads the module's information.
-pub(crate) fn read_information(payload: &[u8]) -> FromModule
+pub(crate) fn read_information(payload: &[u8]) -> Result<FromModule, Refusal>
     ensures { from_module_of result ≡ information_meaning payload.now }
 {
     if payload.len() != 17 {
-        return FromModule::Refused(Refusal::Length);
+        return Err(Refusal::Length);
     }
-    FromModule::Notice(Notice::Setup(SetupReport::Information(Information {
+    Ok(FromModule::Notice(Notice::Setup(SetupReport::Information(Information {
         application: long(payload, 2),
         version: long(payload, 6),
         device: payload[10],
         serial: long(payload, 11),
         silent: payload[15],
         network: payload[16],
-    })))
+    }))))
 }
 
 // Reads the module's settings, or that it failed.
-pub(crate) fn read_settings(payload: &[u8]) -> FromModule
+pub(crate) fn read_settings(payload: &[u8]) -> Result<FromModule, Refusal>
     requires { 2 ≤ length payload.now }
     ensures { from_module_of result ≡ settings_meaning payload.now }
 {
     if payload.len() == 3 {
         if payload[2] == 0xFF {
-            return FromModule::Notice(Notice::Setup(SetupReport::SettingsFailed));
+            return Ok(FromModule::Notice(Notice::Setup(SetupReport::SettingsFailed)));
         }
     }
     if !settings::is_list(&payload[2..]) {
-        return FromModule::Refused(Refusal::Identifier);
+        return Err(Refusal::Identifier);
     }
-    FromModule::Delivery {
+    Ok(FromModule::Delivery {
         delivery: Delivery::Settings,
         start: 2,
-    }
+    })
 }
 
 // Reads the state of silent mode.
-pub(crate) fn read_control(payload: &[u8]) -> FromModule
+pub(crate) fn read_control(payload: &[u8]) -> Result<FromModule, Refusal>
     ensures { from_module_of result ≡ control_meaning payload.now }
 {
     if payload.len() != 4 {
-        return FromModule::Refused(Refusal::Length);
+        return Err(Refusal::Length);
     }
     if payload[2] != 0x11 {
-        return FromModule::Refused(Refusal::Field);
+        return Err(Refusal::Field);
     }
     if 1 < payload[3] {
-        return FromModule::Refused(Refusal::Field);
+        return Err(Refusal::Field);
     }
-    FromModule::Notice(Notice::Setup(SetupReport::SilentMode {
+    Ok(FromModule::Notice(Notice::Setup(SetupReport::SilentMode {
         released: payload[3] == 1,
-    }))
+    })))
 }
 
 // Writes a settings list behind DB and a command.
@@ -194,19 +183,23 @@ pub(crate) fn write_settings(
     command: u8,
     list: &[u8],
     buf: &mut [u8],
-) -> WriteAnswer
+) -> Result<usize, Refusal>
     ensures { Writes framing (settings_refusal list.now) (settings_layout command list.now)
         buf.old result buf.new }
 {
     if !settings::is_list(list) {
-        return WriteAnswer::Refused(Refusal::Identifier);
+        return Err(Refusal::Identifier);
     }
     let head = [0xDB, command];
     write_parts(framing, &head, list, buf)
 }
 
 // Writes a command to the module itself as a frame into the front of buf; the rest of buf stays. Refused with 13, which leaves all of buf.
-pub fn write_setup(framing: Framing, command: SetupCommand, buf: &mut [u8]) -> WriteAnswer
+pub fn write_setup(
+    framing: Framing,
+    command: SetupCommand,
+    buf: &mut [u8],
+) -> Result<usize, Refusal>
     ensures { Writes framing 0 (setup_layout command) buf.old result buf.new }
 {
     let payload = [0xDB, command.number()];
@@ -214,7 +207,11 @@ pub fn write_setup(framing: Framing, command: SetupCommand, buf: &mut [u8]) -> W
 }
 
 // Writes the module's information.
-fn write_information(framing: Framing, information: Information, buf: &mut [u8]) -> WriteAnswer
+fn write_information(
+    framing: Framing,
+    information: Information,
+    buf: &mut [u8],
+) -> Result<usize, Refusal>
     ensures { Writes framing 0 (information_layout information) buf.old result buf.new }
 {
     let application = information.application;
@@ -252,7 +249,11 @@ fn state_byte(released: bool) -> u8
 }
 
 // Writes what the module reports of itself, but for its settings.
-pub(crate) fn write_report(framing: Framing, report: SetupReport, buf: &mut [u8]) -> WriteAnswer
+pub(crate) fn write_report(
+    framing: Framing,
+    report: SetupReport,
+    buf: &mut [u8],
+) -> Result<usize, Refusal>
     ensures { Writes framing 0 (report_layout report) buf.old result buf.new }
 {
     match report {

@@ -4,7 +4,7 @@ ghost use Rattle.message.specs.Write.{Writes};
 
 use crate::address::is_plain;
 use crate::refusal::Refusal;
-use crate::write::{WriteAnswer, write_parts};
+use crate::write::write_parts;
 use frame::Framing;
 
 // A simple message: the other side's address and a command below 80.
@@ -20,14 +20,14 @@ pub(crate) fn write_simple(
     message: Simple,
     data: &[u8],
     buf: &mut [u8],
-) -> WriteAnswer
+) -> Result<usize, Refusal>
     ensures { Writes framing (simple_refusal message) (simple_layout message «data».now) buf.old result buf.new }
 {
     if !is_plain(message.address) {
-        return WriteAnswer::Refused(Refusal::Address);
+        return Err(Refusal::Address);
     }
     if 0x80 <= message.command {
-        return WriteAnswer::Refused(Refusal::Command);
+        return Err(Refusal::Command);
     }
     let head = [message.address, message.command];
     write_parts(framing, &head, data, buf)

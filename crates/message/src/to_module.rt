@@ -7,11 +7,11 @@ ghost use Rattle.message.specs.Write.{Writes};
 
 use crate::address::{is_extended, is_plain};
 use crate::number::{long, word};
-use crate::options::{Options, OptionsRead, put_options, read_options, retry_allowed};
+use crate::options::{Options, put_options, read_options, retry_allowed};
 use crate::refusal::Refusal;
 use crate::setup::{SetupCommand, read_setup, write_settings};
 use crate::simple::{Simple, write_simple};
-use crate::write::{WriteAnswer, send, write_parts};
+use crate::write::{send, write_parts};
 use frame::Framing;
 
 // The destination of an extended message to the module.
@@ -48,7 +48,7 @@ pub struct OutputChange {
     pub mask: u16,
 }
 
-// What a payload to the module is.
+// A payload to the module.
 #[derive(Clone, Copy)]
 pub enum ToModule {
     // A message whose data are the payload's bytes from `start` on.
@@ -56,80 +56,77 @@ pub enum ToModule {
     OutputChange(OutputChange),
     // A command to the module itself.
     Setup(SetupCommand),
-    Refused(Refusal),
 }
 
 // Reads an extended message whose option string begins at index `at`.
-fn read_request(payload: &[u8], address: Address, at: usize) -> ToModule
+fn read_request(payload: &[u8], address: Address, at: usize) -> Result<ToModule, Refusal>
     requires le_at { 3 ≤ at }
     requires at_in_bounds { at ≤ length payload.now }
     ensures { to_module_of result ≡ request_at payload.now address at }
 {
-    match read_options(payload, at, Options::none()) {
-        OptionsRead::Bad => ToModule::Refused(Refusal::Option),
-        OptionsRead::Ended { options, end } => ToModule::Request {
-            request: Request::Extended(Transmission {
-                address: address,
-                response_id: payload[2],
-                options: options,
-            }),
-            start: end,
-        },
-    }
+    let (options, start) = read_options(payload, at, Options::none()).ok_or(Refusal::Option)?;
+    Ok(ToModule::Request {
+        request: Request::Extended(Transmission {
+            address,
+            response_id: payload[2],
+            options,
+        }),
+        start,
+    })
 }
 
 // Reads a payload that begins with 80: an extended message with an extended address.
-fn read_to_extended_address(payload: &[u8]) -> ToModule
+fn read_to_extended_address(payload: &[u8]) -> Result<ToModule, Refusal>
     requires { 2 ≤ length payload.now }
     ensures { to_module_of result ≡ to_extended_address payload.now }
 {
     if payload[1] != 0xA0 {
-        return ToModule::Refused(Refusal::Command);
+        return Err(Refusal::Command);
     }
     if payload.len() < 7 {
-        return ToModule::Refused(Refusal::Length);
+        return Err(Refusal::Length);
     }
     let address = long(payload, 3);
     if !is_extended(address) {
-        return ToModule::Refused(Refusal::Address);
+        return Err(Refusal::Address);
     }
     read_request(payload, Address::Extended(address), 7)
 }
 
 // Reads a change of outputs.
-fn read_output_change(payload: &[u8]) -> ToModule
+fn read_output_change(payload: &[u8]) -> Result<ToModule, Refusal>
     ensures { to_module_of result ≡ output_change_at payload.now }
 {
     if payload.len() != 15 {
-        return ToModule::Refused(Refusal::Length);
+        return Err(Refusal::Length);
     }
     if payload[2] != 0x01 {
-        return ToModule::Refused(Refusal::Field);
+        return Err(Refusal::Field);
     }
     if long(payload, 7) != 0 {
-        return ToModule::Refused(Refusal::Field);
+        return Err(Refusal::Field);
     }
     if long(payload, 11) != 0 {
-        return ToModule::Refused(Refusal::Field);
+        return Err(Refusal::Field);
     }
-    ToModule::OutputChange(OutputChange {
+    Ok(ToModule::OutputChange(OutputChange {
         address: payload[0],
         signals: word(payload, 3),
         mask: word(payload, 5),
-    })
+    }))
 }
 
 // Reads a payload as a message to the module. The refusals in their order: 7 where it has under 2 or over 256 bytes, 8 for an address, 9 for a
 // command, 7 for a length, 8 for an extended address, then 10, 11, 17.
-pub fn read_to_module(payload: &[u8]) -> ToModule
+pub fn read_to_module(payload: &[u8]) -> Result<ToModule, Refusal>
     ensures { to_module_of result ≡ read_to_module payload.now }
 {
     let len = payload.len();
     if len < 2 {
-        return ToModule::Refused(Refusal::Length);
+        return Err(Refusal::Length);
     }
     if 256 < len {
-        return ToModule::Refused(Refusal::Length);
+        return Err(Refusal::Length);
     }
     let address = payload[0];
     let command = payload[1];
@@ -140,22 +137,22 @@ pub fn read_to_module(payload: &[u8]) -> ToModule
         return read_to_extended_address(payload);
     }
     if !is_plain(address) {
-        return ToModule::Refused(Refusal::Address);
+        return Err(Refusal::Address);
     }
     if command < 0x80 {
-        return ToModule::Request {
+        return Ok(ToModule::Request {
             request: Request::Simple(Simple { address, command }),
             start: 2,
-        };
+        });
     }
     if command == 0x80 {
         return read_output_change(payload);
     }
     if command != 0xA0 {
-        return ToModule::Refused(Refusal::Command);
+        return Err(Refusal::Command);
     }
     if len < 3 {
-        return ToModule::Refused(Refusal::Length);
+        return Err(Refusal::Length);
     }
     read_request(payload, Address::Plain(address), 3)
 }
@@ -198,7 +195,7 @@ fn write_transmission(
     message: Transmission,
     data: &[u8],
     buf: &mut [u8],
-) -> WriteAnswer
+) -> Result<usize, Refusal>
     ensures { Writes framing (transmission_refusal message) (transmission_layout message «data».now)
         buf.old result buf.new }
 {
@@ -206,10 +203,10 @@ fn write_transmission(
     let options = message.options;
     let retries = options.retries;
     if !address_allowed(address) {
-        return WriteAnswer::Refused(Refusal::Address);
+        return Err(Refusal::Address);
     }
     if !retry_allowed(retries) {
-        return WriteAnswer::Refused(Refusal::Option);
+        return Err(Refusal::Option);
     }
     let mut head = [0u8; 32];
     let at = put_address(&mut head, address, message.response_id);
@@ -220,7 +217,12 @@ fn write_transmission(
 
 // Writes a message to the module with its data as a frame into the front of buf; the rest of buf stays. The refusals in their order: 8, 9, 10, 17,
 // then 14 where the payload has over 256 bytes, 13 where buf is shorter than the frame. A refusal leaves all of buf.
-pub fn write_request(framing: Framing, request: Request, data: &[u8], buf: &mut [u8]) -> WriteAnswer
+pub fn write_request(
+    framing: Framing,
+    request: Request,
+    data: &[u8],
+    buf: &mut [u8],
+) -> Result<usize, Refusal>
     ensures { Writes framing (request_refusal request «data».now) (request_layout request «data».now)
         buf.old result buf.new }
 {
@@ -232,11 +234,15 @@ pub fn write_request(framing: Framing, request: Request, data: &[u8], buf: &mut 
 }
 
 // Writes a change of outputs as a frame into the front of buf; the rest of buf stays. The refusals in their order: 8, 13. A refusal leaves all of buf.
-pub fn write_output_change(framing: Framing, change: OutputChange, buf: &mut [u8]) -> WriteAnswer
+pub fn write_output_change(
+    framing: Framing,
+    change: OutputChange,
+    buf: &mut [u8],
+) -> Result<usize, Refusal>
     ensures { Writes framing (change_refusal change) (change_layout change) buf.old result buf.new }
 {
     if !is_plain(change.address) {
-        return WriteAnswer::Refused(Refusal::Address);
+        return Err(Refusal::Address);
     }
     let signals = change.signals;
     let mask = change.mask;

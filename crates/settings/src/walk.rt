@@ -1,6 +1,6 @@
 // The settings of a list, one by one.
-ghost use Rattle.std.specs.Prelude.{◌≡◌, ◌≤◌, length};
-ghost use Rattle.settings.specs.Walk.{finding, finding_of};
+ghost use Rattle.std.specs.Prelude.{◌≡◌, drop, slice_get};
+ghost use Rattle.settings.specs.Walk.{finding, finding_of, settings_from};
 
 use crate::list::{is_list, width_of};
 use thiserror::Error;
@@ -18,6 +18,18 @@ pub struct Setting {
 #[error("an identifier is unknown, repeated or cut")]
 pub struct NotAList;
 
+// The setting whose identifier stands at index `at` of a list; none at the list's end.
+fn setting_from(list: &[u8], at: usize) -> Option<Setting>
+    ensures { result ≡ slice_get (settings_from 0 at (drop at list.now)) 0 }
+{
+    let identifier = *list.get(at)?;
+    Some(Setting {
+        identifier,
+        start: at + 1,
+        len: width_of(identifier),
+    })
+}
+
 // The setting with this index, counted from 0, of the settings of a list in their order; none where the index is past the last.
 pub fn setting_at(list: &[u8], index: usize) -> Result<Option<Setting>, NotAList>
     ensures { finding_of result ≡ finding list.now index }
@@ -25,20 +37,12 @@ pub fn setting_at(list: &[u8], index: usize) -> Result<Option<Setting>, NotAList
     if !is_list(list) {
         return Err(NotAList);
     }
-    let mut at: usize = 0;
-    let mut left = index;
-    while at < list.len() {
-        let id = list[at];
-        let len = width_of(id);
-        if left == 0 {
-            return Ok(Some(Setting {
-                identifier: id,
-                start: at + 1,
-                len: len,
-            }));
-        }
-        left -= 1;
-        at += 1 + len;
+    let mut at = 0;
+    for _ in 0..index {
+        let Some(setting) = setting_from(list, at) else {
+            return Ok(None);
+        };
+        at = setting.start + setting.len;
     }
-    Ok(None)
+    Ok(setting_from(list, at))
 }
