@@ -7,7 +7,8 @@ use mathlib.Core.List.{List}
 use mathlib.Core.Bool.{Bool, true, false, cond, true≢false}
 use lib.Dec.{eqb, leb}
 use borrow.Author.Tests.{leb-true, ne_eqb}
-use Rattle.std.proofs.Common.{Option, Some, None, Ok, Err}
+use Rattle.std.proofs.Common.{Option, Some, None, Result, Ok, Err, is_some, unwrap_or}
+use Rattle.std.specs.Bool.{then_some}
 use Rattle.frame.specs.Framing.{format_of as default_format}
 use Rattle.frame.specs.declared.framing.Framing.{Framing}
 use Rattle.frame.specs.declared.framing.Framing.TheVariants.{Binary as BinaryFraming, Ascii as AsciiFraming}
@@ -15,24 +16,19 @@ use Rattle.frame.specs.declared.framing.Footer.TheVariants.{Optional, Required}
 use Rattle.frame.specs.declared.framing.Ending.TheVariants.{CrLf, Any}
 use Rattle.frame.specs.declared.framing.Format.{Format}
 use Rattle.frame.specs.declared.framing.Format.TheVariants.{Binary, Ascii}
+use Rattle.frame.specs.declared.refusal.Refusal.{Refusal}
 use Rattle.reader.specs.Reader.{feed_values_of, quiet_values_of}
 use Rattle.reader.specs.declared.reader.Reader.{Reader}
 use Rattle.reader.specs.declared.answer.FeedAnswer.{FeedAnswer}
-use Rattle.reader.specs.declared.answer.FeedAnswer.TheVariants.{Frame as FeedFrame, NeedsMore, Refused as FeedRefused}
+use Rattle.reader.specs.declared.answer.FeedAnswer.TheVariants.{Frame as FeedFrame, NeedsMore}
 use Rattle.reader.specs.declared.answer.QuietAnswer.{QuietAnswer}
-use Rattle.reader.specs.declared.answer.QuietAnswer.TheVariants.{Frame as QuietFrame, Empty, Refused as QuietRefused}
+use Rattle.reader.specs.declared.answer.QuietAnswer.TheVariants.{Frame as QuietFrame, Empty}
 use Rattle.message.specs.FromModule.{outcome_byte}
-use Rattle.message.specs.Options.{byte_given, word_given}
 use Rattle.message.specs.Setup.{command_number, command_of}
-use Rattle.message.specs.declared.options.MaybeByte.{MaybeByte}
-use Rattle.message.specs.declared.options.MaybeByte.TheVariants.{NotGiven as NoByte, Given as Byte}
-use Rattle.message.specs.declared.options.MaybeWord.{MaybeWord}
-use Rattle.message.specs.declared.options.MaybeWord.TheVariants.{NotGiven as NoWord, Given as Word}
 use Rattle.message.specs.declared.options.Options.{Options}
 use Rattle.message.specs.declared.setup.SetupCommand.{SetupCommand}
 use Rattle.message.specs.declared.setup.SetupCommand.TheVariants.{EnableAck, GetInformation, GetSettings, EraseSettings, SaveSettings, Reset}
 use Rattle.message.specs.declared.setup.SetupReport.TheVariants.{Acknowledged, Information as IsInformation, SettingsFailed, SilentMode}
-use Rattle.message.specs.declared.setup.NamedCommand.TheVariants.{Known as KnownCommand}
 use Rattle.message.specs.declared.to_module.Address.{Address}
 use Rattle.message.specs.declared.to_module.Address.TheVariants.{Plain, Extended}
 use Rattle.message.specs.declared.to_module.Transmission.{Transmission}
@@ -48,7 +44,7 @@ use Rattle.boundary.specs.Refusal.{unknown_number}
 use Rattle.boundary.specs.Framing.{framing_of, format_of, format_number}
 use Rattle.boundary.specs.Line.{flat_values, mark_number, mark_in, flat_reader, format_in, reader_in, FeedsFlat, QuietsFlat}
 use Rattle.boundary.specs.Claims.{CrossesBack, ZeroWithoutFrame, NoneIsZero}
-use Rattle.boundary.specs.Options.{byte_of, word_of, byte_in, word_in, option_numbers, options_in}
+use Rattle.boundary.specs.Options.{option_numbers, options_in}
 use Rattle.boundary.specs.ToModule.{transmission_numbers, request_numbers, setup_numbers, transmission_in, request_in}
 use Rattle.boundary.specs.ToModule.{address_kind, change_refusal_in, setup_refusal_in}
 use Rattle.boundary.specs.FromModule.{delivery_numbers, response_numbers, report_numbers, notice_numbers}
@@ -125,7 +121,7 @@ given_back_lem r m e =
     rw (format_back r.format m (known_format (leb r.follows 1) _ m e), mark_back r.follows (known_mark _ (format_of r.format) m e))
 
 -- Commands.
-setup : (c : SetupCommand) → command_of (command_number c) ≡ KnownCommand c
+setup : (c : SetupCommand) → command_of (command_number c) ≡ Some c
 unfolding command_of
 setup EnableAck = refl
 setup GetInformation = refl
@@ -138,17 +134,13 @@ setup_taken_lem : (c : SetupCommand) → setup_refusal_in (setup_numbers c) ≡ 
 setup_taken_lem c = rw (setup c)
 
 -- Options: each argument with whether it is given.
-byte : (b : MaybeByte) → byte_in (byte_given b) (byte_of b) ≡ b
-byte NoByte = refl
-byte (Byte b) = refl
-
-word : (w : MaybeWord) → word_in (word_given w) (word_of w) ≡ w
-word NoWord = refl
-word (Word v) = refl
+given : {A : Type 0} (d : A) (o : Option A) → then_some (is_some o) (unwrap_or o d) ≡ o
+given d None = refl
+given d (Some x) = refl
 
 options : (o : Options) → options_in (option_numbers o) ≡ o
 unfolding option_numbers options_in
-options o = rw (byte o.retries, word o.lower_delay, word o.upper_delay, word o.interval)
+options o = rw (given 0 o.retries, given 0 o.lower_delay, given 0 o.upper_delay, given 0 o.interval)
 
 -- Messages to the module. Of an extended one the kind is by its address.
 transmission : (a : Address) (id : ℕ) (o : Options) (start : ℕ) →
@@ -255,15 +247,15 @@ crosses_back =
     }
 
 -- The numbers of an answer without a frame.
-fed_zero : (a : FeedAnswer) → (feed_values_of a).is_frame ≡ false → ZeroWithoutFrame (flat_values (feed_values_of a))
-fed_zero (FeedFrame taken noise judged len began) e = absurd (true≢false e)
-fed_zero (NeedsMore taken noise judged) e = record { len = refl; began = refl }
-fed_zero (FeedRefused r) e = record { len = refl; began = refl }
+fed_zero : (a : Result FeedAnswer Refusal) → (feed_values_of a).is_frame ≡ false → ZeroWithoutFrame (flat_values (feed_values_of a))
+fed_zero (Ok (FeedFrame taken noise judged len began)) e = absurd (true≢false e)
+fed_zero (Ok (NeedsMore taken noise judged)) e = record { len = refl; began = refl }
+fed_zero (Err r) e = record { len = refl; began = refl }
 
-quiet_zero : (a : QuietAnswer) → (quiet_values_of a).is_frame ≡ false → ZeroWithoutFrame (flat_values (quiet_values_of a))
-quiet_zero (QuietFrame noise judged len began) e = absurd (true≢false e)
-quiet_zero (Empty noise judged) e = record { len = refl; began = refl }
-quiet_zero (QuietRefused r) e = record { len = refl; began = refl }
+quiet_zero : (a : Result QuietAnswer Refusal) → (quiet_values_of a).is_frame ≡ false → ZeroWithoutFrame (flat_values (quiet_values_of a))
+quiet_zero (Ok (QuietFrame noise judged len began)) e = absurd (true≢false e)
+quiet_zero (Ok (Empty noise judged)) e = record { len = refl; began = refl }
+quiet_zero (Err r) e = record { len = refl; began = refl }
 
 -- They are what crosses.
 zero_crosses : {a b : LineAnswer} → a ≡ b → (b.is_frame ≡ false → ZeroWithoutFrame b) → a.is_frame ≡ false → ZeroWithoutFrame a

@@ -13,7 +13,6 @@ use Rattle.reader.specs.declared.reader.Reader.{Reader}
 use Rattle.message.specs.Setup.{command_of}
 use Rattle.message.specs.ToModule.{change_refusal}
 use Rattle.message.specs.declared.setup.SetupCommand.{SetupCommand}
-use Rattle.message.specs.declared.setup.NamedCommand.TheVariants.{Known as KnownCommand}
 use Rattle.message.specs.declared.to_module.Request.{Request}
 use Rattle.message.specs.declared.to_module.OutputChange.{OutputChange}
 use Rattle.message.specs.declared.from_module.Delivery.{Delivery}
@@ -46,7 +45,7 @@ pub record CrossesBack : Type 0 where
   -- The numbers of a message stand for it, wherever its data began.
   pub request : (m : Request) (start : ℕ) → request_in (request_numbers m start) ≡ Some m
   pub change : (m : OutputChange) → change_in (change_numbers m) ≡ m
-  pub setup : (c : SetupCommand) → command_of (setup_numbers c).command ≡ KnownCommand c
+  pub setup : (c : SetupCommand) → command_of (setup_numbers c).command ≡ Some c
   pub delivery : (m : Delivery) (start : ℕ) → delivery_in (delivery_numbers m start) ≡ Some m
   pub notice : (m : Notice) → notice_in (notice_numbers m) ≡ Ok m
   -- The calls for a change of outputs and for a command, which test the kind first, find it right: what is refused is for the message's own reason.

@@ -1,9 +1,10 @@
 -- Reading and writing a single frame across the boundary: the numbers and the buffer are those that the crates below promise.
-use Rattle.std.specs.Prelude.{ℕ, ◌≡◌, List, cond, eqb, length, Option, Some, None}
+use Rattle.std.specs.Prelude.{ℕ, ◌≡◌, List, cond, eqb, length, Option, Some, None, Result, Ok, Err}
 use Rattle.frame.specs.declared.framing.Framing.{Framing}
 use Rattle.frame.specs.declared.framing.Format.{Format}
+use Rattle.frame.specs.declared.single.FrameRead.{FrameRead}
 use Rattle.frame.specs.Framing.{read, layout}
-use Rattle.frame.specs.Single.{Reading, no_reading, reading, read_into, Writing, no_writing, writing, write_into}
+use Rattle.frame.specs.Single.{Reading, frame_reading, no_reading, reading, read_into, Writing, length_writing, no_writing, writing, write_into}
 use Rattle.boundary.specs.Refusal.{unknown_number}
 use Rattle.boundary.specs.declared.single.FlatReading.{FlatReading}
 use Rattle.boundary.specs.declared.single.FlatWriting.{FlatWriting}
@@ -14,6 +15,15 @@ flat_reading r = record { refusal = r.number; used = r.used; len = r.len }
 
 abbrev pub flat_writing : Writing → FlatWriting
 flat_writing w = record { refusal = w.number; len = w.len }
+
+-- The same of an answer, by the numbers of its refusals.
+abbrev pub reading_by : {E : Type 0} → (E → ℕ) → Result FrameRead E → FlatReading
+reading_by number (Ok frame) = flat_reading (frame_reading frame.used frame.len)
+reading_by number (Err e) = flat_reading (no_reading (number e))
+
+abbrev pub writing_by : {E : Type 0} → (E → ℕ) → Result ℕ E → FlatWriting
+writing_by number (Ok len) = flat_writing (length_writing len)
+writing_by number (Err e) = flat_writing (no_writing (number e))
 
 -- What a read answers and leaves in the buffer, by its format.
 abbrev pub reading_in : Option Format → List ℕ → ℕ → Reading

@@ -6,8 +6,6 @@ use Rattle.message.specs.Meaning.{Meaning, refused, carrying, bare}
 use Rattle.message.specs.Setup.{command_number, command_of, setup_layout}
 use Rattle.message.specs.ToModule.{Order, change, setup, request_refusal, request_layout, change_refusal, change_layout}
 use Rattle.message.specs.declared.setup.SetupCommand.{SetupCommand}
-use Rattle.message.specs.declared.setup.NamedCommand.{NamedCommand}
-use Rattle.message.specs.declared.setup.NamedCommand.TheVariants.{Known as KnownCommand, Unknown as NoCommand}
 use Rattle.message.specs.declared.to_module.Address.{Address}
 use Rattle.message.specs.declared.to_module.Address.TheVariants.{Plain, Extended}
 use Rattle.message.specs.declared.to_module.Transmission.{Transmission}
@@ -157,16 +155,16 @@ request_layout_in None dat = []
 abbrev pub change_refusal_in : ToModuleNumbers → ℕ
 change_refusal_in n = cond (eqb n.kind 4) (change_refusal (change_in n)) unknown_number
 
-abbrev pub command_refusal : NamedCommand → ℕ
-command_refusal (KnownCommand c) = 0
-command_refusal NoCommand = 9
+abbrev pub command_refusal : Option SetupCommand → ℕ
+command_refusal (Some c) = 0
+command_refusal None = 9
 
 abbrev pub setup_refusal_in : ToModuleNumbers → ℕ
 setup_refusal_in n = cond (eqb n.kind 6) (command_refusal (command_of n.command)) unknown_number
 
-abbrev pub command_layout : NamedCommand → List ℕ
-command_layout (KnownCommand c) = setup_layout c
-command_layout NoCommand = []
+abbrev pub command_layout : Option SetupCommand → List ℕ
+command_layout (Some c) = setup_layout c
+command_layout None = []
 
 -- The promise of a write of such a message into buf, which then holds `after`.
 abbrev pub WritesRequest : Option Framing → Option Request → List ℕ → List ℕ → FlatWriting → List ℕ → Type 0

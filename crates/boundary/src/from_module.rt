@@ -8,11 +8,11 @@ ghost use Rattle.boundary.specs.FromModule.{WritesDelivery, WritesNotice};
 
 use crate::framing::framing_of;
 use crate::refusal::Unnamed;
-use crate::single::{FlatWriting, unwritten};
+use crate::single::{FlatWriting, flat_writing};
 use crate::status::{StatusNumbers, remote_in, standard_in};
-use crate::written::written_of;
 use message::{
-    Delivery, FromModule, Information, Notice, Outcome, Reception, Response, SetupReport, Simple,
+    Delivery, FromModule, Information, Notice, Outcome, Reception, Refusal, Response, SetupReport,
+    Simple,
 };
 
 // The information of F1, its fields as in `message::Information`.
@@ -175,13 +175,13 @@ fn notice_numbers(notice: Notice) -> FromModuleNumbers
 }
 
 #[tactic(auto, unfolding(crate::specs::FromModule::from_module_numbers))]
-fn from_module_numbers(answer: FromModule) -> FromModuleNumbers
+fn from_module_numbers(answer: Result<FromModule, Refusal>) -> FromModuleNumbers
     ensures { result ≡ from_module_numbers (from_module_of answer) }
 {
     match answer {
-        FromModule::Delivery { delivery, start } => delivery_numbers(delivery, start),
-        FromModule::Notice(notice) => notice_numbers(notice),
-        FromModule::Refused(refusal) => FromModuleNumbers {
+        Ok(FromModule::Delivery { delivery, start }) => delivery_numbers(delivery, start),
+        Ok(FromModule::Notice(notice)) => notice_numbers(notice),
+        Err(refusal) => FromModuleNumbers {
             refusal: refusal.number(),
             ..FromModuleNumbers::default()
         },
@@ -271,9 +271,9 @@ pub fn boundary_write_delivery(
     ensures { WritesDelivery (framing_of framing) (delivery_in delivery) «data».now buf.old result buf.new }
 {
     let (Some(f), Some(d)) = (framing_of(framing), delivery_in(delivery)) else {
-        return unwritten(Unnamed::Kind);
+        return flat_writing(Err(Unnamed::Kind));
     };
-    written_of(message::write_delivery(f, d, data, buf))
+    flat_writing(message::write_delivery(f, d, data, buf))
 }
 
 // Writes a message from the module without data as a frame, as `message::write_notice` does. A framing or a kind that stands for none, or for a message
@@ -283,10 +283,10 @@ pub fn boundary_write_notice(framing: u8, notice: FromModuleNumbers, buf: &mut [
     ensures { WritesNotice (framing_of framing) (notice_in notice) buf.old result buf.new }
 {
     let Some(f) = framing_of(framing) else {
-        return unwritten(Unnamed::Kind);
+        return flat_writing(Err(Unnamed::Kind));
     };
     match notice_in(notice) {
-        Ok(m) => written_of(message::write_notice(f, m, buf)),
-        Err(unnamed) => unwritten(unnamed),
+        Ok(m) => flat_writing(message::write_notice(f, m, buf)),
+        Err(unnamed) => flat_writing(Err(unnamed)),
     }
 }

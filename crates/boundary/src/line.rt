@@ -5,6 +5,7 @@ ghost use Rattle.boundary.specs.Line.{flat_reader, flat_values, format_in, reade
 
 use crate::framing::{format_number, format_of};
 use crate::refusal::{Numbered, Unnamed};
+use frame::Refusal;
 use reader::{FeedAnswer, QuietAnswer, Reader};
 
 // A reader's state: its format as a number, the bytes that it holds, the first `count` of `held`, whether an optional byte may follow the last frame, 0 for no,
@@ -43,26 +44,28 @@ pub struct LineFed {
     pub answer: LineAnswer,
 }
 
-fn refused(number: u8) -> LineAnswer
-    ensures { result ≡ flat_values (refusal_values number) }
+fn refused<E: Numbered>(refusal: E) -> LineAnswer
+    ensures { result ≡ flat_values (refusal_values (E.number_of refusal)) }
 {
     LineAnswer {
-        refusal: number,
+        refusal: refusal.number(),
         ..LineAnswer::default()
     }
 }
 
-fn fed_numbers(answer: FeedAnswer) -> LineAnswer
+fn fed_numbers(answer: Result<FeedAnswer, Refusal>) -> LineAnswer
     ensures { result ≡ flat_values (feed_values_of answer) }
 {
     match answer {
-        FeedAnswer::Frame {
-            taken,
-            noise,
-            judged,
-            len,
-            began,
-        } => LineAnswer {
+        Ok(
+            FeedAnswer::Frame {
+                taken,
+                noise,
+                judged,
+                len,
+                began,
+            },
+        ) => LineAnswer {
             refusal: 0,
             is_frame: true,
             taken,
@@ -71,30 +74,34 @@ fn fed_numbers(answer: FeedAnswer) -> LineAnswer
             len,
             began,
         },
-        FeedAnswer::NeedsMore {
-            taken,
-            noise,
-            judged,
-        } => LineAnswer {
+        Ok(
+            FeedAnswer::NeedsMore {
+                taken,
+                noise,
+                judged,
+            },
+        ) => LineAnswer {
             taken,
             noise,
             judged,
             ..LineAnswer::default()
         },
-        FeedAnswer::Refused(refusal) => refused(refusal.number()),
+        Err(refusal) => refused(refusal),
     }
 }
 
-fn quiet_numbers(answer: QuietAnswer) -> LineAnswer
+fn quiet_numbers(answer: Result<QuietAnswer, Refusal>) -> LineAnswer
     ensures { result ≡ flat_values (quiet_values_of answer) }
 {
     match answer {
-        QuietAnswer::Frame {
-            noise,
-            judged,
-            len,
-            began,
-        } => LineAnswer {
+        Ok(
+            QuietAnswer::Frame {
+                noise,
+                judged,
+                len,
+                began,
+            },
+        ) => LineAnswer {
             is_frame: true,
             noise,
             judged,
@@ -102,12 +109,12 @@ fn quiet_numbers(answer: QuietAnswer) -> LineAnswer
             began,
             ..LineAnswer::default()
         },
-        QuietAnswer::Empty { noise, judged } => LineAnswer {
+        Ok(QuietAnswer::Empty { noise, judged }) => LineAnswer {
             noise,
             judged,
             ..LineAnswer::default()
         },
-        QuietAnswer::Refused(refusal) => refused(refusal.number()),
+        Err(refusal) => refused(refusal),
     }
 }
 
@@ -151,7 +158,7 @@ fn unnamed(reader: LineReader) -> LineFed
 {
     LineFed {
         reader,
-        answer: refused(Unnamed::Kind.number()),
+        answer: refused(Unnamed::Kind),
     }
 }
 

@@ -1,13 +1,11 @@
 // Reading and writing a single frame, with the answer as numbers.
 ghost use Rattle.std.specs.Prelude.{◌≡◌};
-ghost use Rattle.frame.specs.Single.{reading_of, no_writing, writing_of};
 ghost use Rattle.boundary.specs.Framing.{framing_of, format_of};
-ghost use Rattle.boundary.specs.Refusal.{unnamed_number};
-ghost use Rattle.boundary.specs.Single.{flat_reading, flat_writing, ReadsFlat, WritesFlat};
+ghost use Rattle.boundary.specs.Single.{reading_by, writing_by, ReadsFlat, WritesFlat};
 
 use crate::framing::{format_of, framing_of};
 use crate::refusal::{Numbered, Unnamed};
-use frame::{ReadAnswer, WriteAnswer};
+use frame::FrameRead;
 
 // A read's answer: the refusal's number, 0 for none, the bytes used and the payload's length.
 #[repr(C)]
@@ -26,38 +24,28 @@ pub struct FlatWriting {
     pub len: usize,
 }
 
-// A write whose numbers stand for nothing.
-pub(crate) fn unwritten(unnamed: Unnamed) -> FlatWriting
-    ensures { result ≡ flat_writing (no_writing (unnamed_number unnamed)) }
+fn flat_reading<E: Numbered>(read: Result<FrameRead, E>) -> FlatReading
+    ensures { result ≡ reading_by E.number_of read }
 {
-    FlatWriting {
-        refusal: unnamed.number(),
-        ..FlatWriting::default()
-    }
-}
-
-fn reading_of(answer: ReadAnswer) -> FlatReading
-    ensures { result ≡ flat_reading (reading_of answer) }
-{
-    match answer {
-        ReadAnswer::Frame { used, len } => FlatReading {
-            used,
-            len,
-            ..FlatReading::default()
+    match read {
+        Ok(frame) => FlatReading {
+            refusal: 0,
+            used: frame.used,
+            len: frame.len,
         },
-        ReadAnswer::Refused(refusal) => FlatReading {
+        Err(refusal) => FlatReading {
             refusal: refusal.number(),
             ..FlatReading::default()
         },
     }
 }
 
-fn writing_of(answer: WriteAnswer) -> FlatWriting
-    ensures { result ≡ flat_writing (writing_of answer) }
+pub(crate) fn flat_writing<E: Numbered>(written: Result<usize, E>) -> FlatWriting
+    ensures { result ≡ writing_by E.number_of written }
 {
-    match answer {
-        WriteAnswer::Written(len) => FlatWriting { refusal: 0, len },
-        WriteAnswer::Refused(refusal) => FlatWriting {
+    match written {
+        Ok(len) => FlatWriting { refusal: 0, len },
+        Err(refusal) => FlatWriting {
             refusal: refusal.number(),
             len: 0,
         },
@@ -70,11 +58,8 @@ pub fn boundary_read_frame(format: u8, s: &[u8], buf: &mut [u8]) -> FlatReading
     ensures { ReadsFlat (format_of format) s.now buf.old result buf.new }
 {
     match format_of(format) {
-        Some(f) => reading_of(frame::read_frame_as(f, s, buf)),
-        None => FlatReading {
-            refusal: Unnamed::Kind.number(),
-            ..FlatReading::default()
-        },
+        Some(f) => flat_reading(frame::read_frame_as(f, s, buf)),
+        None => flat_reading(Err(Unnamed::Kind)),
     }
 }
 
@@ -83,7 +68,7 @@ pub fn boundary_write_frame(framing: u8, payload: &[u8], buf: &mut [u8]) -> Flat
     ensures { WritesFlat (framing_of framing) 0 payload.now buf.old result buf.new }
 {
     match framing_of(framing) {
-        Some(f) => writing_of(frame::write_frame(f, payload, buf)),
-        None => unwritten(Unnamed::Kind),
+        Some(f) => flat_writing(frame::write_frame(f, payload, buf)),
+        None => flat_writing(Err(Unnamed::Kind)),
     }
 }

@@ -8,11 +8,9 @@ ghost use Rattle.boundary.specs.ToModule.{transmission_in, request_in, WritesReq
 use crate::framing::framing_of;
 use crate::options::OptionNumbers;
 use crate::refusal::Unnamed;
-use crate::single::{FlatWriting, unwritten};
-use crate::written::written_of;
+use crate::single::{FlatWriting, flat_writing};
 use message::{
-    Address, NamedCommand, Options, OutputChange, Request, SetupCommand, Simple, ToModule,
-    Transmission,
+    Address, Options, OutputChange, Refusal, Request, SetupCommand, Simple, ToModule, Transmission,
 };
 
 // A message to the module. `kind` is 0 for a refusal, 1 for a simple message, 2 for an extended one to a plain address, 3 for an extended one to an
@@ -81,24 +79,24 @@ fn request_numbers(request: Request, start: usize) -> ToModuleNumbers
 }
 
 #[tactic(auto, unfolding(crate::specs::ToModule::to_module_numbers))]
-fn to_module_numbers(answer: ToModule) -> ToModuleNumbers
+fn to_module_numbers(answer: Result<ToModule, Refusal>) -> ToModuleNumbers
     ensures { result ≡ to_module_numbers (to_module_of answer) }
 {
     match answer {
-        ToModule::Request { request, start } => request_numbers(request, start),
-        ToModule::OutputChange(m) => ToModuleNumbers {
+        Ok(ToModule::Request { request, start }) => request_numbers(request, start),
+        Ok(ToModule::OutputChange(m)) => ToModuleNumbers {
             kind: 4,
             address: m.address,
             signals: m.signals,
             mask: m.mask,
             ..ToModuleNumbers::default()
         },
-        ToModule::Setup(command) => ToModuleNumbers {
+        Ok(ToModule::Setup(command)) => ToModuleNumbers {
             kind: 6,
             command: command.number(),
             ..ToModuleNumbers::default()
         },
-        ToModule::Refused(refusal) => ToModuleNumbers {
+        Err(refusal) => ToModuleNumbers {
             refusal: refusal.number(),
             ..ToModuleNumbers::default()
         },
@@ -150,9 +148,9 @@ pub fn boundary_write_request(
     ensures { WritesRequest (framing_of framing) (request_in request) «data».now buf.old result buf.new }
 {
     let (Some(f), Some(q)) = (framing_of(framing), request_in(request)) else {
-        return unwritten(Unnamed::Kind);
+        return flat_writing(Err(Unnamed::Kind));
     };
-    written_of(message::write_request(f, q, data, buf))
+    flat_writing(message::write_request(f, q, data, buf))
 }
 
 // Writes a change of outputs as a frame, as `message::write_output_change` does. A framing that stands for none, or a kind that is not 4, is refused with
@@ -165,14 +163,14 @@ pub fn boundary_write_output_change(
     ensures { WritesChange (framing_of framing) change buf.old result buf.new }
 {
     let (Some(f), 4) = (framing_of(framing), change.kind) else {
-        return unwritten(Unnamed::Kind);
+        return flat_writing(Err(Unnamed::Kind));
     };
     let c = OutputChange {
         address: change.address,
         signals: change.signals,
         mask: change.mask,
     };
-    written_of(message::write_output_change(f, c, buf))
+    flat_writing(message::write_output_change(f, c, buf))
 }
 
 // Writes a command to the module itself as a frame, as `message::write_setup` does. A framing that stands for none, or a kind that is not 6, is refused with
@@ -181,10 +179,10 @@ pub fn boundary_write_setup(framing: u8, command: ToModuleNumbers, buf: &mut [u8
     ensures { WritesSetup (framing_of framing) command buf.old result buf.new }
 {
     let (Some(f), 6) = (framing_of(framing), command.kind) else {
-        return unwritten(Unnamed::Kind);
+        return flat_writing(Err(Unnamed::Kind));
     };
-    let NamedCommand::Known(c) = SetupCommand::named(command.command) else {
-        return unwritten(Unnamed::Command);
+    let Some(c) = SetupCommand::named(command.command) else {
+        return flat_writing(Err(Unnamed::Command));
     };
-    written_of(message::write_setup(f, c, buf))
+    flat_writing(message::write_setup(f, c, buf))
 }
