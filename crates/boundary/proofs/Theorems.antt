@@ -1,12 +1,12 @@
 -- The claims of specs/Claims.antt, proved case by case.
 -- Assumes nothing.
-use Prim.Native.Nat.{ℕ, zero, suc, ◌<◌}
+use Prim.Native.Nat.{ℕ, ◌<◌}
 use native.Mathlib.Omega.{arith}
-use mathlib.Core.Path.{◌≡◌, refl, sym, ap, ◌∙◌, subst}
+use mathlib.Core.Path.{◌≡◌, refl}
 use mathlib.Core.List.{List}
 use mathlib.Core.Bool.{Bool, true, false, cond, true≢false}
 use lib.Dec.{eqb, leb}
-use borrow.Author.Tests.{leb-true, ne_eqb}
+use Rattle.std.proofs.lemmas.Bool.Decides.{nat_tests}
 use Rattle.std.proofs.Common.{Option, Some, None, Result, Ok, Err, is_some, unwrap_or}
 use Rattle.std.specs.Bool.{then_some}
 use Rattle.frame.specs.Framing.{format_of as default_format}
@@ -51,7 +51,6 @@ use Rattle.boundary.specs.FromModule.{delivery_numbers, response_numbers, report
 use Rattle.boundary.specs.FromModule.{delivery_in, response_in, silent_mode_in, report_in, notice_in}
 use Rattle.boundary.specs.declared.refusal.Unnamed.TheVariants.{Kind}
 use Rattle.boundary.specs.declared.line.LineReader.{LineReader}
-use Rattle.boundary.specs.declared.line.LineAnswer.{LineAnswer}
 use Rattle.boundary.specs.declared.line.LineFed.{LineFed}
 
 -- Formats, framings and states.
@@ -67,16 +66,13 @@ unfolding framing_of
 framing BinaryFraming = refl
 framing AsciiFraming = refl
 
-above : (n k : ℕ) → k < n → eqb n k ≡ false
-above n k l = ne_eqb n k (λ (e : n ≡ k). let z : ⊥ = omega arith in z)
-
 no_format_lem : (n : ℕ) → 3 < n → format_of n ≡ None
 unfolding format_of
-no_format_lem n l = rw (above n 0 (omega arith), above n 1 (omega arith), above n 2 (omega arith), above n 3 l)
+no_format_lem n l = grind (arith, nat_tests)
 
 no_framing_lem : (n : ℕ) → 1 < n → framing_of n ≡ None
 unfolding framing_of
-no_framing_lem n l = rw (above n 0 (omega arith), above n 1 l)
+no_framing_lem n l = grind (arith, nat_tests)
 
 mark : (follows : Bool) → mark_in (mark_number follows) ≡ follows
 mark true = refl
@@ -96,29 +92,20 @@ reader_format_lem r = rw (mark_known r.follows, format r.format)
 -- A state that crossed: its numbers are those of what they stand for.
 format_back : (n : ℕ) (m : Format) → format_of n ≡ Some m → format_number m ≡ n
 unfolding format_of
-format_back zero m e = cc
-format_back (suc zero) m e = cc
-format_back (suc (suc zero)) m e = cc
-format_back (suc (suc (suc zero))) m e = cc
-format_back (suc (suc (suc (suc n)))) m e = cc (no_format_lem (suc (suc (suc (suc n)))) (omega arith))
+format_back n m e = grind (arith, nat_tests)
 
 mark_back : (n : ℕ) → leb n 1 ≡ true → mark_number (mark_in n) ≡ n
-mark_back zero e = refl
-mark_back (suc zero) e = refl
-mark_back (suc (suc n)) e = let l = leb-true (suc (suc n)) 1 e in absurd (let z : ⊥ = omega arith in z)
+mark_back n e = grind (arith, nat_tests)
 
-known_mark : (t : Bool) (x : Option Format) (m : Format) → cond t x None ≡ Some m → t ≡ true
-known_mark true x m e = refl
-known_mark false x m e = cc
-
-known_format : (t : Bool) (x : Option Format) (m : Format) → cond t x None ≡ Some m → x ≡ Some m
-known_format true x m e = e
-known_format false x m e = cc
+known : (t : Bool) (x : Option Format) (m : Format) → cond t x None ≡ Some m → (t ≡ true) × (x ≡ Some m)
+known true x m e = (refl, e)
+known false x m e = cc
 
 given_back_lem : (r : LineReader) (m : Format) → format_in r ≡ Some m → flat_reader (reader_in m r) ≡ r
 unfolding format_in
 given_back_lem r m e =
-    rw (format_back r.format m (known_format (leb r.follows 1) _ m e), mark_back r.follows (known_mark _ (format_of r.format) m e))
+    let k : (leb r.follows 1 ≡ true) × (format_of r.format ≡ Some m) = known _ _ m e in
+    rw (format_back r.format m k.1, mark_back r.follows k.0)
 
 -- Commands.
 setup : (c : SetupCommand) → command_of (command_number c) ≡ Some c
@@ -150,13 +137,9 @@ unfolding request_in transmission_in transmission_numbers
 transmission (Plain a) id o start = rw (options o)
 transmission (Extended w) id o start = rw (options o)
 
-kind_no_change : (a : Address) → eqb (address_kind a) 4 ≡ false
-kind_no_change (Plain a) = refl
-kind_no_change (Extended w) = refl
-
-kind_no_setup : (a : Address) → eqb (address_kind a) 6 ≡ false
-kind_no_setup (Plain a) = refl
-kind_no_setup (Extended w) = refl
+kind_lem : (a : Address) → (eqb (address_kind a) 4 ≡ false) × (eqb (address_kind a) 6 ≡ false)
+kind_lem (Plain a) = (refl, refl)
+kind_lem (Extended w) = (refl, refl)
 
 request : (m : Request) (start : ℕ) → request_in (request_numbers m start) ≡ Some m
 unfolding request_in request_numbers
@@ -167,13 +150,13 @@ request SettingsRequest start = refl
 request_no_change_lem : (m : Request) (start : ℕ) → change_refusal_in (request_numbers m start) ≡ unknown_number
 unfolding request_numbers transmission_numbers
 request_no_change_lem (SimpleRequest m) start = refl
-request_no_change_lem (ExtendedRequest m) start = rw (kind_no_change m.address)
+request_no_change_lem (ExtendedRequest m) start = rw (kind_lem m.address).0
 request_no_change_lem SettingsRequest start = refl
 
 request_no_setup_lem : (m : Request) (start : ℕ) → setup_refusal_in (request_numbers m start) ≡ unknown_number
 unfolding request_numbers transmission_numbers
 request_no_setup_lem (SimpleRequest m) start = refl
-request_no_setup_lem (ExtendedRequest m) start = rw (kind_no_setup m.address)
+request_no_setup_lem (ExtendedRequest m) start = rw (kind_lem m.address).1
 request_no_setup_lem SettingsRequest start = refl
 
 -- Messages from the module.
@@ -258,20 +241,20 @@ quiet_zero (Ok (Empty noise judged)) e = record { len = refl; began = refl }
 quiet_zero (Err r) e = record { len = refl; began = refl }
 
 -- They are what crosses.
-zero_crosses : {a b : LineAnswer} → a ≡ b → (b.is_frame ≡ false → ZeroWithoutFrame b) → a.is_frame ≡ false → ZeroWithoutFrame a
-zero_crosses e none n = subst ZeroWithoutFrame (sym e) (none (ap (λ (x : LineAnswer). x.is_frame) (sym e) ∙ n))
+zero_crosses : {a b : LineFed} → a ≡ b → (b.answer.is_frame ≡ false → ZeroWithoutFrame b.answer) → a.answer.is_frame ≡ false → ZeroWithoutFrame a.answer
+zero_crosses e none = rw e none
 
 at_line_lem :
     (m : Option Format) (r : LineReader) (chunk buf : List ℕ) (fed : LineFed) (after : List ℕ) → FeedsFlat m r chunk buf fed after →
     fed.answer.is_frame ≡ false → ZeroWithoutFrame fed.answer
-at_line_lem (Some f) r chunk buf fed after p = zero_crosses (ap (λ (x : LineFed). x.answer) p.crosses) (fed_zero p.answer.answer)
-at_line_lem None r chunk buf fed after p = zero_crosses (ap (λ (x : LineFed). x.answer) p.refuses) (λ _. record { len = refl; began = refl })
+at_line_lem (Some f) r chunk buf fed after p = zero_crosses p.crosses (fed_zero p.answer.answer)
+at_line_lem None r chunk buf fed after p = zero_crosses p.refuses (λ _. record { len = refl; began = refl })
 
 at_quiet_lem :
     (m : Option Format) (r : LineReader) (buf : List ℕ) (fed : LineFed) (after : List ℕ) → QuietsFlat m r buf fed after →
     fed.answer.is_frame ≡ false → ZeroWithoutFrame fed.answer
-at_quiet_lem (Some f) r buf fed after p = zero_crosses (ap (λ (x : LineFed). x.answer) p.crosses) (quiet_zero p.answer.answer)
-at_quiet_lem None r buf fed after p = zero_crosses (ap (λ (x : LineFed). x.answer) p.refuses) (λ _. record { len = refl; began = refl })
+at_quiet_lem (Some f) r buf fed after p = zero_crosses p.crosses (quiet_zero p.answer.answer)
+at_quiet_lem None r buf fed after p = zero_crosses p.refuses (λ _. record { len = refl; began = refl })
 
 pub none_is_zero : NoneIsZero
 none_is_zero = record { at_line = at_line_lem; at_quiet = at_quiet_lem }

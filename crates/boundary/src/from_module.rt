@@ -27,7 +27,6 @@ pub struct InformationNumbers {
     pub network: u8,
 }
 
-// What the information of F1 stands for, and back.
 impl From<Information> for InformationNumbers {
     ghost from_gives = { λ information numbers. numbers ≡ information_numbers information };
 
@@ -188,6 +187,7 @@ fn from_module_numbers(answer: Result<FromModule, Refusal>) -> FromModuleNumbers
     }
 }
 
+// The message with data that numbers stand for, if any.
 #[tactic(auto, unfolding(crate::specs::FromModule::delivery_in))]
 fn delivery_in(n: FromModuleNumbers) -> Option<Delivery>
     ensures { result ≡ delivery_in n }
@@ -240,6 +240,7 @@ fn report_in(n: FromModuleNumbers) -> Result<Notice, Unnamed>
     Ok(Notice::Setup(report))
 }
 
+// The message without data that numbers stand for, or why they stand for none.
 #[tactic(auto, unfolding(crate::specs::FromModule::notice_in))]
 fn notice_in(n: FromModuleNumbers) -> Result<Notice, Unnamed>
     ensures { result ≡ notice_in n }
@@ -270,10 +271,10 @@ pub fn boundary_write_delivery(
 ) -> FlatWriting
     ensures { WritesDelivery (framing_of framing) (delivery_in delivery) «data».now buf.old result buf.new }
 {
-    let (Some(f), Some(d)) = (framing_of(framing), delivery_in(delivery)) else {
+    let (Some(framing), Some(delivery)) = (framing_of(framing), delivery_in(delivery)) else {
         return flat_writing(Err(Unnamed::Kind));
     };
-    flat_writing(message::write_delivery(f, d, data, buf))
+    flat_writing(message::write_delivery(framing, delivery, data, buf))
 }
 
 // Writes a message from the module without data as a frame, as `message::write_notice` does. A framing or a kind that stands for none, or for a message
@@ -282,11 +283,11 @@ pub fn boundary_write_delivery(
 pub fn boundary_write_notice(framing: u8, notice: FromModuleNumbers, buf: &mut [u8]) -> FlatWriting
     ensures { WritesNotice (framing_of framing) (notice_in notice) buf.old result buf.new }
 {
-    let Some(f) = framing_of(framing) else {
+    let Some(framing) = framing_of(framing) else {
         return flat_writing(Err(Unnamed::Kind));
     };
     match notice_in(notice) {
-        Ok(m) => flat_writing(message::write_notice(f, m, buf)),
+        Ok(notice) => flat_writing(message::write_notice(framing, notice, buf)),
         Err(unnamed) => flat_writing(Err(unnamed)),
     }
 }

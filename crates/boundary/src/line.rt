@@ -1,12 +1,11 @@
 // The line reader, with its state and its answers as numbers.
 ghost use Rattle.std.specs.Prelude.{◌≡◌, option_map};
-ghost use Rattle.reader.specs.Reader.{refusal_values, feed_values_of, quiet_values_of};
-ghost use Rattle.boundary.specs.Line.{flat_reader, flat_values, format_in, reader_in, new_flat, unnamed, FeedsFlat, QuietsFlat};
+ghost use Rattle.reader.specs.Reader.{refusal_values, fed_values_of, quieted_values_of};
+ghost use Rattle.boundary.specs.Line.{flat_reader, flat_values, flat_fed, flat_quieted, format_in, reader_in, new_flat, unnamed, FeedsFlat, QuietsFlat};
 
 use crate::framing::{format_number, format_of};
 use crate::refusal::{Numbered, Unnamed};
-use frame::Refusal;
-use reader::{FeedAnswer, QuietAnswer, Reader};
+use reader::{Fed, FeedAnswer, QuietAnswer, Quieted, Reader};
 
 // A reader's state: its format as a number, the bytes that it holds, the first `count` of `held`, whether an optional byte may follow the last frame, 0 for no,
 // 1 for yes, and how many of the held bytes were judged at the first held place. A call with a state whose mark is any other number, or whose format is none,
@@ -53,68 +52,64 @@ fn refused<E: Numbered>(refusal: E) -> LineAnswer
     }
 }
 
-fn fed_numbers(answer: Result<FeedAnswer, Refusal>) -> LineAnswer
-    ensures { result ≡ flat_values (feed_values_of answer) }
-{
-    match answer {
-        Ok(
+impl From<FeedAnswer> for LineAnswer {
+    ghost from_gives = { λ answer numbers. numbers ≡ flat_values (fed_values_of answer) };
+
+    fn from(answer: FeedAnswer) -> LineAnswer {
+        match answer {
             FeedAnswer::Frame {
                 taken,
                 noise,
                 judged,
                 len,
                 began,
-            },
-        ) => LineAnswer {
-            refusal: 0,
-            is_frame: true,
-            taken,
-            noise,
-            judged,
-            len,
-            began,
-        },
-        Ok(
-            FeedAnswer::NeedsMore {
+            } => LineAnswer {
+                refusal: 0,
+                is_frame: true,
                 taken,
-                noise,
-                judged,
-            },
-        ) => LineAnswer {
-            taken,
-            noise,
-            judged,
-            ..LineAnswer::default()
-        },
-        Err(refusal) => refused(refusal),
-    }
-}
-
-fn quiet_numbers(answer: Result<QuietAnswer, Refusal>) -> LineAnswer
-    ensures { result ≡ flat_values (quiet_values_of answer) }
-{
-    match answer {
-        Ok(
-            QuietAnswer::Frame {
                 noise,
                 judged,
                 len,
                 began,
             },
-        ) => LineAnswer {
-            is_frame: true,
-            noise,
-            judged,
-            len,
-            began,
-            ..LineAnswer::default()
-        },
-        Ok(QuietAnswer::Empty { noise, judged }) => LineAnswer {
-            noise,
-            judged,
-            ..LineAnswer::default()
-        },
-        Err(refusal) => refused(refusal),
+            FeedAnswer::NeedsMore {
+                taken,
+                noise,
+                judged,
+            } => LineAnswer {
+                taken,
+                noise,
+                judged,
+                ..LineAnswer::default()
+            },
+        }
+    }
+}
+
+impl From<QuietAnswer> for LineAnswer {
+    ghost from_gives = { λ answer numbers. numbers ≡ flat_values (quieted_values_of answer) };
+
+    fn from(answer: QuietAnswer) -> LineAnswer {
+        match answer {
+            QuietAnswer::Frame {
+                noise,
+                judged,
+                len,
+                began,
+            } => LineAnswer {
+                is_frame: true,
+                noise,
+                judged,
+                len,
+                began,
+                ..LineAnswer::default()
+            },
+            QuietAnswer::Empty { noise, judged } => LineAnswer {
+                noise,
+                judged,
+                ..LineAnswer::default()
+            },
+        }
     }
 }
 
@@ -129,6 +124,28 @@ impl From<Reader> for LineReader {
             count: reader.count,
             follows: u8::from(reader.follows),
             judged: reader.judged,
+        }
+    }
+}
+
+impl From<Fed> for LineFed {
+    ghost from_gives = { λ fed numbers. numbers ≡ flat_fed fed };
+
+    fn from(fed: Fed) -> LineFed {
+        LineFed {
+            reader: LineReader::from(fed.reader),
+            answer: fed.answer.map_or_else(refused, LineAnswer::from),
+        }
+    }
+}
+
+impl From<Quieted> for LineFed {
+    ghost from_gives = { λ quieted numbers. numbers ≡ flat_quieted quieted };
+
+    fn from(quieted: Quieted) -> LineFed {
+        LineFed {
+            reader: LineReader::from(quieted.reader),
+            answer: quieted.answer.map_or_else(refused, LineAnswer::from),
         }
     }
 }
@@ -181,13 +198,7 @@ pub fn boundary_feed(reader: LineReader, chunk: &[u8], buf: &mut [u8]) -> LineFe
     ensures { FeedsFlat (format_in reader) reader chunk.now buf.old result buf.new }
 {
     match reader_in(reader) {
-        Some(known) => {
-            let fed = known.feed(chunk, buf);
-            LineFed {
-                reader: LineReader::from(fed.reader),
-                answer: fed_numbers(fed.answer),
-            }
-        }
+        Some(known) => LineFed::from(known.feed(chunk, buf)),
         None => unnamed(reader),
     }
 }
@@ -198,13 +209,7 @@ pub fn boundary_quiet(reader: LineReader, buf: &mut [u8]) -> LineFed
     ensures { QuietsFlat (format_in reader) reader buf.old result buf.new }
 {
     match reader_in(reader) {
-        Some(known) => {
-            let quieted = known.quiet(buf);
-            LineFed {
-                reader: LineReader::from(quieted.reader),
-                answer: quiet_numbers(quieted.answer),
-            }
-        }
+        Some(known) => LineFed::from(known.quiet(buf)),
         None => unnamed(reader),
     }
 }

@@ -4,6 +4,8 @@ ghost use Rattle.frame.specs.Refusal.{number_of as frame_number};
 ghost use Rattle.message.specs.Refusal.{number_of as message_number};
 ghost use Rattle.boundary.specs.Refusal.{unnamed_number};
 
+use settings::NotAList;
+
 // A refusal that has a number.
 pub(crate) trait Numbered {
     ghost number_of: { Self → ℕ };
@@ -28,7 +30,16 @@ impl Numbered for message::Refusal {
     }
 }
 
+impl Numbered for NotAList {
+    ghost number_of = { λ _. 17 };
+
+    fn number(self) -> u8 {
+        17
+    }
+}
+
 // Why the numbers that a call was given stand for no message.
+// Kept: what numbers stand for is found by functions and not by TryFrom, whose error would have to be public, beside the types of the C interface.
 #[derive(Clone, Copy)]
 pub(crate) enum Unnamed {
     // 255: one that stands for no framing, format, mark or kind of message.

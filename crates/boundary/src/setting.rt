@@ -3,6 +3,7 @@ ghost use Rattle.std.specs.Prelude.{◌≡◌};
 ghost use Rattle.settings.specs.Walk.{finding, finding_of};
 ghost use Rattle.boundary.specs.Setting.{flat_setting};
 
+use crate::refusal::Numbered;
 use settings::{NotAList, Setting};
 
 // What a list has at an index: the refusal's number, 0 for none, whether there is a setting, its identifier, the index in the list at which its data begin,
@@ -29,8 +30,8 @@ fn flat_setting(answer: Result<Option<Setting>, NotAList>) -> FlatSetting
             ..FlatSetting::default()
         },
         Ok(None) => FlatSetting::default(),
-        Err(NotAList) => FlatSetting {
-            refusal: 17,
+        Err(refusal) => FlatSetting {
+            refusal: refusal.number(),
             ..FlatSetting::default()
         },
     }

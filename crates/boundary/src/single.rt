@@ -18,7 +18,7 @@ pub struct FlatReading {
 
 // A write's answer: the refusal's number, 0 for none, and the length of the frame.
 #[repr(C)]
-#[derive(Clone, Copy, Default)]
+#[derive(Clone, Copy)]
 pub struct FlatWriting {
     pub refusal: u8,
     pub len: usize,
@@ -58,7 +58,7 @@ pub fn boundary_read_frame(format: u8, s: &[u8], buf: &mut [u8]) -> FlatReading
     ensures { ReadsFlat (format_of format) s.now buf.old result buf.new }
 {
     match format_of(format) {
-        Some(f) => flat_reading(frame::read_frame_as(f, s, buf)),
+        Some(format) => flat_reading(frame::read_frame_as(format, s, buf)),
         None => flat_reading(Err(Unnamed::Kind)),
     }
 }
@@ -68,7 +68,7 @@ pub fn boundary_write_frame(framing: u8, payload: &[u8], buf: &mut [u8]) -> Flat
     ensures { WritesFlat (framing_of framing) 0 payload.now buf.old result buf.new }
 {
     match framing_of(framing) {
-        Some(f) => flat_writing(frame::write_frame(f, payload, buf)),
+        Some(framing) => flat_writing(frame::write_frame(framing, payload, buf)),
         None => flat_writing(Err(Unnamed::Kind)),
     }
 }

@@ -114,6 +114,7 @@ fn transmission_in(address: Address, n: ToModuleNumbers) -> Transmission
     }
 }
 
+// The request that numbers stand for, if any.
 #[tactic(auto, unfolding(crate::specs::ToModule::request_in))]
 fn request_in(n: ToModuleNumbers) -> Option<Request>
     ensures { result ≡ request_in n }
@@ -147,10 +148,10 @@ pub fn boundary_write_request(
 ) -> FlatWriting
     ensures { WritesRequest (framing_of framing) (request_in request) «data».now buf.old result buf.new }
 {
-    let (Some(f), Some(q)) = (framing_of(framing), request_in(request)) else {
+    let (Some(framing), Some(request)) = (framing_of(framing), request_in(request)) else {
         return flat_writing(Err(Unnamed::Kind));
     };
-    flat_writing(message::write_request(f, q, data, buf))
+    flat_writing(message::write_request(framing, request, data, buf))
 }
 
 // Writes a change of outputs as a frame, as `message::write_output_change` does. A framing that stands for none, or a kind that is not 4, is refused with
@@ -162,15 +163,15 @@ pub fn boundary_write_output_change(
 ) -> FlatWriting
     ensures { WritesChange (framing_of framing) change buf.old result buf.new }
 {
-    let (Some(f), 4) = (framing_of(framing), change.kind) else {
+    let (Some(framing), 4) = (framing_of(framing), change.kind) else {
         return flat_writing(Err(Unnamed::Kind));
     };
-    let c = OutputChange {
+    let change = OutputChange {
         address: change.address,
         signals: change.signals,
         mask: change.mask,
     };
-    flat_writing(message::write_output_change(f, c, buf))
+    flat_writing(message::write_output_change(framing, change, buf))
 }
 
 // Writes a command to the module itself as a frame, as `message::write_setup` does. A framing that stands for none, or a kind that is not 6, is refused with
@@ -178,11 +179,11 @@ pub fn boundary_write_output_change(
 pub fn boundary_write_setup(framing: u8, command: ToModuleNumbers, buf: &mut [u8]) -> FlatWriting
     ensures { WritesSetup (framing_of framing) command buf.old result buf.new }
 {
-    let (Some(f), 6) = (framing_of(framing), command.kind) else {
+    let (Some(framing), 6) = (framing_of(framing), command.kind) else {
         return flat_writing(Err(Unnamed::Kind));
     };
-    let Some(c) = SetupCommand::named(command.command) else {
+    let Some(command) = SetupCommand::named(command.command) else {
         return flat_writing(Err(Unnamed::Command));
     };
-    flat_writing(message::write_setup(f, c, buf))
+    flat_writing(message::write_setup(framing, command, buf))
 }
