@@ -55,23 +55,19 @@ use Rattle.boundary.specs.declared.line.LineFed.{LineFed}
 
 -- Formats, framings and states.
 format : (m : Format) → format_of (format_number m) ≡ Some m
-unfolding format_of
 format (Binary Optional) = refl
 format (Binary Required) = refl
 format (Ascii CrLf) = refl
 format (Ascii Any) = refl
 
 framing : (f : Framing) → framing_of (format_number (default_format f)) ≡ Some f
-unfolding framing_of
 framing BinaryFraming = refl
 framing AsciiFraming = refl
 
 no_format_lem : (n : ℕ) → 3 < n → format_of n ≡ None
-unfolding format_of
 no_format_lem n l = grind (arith, nat_tests)
 
 no_framing_lem : (n : ℕ) → 1 < n → framing_of n ≡ None
-unfolding framing_of
 no_framing_lem n l = grind (arith, nat_tests)
 
 mark : (follows : Bool) → mark_in (mark_number follows) ≡ follows
@@ -86,12 +82,10 @@ mark_known true = refl
 mark_known false = refl
 
 reader_format_lem : (r : Reader) → format_in (flat_reader r) ≡ Some r.format
-unfolding format_in
 reader_format_lem r = rw (mark_known r.follows, format r.format)
 
 -- A state that crossed: its numbers are those of what they stand for.
 format_back : (n : ℕ) (m : Format) → format_of n ≡ Some m → format_number m ≡ n
-unfolding format_of
 format_back n m e = grind (arith, nat_tests)
 
 mark_back : (n : ℕ) → leb n 1 ≡ true → mark_number (mark_in n) ≡ n
@@ -102,7 +96,6 @@ known true x m e = (refl, e)
 known false x m e = cc
 
 given_back_lem : (r : LineReader) (m : Format) → format_in r ≡ Some m → flat_reader (reader_in m r) ≡ r
-unfolding format_in
 given_back_lem r m e =
     let k : (leb r.follows 1 ≡ true) × (format_of r.format ≡ Some m) = known _ _ m e in
     rw (format_back r.format m k.1, mark_back r.follows k.0)
@@ -126,14 +119,12 @@ given d None = refl
 given d (Some x) = refl
 
 options : (o : Options) → options_in (option_numbers o) ≡ o
-unfolding option_numbers options_in
 options o = rw (given 0 o.retries, given 0 o.lower_delay, given 0 o.upper_delay, given 0 o.interval)
 
 -- Messages to the module. Of an extended one the kind is by its address.
 transmission : (a : Address) (id : ℕ) (o : Options) (start : ℕ) →
     let m : Transmission = record { address = a; response_id = id; options = o } in
     request_in (transmission_numbers m start) ≡ Some (ExtendedRequest m)
-unfolding request_in transmission_in transmission_numbers
 transmission (Plain a) id o start = rw (options o)
 transmission (Extended w) id o start = rw (options o)
 
@@ -142,43 +133,36 @@ kind_lem (Plain a) = (refl, refl)
 kind_lem (Extended w) = (refl, refl)
 
 request : (m : Request) (start : ℕ) → request_in (request_numbers m start) ≡ Some m
-unfolding request_in request_numbers
 request (SimpleRequest m) start = refl
 request (ExtendedRequest m) start = transmission m.address m.response_id m.options start
 request SettingsRequest start = refl
 
 request_no_change_lem : (m : Request) (start : ℕ) → change_refusal_in (request_numbers m start) ≡ unknown_number
-unfolding request_numbers transmission_numbers
 request_no_change_lem (SimpleRequest m) start = refl
 request_no_change_lem (ExtendedRequest m) start = rw (kind_lem m.address).0
 request_no_change_lem SettingsRequest start = refl
 
 request_no_setup_lem : (m : Request) (start : ℕ) → setup_refusal_in (request_numbers m start) ≡ unknown_number
-unfolding request_numbers transmission_numbers
 request_no_setup_lem (SimpleRequest m) start = refl
 request_no_setup_lem (ExtendedRequest m) start = rw (kind_lem m.address).1
 request_no_setup_lem SettingsRequest start = refl
 
 -- Messages from the module.
 delivery : (m : Delivery) (start : ℕ) → delivery_in (delivery_numbers m start) ≡ Some m
-unfolding delivery_in delivery_numbers
 delivery (SimpleDelivery m) start = refl
 delivery (ExtendedDelivery m) start = refl
 delivery SettingsDelivery start = refl
 
 delivery_no_notice_lem : (m : Delivery) (start : ℕ) → notice_in (delivery_numbers m start) ≡ Err Kind
-unfolding notice_in delivery_numbers
 delivery_no_notice_lem (SimpleDelivery m) start = refl
 delivery_no_notice_lem (ExtendedDelivery m) start = refl
 delivery_no_notice_lem SettingsDelivery start = refl
 
 response : (id : ℕ) (o : Outcome) → response_in id (outcome_byte o) ≡ Ok (IsResponse (record { id = id; outcome = o }))
-unfolding response_in
 response id Failure = refl
 response id Success = refl
 
 notice : (m : Notice) → notice_in (notice_numbers m) ≡ Ok m
-unfolding notice_in notice_numbers response_numbers silent_mode_in report_in report_numbers
 notice (IsResponse m) = response m.id m.outcome
 notice (Standard m) = refl
 notice (Remote m) = refl
@@ -189,7 +173,6 @@ notice (Setup (SilentMode true)) = refl
 notice (Setup (SilentMode false)) = refl
 
 notice_no_delivery_lem : (m : Notice) → delivery_in (notice_numbers m) ≡ None
-unfolding delivery_in notice_numbers response_numbers report_numbers
 notice_no_delivery_lem (IsResponse m) = refl
 notice_no_delivery_lem (Standard m) = refl
 notice_no_delivery_lem (Remote m) = refl
@@ -199,7 +182,6 @@ notice_no_delivery_lem (Setup SettingsFailed) = refl
 notice_no_delivery_lem (Setup (SilentMode released)) = refl
 
 pub crosses_back : CrossesBack
-unfolding request_in
 crosses_back =
     record {
       format = format;

@@ -10,11 +10,11 @@ use Rattle.frame.specs.declared.framing.Format.{Format}
 use Rattle.frame.specs.declared.framing.Format.TheVariants.{Binary, Ascii}
 
 -- The framing that a number stands for.
-unfoldable pub framing_of : ℕ → Option Framing
+abbrev pub framing_of : ℕ → Option Framing
 framing_of n = cond (eqb n 0) (Some BinaryFraming) (cond (eqb n 1) (Some AsciiFraming) None)
 
 -- The format that a number stands for.
-unfoldable pub format_of : ℕ → Option Format
+abbrev pub format_of : ℕ → Option Format
 format_of n =
     cond (eqb n 0) (Some (Binary Optional))
     (cond (eqb n 1) (Some (Ascii CrLf))

@@ -124,12 +124,12 @@ list_numbers start =
       start = start;
     }
 
-unfoldable pub delivery_numbers : Delivery → ℕ → FromModuleNumbers
+abbrev pub delivery_numbers : Delivery → ℕ → FromModuleNumbers
 delivery_numbers (SimpleDelivery m) start = simple_numbers m start
 delivery_numbers (ExtendedDelivery m) start = reception_numbers m start
 delivery_numbers Settings start = list_numbers start
 
-unfoldable pub response_numbers : Response → FromModuleNumbers
+abbrev pub response_numbers : Response → FromModuleNumbers
 response_numbers m =
     record {
       kind = 3;
@@ -186,26 +186,26 @@ own_numbers command result information =
       start = 0;
     }
 
-unfoldable pub report_numbers : SetupReport → FromModuleNumbers
+abbrev pub report_numbers : SetupReport → FromModuleNumbers
 report_numbers Acknowledged = own_numbers 0xF0 0 no_information
 report_numbers (IsInformation m) = own_numbers 0xF1 0 (information_numbers m)
 report_numbers SettingsFailed = own_numbers 0xF3 0 no_information
 report_numbers (SilentMode released) = own_numbers 0xF8 (state_byte released) no_information
 
-unfoldable pub notice_numbers : Notice → FromModuleNumbers
+abbrev pub notice_numbers : Notice → FromModuleNumbers
 notice_numbers (IsResponse m) = response_numbers m
 notice_numbers (Standard m) = standard_numbers m
 notice_numbers (Remote m) = remote_numbers m
 notice_numbers (Setup m) = report_numbers m
 
 -- The numbers of what a payload means.
-unfoldable pub from_module_numbers : Meaning Delivery Notice → FromModuleNumbers
+abbrev pub from_module_numbers : Meaning Delivery Notice → FromModuleNumbers
 from_module_numbers (refused n) = refused_from n
 from_module_numbers (carrying m start) = delivery_numbers m start
 from_module_numbers (bare m) = notice_numbers m
 
 -- The message that numbers stand for.
-unfoldable pub delivery_in : FromModuleNumbers → Option Delivery
+abbrev pub delivery_in : FromModuleNumbers → Option Delivery
 delivery_in n =
     cond (eqb n.kind 1) (Some (SimpleDelivery (record { address = n.address; command = n.command })))
     (cond (eqb n.kind 2)
@@ -220,23 +220,23 @@ delivery_in n =
     })))
     (cond (eqb n.kind 6) (Some Settings) None))
 
-unfoldable pub response_in : ℕ → ℕ → Result Notice Unnamed
+abbrev pub response_in : ℕ → ℕ → Result Notice Unnamed
 response_in id result =
     cond (eqb result 0) (Ok (IsResponse (record { id = id; outcome = Failure })))
     (cond (eqb result 1) (Ok (IsResponse (record { id = id; outcome = Success }))) (Err Flag))
 
-unfoldable pub silent_mode_in : ℕ → Result Notice Unnamed
+abbrev pub silent_mode_in : ℕ → Result Notice Unnamed
 silent_mode_in result =
     cond (eqb result 0) (Ok (Setup (SilentMode false)))
     (cond (eqb result 1) (Ok (Setup (SilentMode true))) (Err Flag))
 
-unfoldable pub report_in : ℕ → ℕ → InformationNumbers → Result Notice Unnamed
+abbrev pub report_in : ℕ → ℕ → InformationNumbers → Result Notice Unnamed
 report_in command result information =
     cond (eqb command 0xF0) (Ok (Setup Acknowledged))
     (cond (eqb command 0xF1) (Ok (Setup (IsInformation (information_in information))))
     (cond (eqb command 0xF3) (Ok (Setup SettingsFailed)) (cond (eqb command 0xF8) (silent_mode_in result) (Err Command))))
 
-unfoldable pub notice_in : FromModuleNumbers → Result Notice Unnamed
+abbrev pub notice_in : FromModuleNumbers → Result Notice Unnamed
 notice_in n =
     cond (eqb n.kind 3) (response_in n.response_id n.result)
     (cond (eqb n.kind 4) (Ok (Standard (standard_in n.address n.lqi n.status)))

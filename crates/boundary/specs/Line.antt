@@ -38,7 +38,7 @@ flat_reader r =
     record { format = format_number r.format; held = r.held; count = r.count; follows = mark_number r.follows; judged = r.judged }
 
 -- The format of a state that crossed: the one that its number stands for, and none where its mark is neither 0 nor 1.
-unfoldable pub format_in : LineReader → Option Format
+abbrev pub format_in : LineReader → Option Format
 format_in r = cond (leb r.follows 1) (format_of r.format) None
 
 -- The state that crossed, whose format is m.

@@ -24,7 +24,7 @@ no_numbers =
     }
 
 -- The numbers of options.
-unfoldable pub option_numbers : Options → OptionNumbers
+abbrev pub option_numbers : Options → OptionNumbers
 option_numbers o =
     record {
       mac_ack = o.mac_ack;
@@ -42,7 +42,7 @@ option_numbers o =
     }
 
 -- The options that numbers stand for.
-unfoldable pub options_in : OptionNumbers → Options
+abbrev pub options_in : OptionNumbers → Options
 options_in n =
     record {
       mac_ack = n.mac_ack;

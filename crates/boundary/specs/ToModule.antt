@@ -48,7 +48,7 @@ refused_to n =
     }
 
 -- The numbers of each message.
-unfoldable pub transmission_numbers : Transmission → ℕ → ToModuleNumbers
+abbrev pub transmission_numbers : Transmission → ℕ → ToModuleNumbers
 transmission_numbers m start =
     record {
       kind = address_kind m.address;
@@ -63,7 +63,7 @@ transmission_numbers m start =
       start = start;
     }
 
-unfoldable pub request_numbers : Request → ℕ → ToModuleNumbers
+abbrev pub request_numbers : Request → ℕ → ToModuleNumbers
 request_numbers (SimpleRequest m) start =
     record {
       kind = 1;
@@ -123,17 +123,17 @@ setup_numbers c =
     }
 
 -- The numbers of what a payload means.
-unfoldable pub to_module_numbers : Meaning Request Order → ToModuleNumbers
+abbrev pub to_module_numbers : Meaning Request Order → ToModuleNumbers
 to_module_numbers (refused n) = refused_to n
 to_module_numbers (carrying m start) = request_numbers m start
 to_module_numbers (bare (change m)) = change_numbers m
 to_module_numbers (bare (setup c)) = setup_numbers c
 
 -- The message that numbers stand for.
-unfoldable pub transmission_in : Address → ToModuleNumbers → Transmission
+abbrev pub transmission_in : Address → ToModuleNumbers → Transmission
 transmission_in address n = record { address = address; response_id = n.response_id; options = options_in n.options }
 
-unfoldable pub request_in : ToModuleNumbers → Option Request
+abbrev pub request_in : ToModuleNumbers → Option Request
 request_in n =
     cond (eqb n.kind 1) (Some (SimpleRequest (record { address = n.address; command = n.command })))
     (cond (eqb n.kind 2) (Some (ExtendedRequest (transmission_in (Plain n.address) n)))

@@ -6,7 +6,6 @@ ghost use Rattle.boundary.specs.Framing.{framing_of, format_of, format_number};
 use frame::{Ending, Footer, Format, Framing};
 
 // The framing that a number stands for, if any.
-#[tactic(auto, unfolding(crate::specs::Framing::framing_of))]
 pub(crate) fn framing_of(number: u8) -> Option<Framing>
     ensures { result ≡ framing_of number }
 {
@@ -18,7 +17,6 @@ pub(crate) fn framing_of(number: u8) -> Option<Framing>
 }
 
 // The format that a number stands for, if any.
-#[tactic(auto, unfolding(crate::specs::Framing::format_of))]
 pub(crate) fn format_of(number: u8) -> Option<Format>
     ensures { result ≡ format_of number }
 {

@@ -81,7 +81,6 @@ pub struct FromModuleNumbers {
     pub start: usize,
 }
 
-#[tactic(auto, unfolding(crate::specs::FromModule::delivery_numbers))]
 fn delivery_numbers(delivery: Delivery, start: usize) -> FromModuleNumbers
     ensures { result ≡ delivery_numbers delivery start }
 {
@@ -111,7 +110,6 @@ fn delivery_numbers(delivery: Delivery, start: usize) -> FromModuleNumbers
     }
 }
 
-#[tactic(auto, unfolding(crate::specs::FromModule::report_numbers))]
 fn report_numbers(report: SetupReport) -> FromModuleNumbers
     ensures { result ≡ report_numbers report }
 {
@@ -141,7 +139,6 @@ fn report_numbers(report: SetupReport) -> FromModuleNumbers
     }
 }
 
-#[tactic(auto, unfolding(crate::specs::FromModule::notice_numbers, crate::specs::FromModule::response_numbers))]
 fn notice_numbers(notice: Notice) -> FromModuleNumbers
     ensures { result ≡ notice_numbers notice }
 {
@@ -173,7 +170,6 @@ fn notice_numbers(notice: Notice) -> FromModuleNumbers
     }
 }
 
-#[tactic(auto, unfolding(crate::specs::FromModule::from_module_numbers))]
 fn from_module_numbers(answer: Result<FromModule, Refusal>) -> FromModuleNumbers
     ensures { result ≡ from_module_numbers (from_module_of answer) }
 {
@@ -188,7 +184,6 @@ fn from_module_numbers(answer: Result<FromModule, Refusal>) -> FromModuleNumbers
 }
 
 // The message with data that numbers stand for, if any.
-#[tactic(auto, unfolding(crate::specs::FromModule::delivery_in))]
 fn delivery_in(n: FromModuleNumbers) -> Option<Delivery>
     ensures { result ≡ delivery_in n }
 {
@@ -209,7 +204,6 @@ fn delivery_in(n: FromModuleNumbers) -> Option<Delivery>
     }
 }
 
-#[tactic(auto, unfolding(crate::specs::FromModule::response_in))]
 fn response_in(n: FromModuleNumbers) -> Result<Notice, Unnamed>
     ensures { result ≡ response_in n.response_id n.result }
 {
@@ -224,7 +218,6 @@ fn response_in(n: FromModuleNumbers) -> Result<Notice, Unnamed>
     }))
 }
 
-#[tactic(auto, unfolding(crate::specs::FromModule::report_in, crate::specs::FromModule::silent_mode_in))]
 fn report_in(n: FromModuleNumbers) -> Result<Notice, Unnamed>
     ensures { result ≡ report_in n.command n.result n.information }
 {
@@ -241,7 +234,6 @@ fn report_in(n: FromModuleNumbers) -> Result<Notice, Unnamed>
 }
 
 // The message without data that numbers stand for, or why they stand for none.
-#[tactic(auto, unfolding(crate::specs::FromModule::notice_in))]
 fn notice_in(n: FromModuleNumbers) -> Result<Notice, Unnamed>
     ensures { result ≡ notice_in n }
 {

@@ -151,7 +151,6 @@ impl From<Quieted> for LineFed {
 }
 
 // The state that numbers stand for, if its format is one and its mark is 0 or 1.
-#[tactic(auto, unfolding(crate::specs::Line::format_in))]
 fn reader_in(n: LineReader) -> Option<Reader>
     ensures { result ≡ option_map (λ m. reader_in m n) (format_in n) }
 {

@@ -25,7 +25,6 @@ pub struct OptionNumbers {
 impl From<Options> for OptionNumbers {
     ghost from_gives = { λ options numbers. numbers ≡ option_numbers options };
 
-    #[tactic(auto, unfolding(crate::specs::Options::option_numbers))]
     fn from(options: Options) -> OptionNumbers {
         OptionNumbers {
             mac_ack: options.mac_ack,
@@ -48,7 +47,6 @@ impl From<Options> for OptionNumbers {
 impl From<OptionNumbers> for Options {
     ghost from_gives = { λ numbers options. options ≡ options_in numbers };
 
-    #[tactic(auto, unfolding(crate::specs::Options::options_in))]
     fn from(n: OptionNumbers) -> Options {
         Options {
             mac_ack: n.mac_ack,

@@ -33,7 +33,6 @@ pub struct ToModuleNumbers {
     pub start: usize,
 }
 
-#[tactic(auto, unfolding(crate::specs::ToModule::transmission_numbers))]
 fn transmission_numbers(m: Transmission, start: usize) -> ToModuleNumbers
     ensures { result ≡ transmission_numbers m start }
 {
@@ -57,7 +56,6 @@ fn transmission_numbers(m: Transmission, start: usize) -> ToModuleNumbers
     }
 }
 
-#[tactic(auto, unfolding(crate::specs::ToModule::request_numbers))]
 fn request_numbers(request: Request, start: usize) -> ToModuleNumbers
     ensures { result ≡ request_numbers request start }
 {
@@ -78,7 +76,6 @@ fn request_numbers(request: Request, start: usize) -> ToModuleNumbers
     }
 }
 
-#[tactic(auto, unfolding(crate::specs::ToModule::to_module_numbers))]
 fn to_module_numbers(answer: Result<ToModule, Refusal>) -> ToModuleNumbers
     ensures { result ≡ to_module_numbers (to_module_of answer) }
 {
@@ -103,7 +100,6 @@ fn to_module_numbers(answer: Result<ToModule, Refusal>) -> ToModuleNumbers
     }
 }
 
-#[tactic(auto, unfolding(crate::specs::ToModule::transmission_in))]
 fn transmission_in(address: Address, n: ToModuleNumbers) -> Transmission
     ensures { result ≡ transmission_in address n }
 {
@@ -115,7 +111,6 @@ fn transmission_in(address: Address, n: ToModuleNumbers) -> Transmission
 }
 
 // The request that numbers stand for, if any.
-#[tactic(auto, unfolding(crate::specs::ToModule::request_in))]
 fn request_in(n: ToModuleNumbers) -> Option<Request>
     ensures { result ≡ request_in n }
 {
