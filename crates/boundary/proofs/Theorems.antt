@@ -45,10 +45,10 @@ use Rattle.boundary.specs.Framing.{framing_of, format_of, format_number}
 use Rattle.boundary.specs.Line.{flat_values, mark_number, mark_in, flat_reader, format_in, reader_in, FeedsFlat, QuietsFlat}
 use Rattle.boundary.specs.Claims.{CrossesBack, ZeroWithoutFrame, NoneIsZero}
 use Rattle.boundary.specs.Options.{option_numbers, options_in}
-use Rattle.boundary.specs.ToModule.{transmission_numbers, request_numbers, setup_numbers, transmission_in, request_in}
+use Rattle.boundary.specs.ToModule.{transmission_numbers, request_numbers, setup_numbers, request_in}
 use Rattle.boundary.specs.ToModule.{address_kind, change_refusal_in, setup_refusal_in}
-use Rattle.boundary.specs.FromModule.{delivery_numbers, response_numbers, report_numbers, notice_numbers}
-use Rattle.boundary.specs.FromModule.{delivery_in, response_in, silent_mode_in, report_in, notice_in}
+use Rattle.boundary.specs.FromModule.{delivery_numbers, notice_numbers}
+use Rattle.boundary.specs.FromModule.{delivery_in, response_in, notice_in}
 use Rattle.boundary.specs.declared.refusal.Unnamed.TheVariants.{Kind}
 use Rattle.boundary.specs.declared.line.LineReader.{LineReader}
 use Rattle.boundary.specs.declared.line.LineFed.{LineFed}

@@ -275,11 +275,9 @@ pub fn boundary_write_delivery(
 pub fn boundary_write_notice(framing: u8, notice: FromModuleNumbers, buf: &mut [u8]) -> FlatWriting
     ensures { WritesNotice (framing_of framing) (notice_in notice) buf.old result buf.new }
 {
-    let Some(framing) = framing_of(framing) else {
-        return flat_writing(Err(Unnamed::Kind));
-    };
-    match notice_in(notice) {
-        Ok(notice) => flat_writing(message::write_notice(framing, notice, buf)),
-        Err(unnamed) => flat_writing(Err(unnamed)),
+    match (framing_of(framing), notice_in(notice)) {
+        (Some(framing), Ok(notice)) => flat_writing(message::write_notice(framing, notice, buf)),
+        (Some(_), Err(unnamed)) => flat_writing(Err(unnamed)),
+        (None, _) => flat_writing(Err(Unnamed::Kind)),
     }
 }
