@@ -54,12 +54,12 @@ information_in n =
       network = n.network;
     }
 
--- A refusal: its number with zeros beside it.
-abbrev pub refused_from : ℕ → FromModuleNumbers
-refused_from n =
+-- No message: zeros alone.
+abbrev pub no_message : FromModuleNumbers
+no_message =
     record {
       kind = 0;
-      refusal = n;
+      refusal = 0;
       address = 0;
       command = 0;
       response_id = 0;
@@ -72,57 +72,28 @@ refused_from n =
       start = 0;
     }
 
--- The numbers of each message.
+-- A refusal: its number with zeros beside it.
+abbrev pub refused_from : ℕ → FromModuleNumbers
+refused_from n = record no_message { refusal = n }
+
+-- The numbers of each message, with zeros beside them.
 abbrev pub simple_numbers : Simple → ℕ → FromModuleNumbers
-simple_numbers m start =
-    record {
-      kind = 1;
-      refusal = 0;
-      address = m.address;
-      command = m.command;
-      response_id = 0;
-      result = 0;
-      lqi = 0;
-      source = 0;
-      destination = 0;
-      status = no_status;
-      information = no_information;
-      start = start;
-    }
+simple_numbers m start = record no_message { kind = 1; address = m.address; command = m.command; start = start }
 
 abbrev pub reception_numbers : Reception → ℕ → FromModuleNumbers
 reception_numbers m start =
-    record {
+    record no_message {
       kind = 2;
-      refusal = 0;
       address = m.sender;
-      command = 0;
       response_id = m.response_id;
-      result = 0;
       lqi = m.lqi;
       source = m.source;
       destination = m.destination;
-      status = no_status;
-      information = no_information;
       start = start;
     }
 
 abbrev pub list_numbers : ℕ → FromModuleNumbers
-list_numbers start =
-    record {
-      kind = 6;
-      refusal = 0;
-      address = 0;
-      command = 0;
-      response_id = 0;
-      result = 0;
-      lqi = 0;
-      source = 0;
-      destination = 0;
-      status = no_status;
-      information = no_information;
-      start = start;
-    }
+list_numbers start = record no_message { kind = 6; start = start }
 
 abbrev pub delivery_numbers : Delivery → ℕ → FromModuleNumbers
 delivery_numbers (SimpleDelivery m) start = simple_numbers m start
@@ -130,38 +101,10 @@ delivery_numbers (ExtendedDelivery m) start = reception_numbers m start
 delivery_numbers Settings start = list_numbers start
 
 abbrev pub response_numbers : Response → FromModuleNumbers
-response_numbers m =
-    record {
-      kind = 3;
-      refusal = 0;
-      address = 0;
-      command = 0;
-      response_id = m.id;
-      result = outcome_byte m.outcome;
-      lqi = 0;
-      source = 0;
-      destination = 0;
-      status = no_status;
-      information = no_information;
-      start = 0;
-    }
+response_numbers m = record no_message { kind = 3; response_id = m.id; result = outcome_byte m.outcome }
 
 abbrev pub status_numbers : ℕ → ℕ → ℕ → StatusNumbers → FromModuleNumbers
-status_numbers kind sender lqi status =
-    record {
-      kind = kind;
-      refusal = 0;
-      address = sender;
-      command = 0;
-      response_id = 0;
-      result = 0;
-      lqi = lqi;
-      source = 0;
-      destination = 0;
-      status = status;
-      information = no_information;
-      start = 0;
-    }
+status_numbers kind sender lqi status = record no_message { kind = kind; address = sender; lqi = lqi; status = status }
 
 abbrev pub standard_numbers : StandardStatus → FromModuleNumbers
 standard_numbers m = status_numbers 4 m.sender m.lqi (standard_part m)
@@ -170,21 +113,7 @@ abbrev pub remote_numbers : RemoteStatus → FromModuleNumbers
 remote_numbers m = status_numbers 5 m.sender m.lqi (remote_part m)
 
 abbrev pub own_numbers : ℕ → ℕ → InformationNumbers → FromModuleNumbers
-own_numbers command result information =
-    record {
-      kind = 7;
-      refusal = 0;
-      address = 0;
-      command = command;
-      response_id = 0;
-      result = result;
-      lqi = 0;
-      source = 0;
-      destination = 0;
-      status = no_status;
-      information = information;
-      start = 0;
-    }
+own_numbers command result information = record no_message { kind = 7; command = command; result = result; information = information }
 
 abbrev pub report_numbers : SetupReport → FromModuleNumbers
 report_numbers Acknowledged = own_numbers 0xF0 0 no_information

@@ -31,12 +31,12 @@ abbrev pub address_kind : Address → ℕ
 address_kind (Plain a) = 2
 address_kind (Extended w) = 3
 
--- A refusal: its number with zeros beside it.
-abbrev pub refused_to : ℕ → ToModuleNumbers
-refused_to n =
+-- No message: zeros alone.
+abbrev pub no_message : ToModuleNumbers
+no_message =
     record {
       kind = 0;
-      refusal = n;
+      refusal = 0;
       address = 0;
       command = 0;
       response_id = 0;
@@ -47,80 +47,32 @@ refused_to n =
       start = 0;
     }
 
--- The numbers of each message.
+-- A refusal: its number with zeros beside it.
+abbrev pub refused_to : ℕ → ToModuleNumbers
+refused_to n = record no_message { refusal = n }
+
+-- The numbers of each message, with zeros beside them.
 abbrev pub transmission_numbers : Transmission → ℕ → ToModuleNumbers
 transmission_numbers m start =
-    record {
+    record no_message {
       kind = address_kind m.address;
-      refusal = 0;
       address = plain_of m.address;
-      command = 0;
       response_id = m.response_id;
       extended = extended_of m.address;
       options = option_numbers m.options;
-      signals = 0;
-      mask = 0;
       start = start;
     }
 
 abbrev pub request_numbers : Request → ℕ → ToModuleNumbers
-request_numbers (SimpleRequest m) start =
-    record {
-      kind = 1;
-      refusal = 0;
-      address = m.address;
-      command = m.command;
-      response_id = 0;
-      extended = 0;
-      options = no_numbers;
-      signals = 0;
-      mask = 0;
-      start = start;
-    }
+request_numbers (SimpleRequest m) start = record no_message { kind = 1; address = m.address; command = m.command; start = start }
 request_numbers (ExtendedRequest m) start = transmission_numbers m start
-request_numbers Settings start =
-    record {
-      kind = 5;
-      refusal = 0;
-      address = 0;
-      command = 0;
-      response_id = 0;
-      extended = 0;
-      options = no_numbers;
-      signals = 0;
-      mask = 0;
-      start = start;
-    }
+request_numbers Settings start = record no_message { kind = 5; start = start }
 
 abbrev pub change_numbers : OutputChange → ToModuleNumbers
-change_numbers m =
-    record {
-      kind = 4;
-      refusal = 0;
-      address = m.address;
-      command = 0;
-      response_id = 0;
-      extended = 0;
-      options = no_numbers;
-      signals = m.signals;
-      mask = m.mask;
-      start = 0;
-    }
+change_numbers m = record no_message { kind = 4; address = m.address; signals = m.signals; mask = m.mask }
 
 abbrev pub setup_numbers : SetupCommand → ToModuleNumbers
-setup_numbers c =
-    record {
-      kind = 6;
-      refusal = 0;
-      address = 0;
-      command = command_number c;
-      response_id = 0;
-      extended = 0;
-      options = no_numbers;
-      signals = 0;
-      mask = 0;
-      start = 0;
-    }
+setup_numbers c = record no_message { kind = 6; command = command_number c }
 
 -- The numbers of what a payload means.
 abbrev pub to_module_numbers : Meaning Request Order → ToModuleNumbers
