@@ -9,6 +9,7 @@ use lib.Dec.{eqb, leb}
 use Rattle.std.proofs.lemmas.Bool.Decides.{nat_tests}
 use Rattle.std.proofs.Common.{Option, Some, None, Result, Ok, Err, is_some, unwrap_or}
 use Rattle.std.specs.Bool.{then_some}
+use Rattle.std.specs.Int.{from_bool}
 use Rattle.frame.specs.Framing.{format_of as default_format}
 use Rattle.frame.specs.declared.framing.Framing.{Framing}
 use Rattle.frame.specs.declared.framing.Framing.TheVariants.{Binary as BinaryFraming, Ascii as AsciiFraming}
@@ -42,7 +43,7 @@ use Rattle.message.specs.declared.from_module.Notice.{Notice}
 use Rattle.message.specs.declared.from_module.Notice.TheVariants.{Response as IsResponse, Standard, Remote, Setup}
 use Rattle.boundary.specs.Refusal.{unknown_number}
 use Rattle.boundary.specs.Framing.{framing_of, format_of, format_number}
-use Rattle.boundary.specs.Line.{flat_values, mark_number, mark_in, flat_reader, format_in, reader_in, FeedsFlat, QuietsFlat}
+use Rattle.boundary.specs.Line.{flat_values, mark_in, flat_reader, format_in, reader_in, FeedsFlat, QuietsFlat}
 use Rattle.boundary.specs.Claims.{CrossesBack, ZeroWithoutFrame, NoneIsZero}
 use Rattle.boundary.specs.Options.{option_numbers, options_in}
 use Rattle.boundary.specs.ToModule.{transmission_numbers, request_numbers, setup_numbers, request_in}
@@ -70,14 +71,14 @@ no_format_lem n l = grind (arith, nat_tests)
 no_framing_lem : (n : ℕ) → 1 < n → framing_of n ≡ None
 no_framing_lem n l = grind (arith, nat_tests)
 
-mark : (follows : Bool) → mark_in (mark_number follows) ≡ follows
+mark : (follows : Bool) → mark_in (from_bool follows) ≡ follows
 mark true = refl
 mark false = refl
 
 reader : (r : Reader) → reader_in r.format (flat_reader r) ≡ r
 reader r = rw (mark r.follows)
 
-mark_known : (follows : Bool) → leb (mark_number follows) 1 ≡ true
+mark_known : (follows : Bool) → leb (from_bool follows) 1 ≡ true
 mark_known true = refl
 mark_known false = refl
 
@@ -88,7 +89,7 @@ reader_format_lem r = rw (mark_known r.follows, format r.format)
 format_back : (n : ℕ) (m : Format) → format_of n ≡ Some m → format_number m ≡ n
 format_back n m e = grind (arith, nat_tests)
 
-mark_back : (n : ℕ) → leb n 1 ≡ true → mark_number (mark_in n) ≡ n
+mark_back : (n : ℕ) → leb n 1 ≡ true → from_bool (mark_in n) ≡ n
 mark_back n e = grind (arith, nat_tests)
 
 known : (t : Bool) (x : Option Format) (m : Format) → cond t x None ≡ Some m → (t ≡ true) × (x ≡ Some m)

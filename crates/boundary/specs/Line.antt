@@ -1,5 +1,6 @@
 -- The line reader across the boundary: numbers, state and buffer are those that the reader crate promises.
-use Rattle.std.specs.Prelude.{ℕ, ◌≡◌, List, Bool, true, false, cond, eqb, leb, replicate, Option, Some, None}
+use Rattle.std.specs.Prelude.{ℕ, ◌≡◌, List, Bool, cond, eqb, leb, replicate, Option, Some, None}
+use Rattle.std.specs.Int.{from_bool}
 use Rattle.reader.specs.Reader.{Values, refusal_values, feed_values_of, quiet_values_of, Feeds, Quiets}
 use Rattle.frame.specs.declared.framing.Format.{Format}
 use Rattle.reader.specs.declared.reader.Reader.{Reader}
@@ -24,22 +25,18 @@ flat_values v =
       began = v.began;
     }
 
--- The mark as it crosses: 1 for yes, 0 for no. Any other number is no mark.
-abbrev pub mark_number : Bool → ℕ
-mark_number false = 0
-mark_number true = 1
-
-abbrev pub mark_in : ℕ → Bool
-mark_in n = eqb n 1
-
--- A state as it crosses.
+-- A state as it crosses, its mark as 1 for yes and 0 for no. Any other number is no mark.
 abbrev pub flat_reader : Reader → LineReader
 flat_reader r =
-    record { format = format_number r.format; held = r.held; count = r.count; follows = mark_number r.follows; judged = r.judged }
+    record { format = format_number r.format; held = r.held; count = r.count; follows = from_bool r.follows; judged = r.judged }
 
 -- The format of a state that crossed: the one that its number stands for, and none where its mark is neither 0 nor 1.
 abbrev pub format_in : LineReader → Option Format
 format_in r = cond (leb r.follows 1) (format_of r.format) None
+
+-- The mark that a number stands for.
+abbrev pub mark_in : ℕ → Bool
+mark_in n = eqb n 1
 
 -- The state that crossed, whose format is m.
 abbrev pub reader_in : Format → LineReader → Reader
