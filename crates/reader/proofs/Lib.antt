@@ -32,6 +32,8 @@ pub mod MarkExamples
 pub mod Scanning
 pub mod Skipping
 pub mod Blocks
+pub mod Passing
+pub mod Joining
 pub mod Counting
 pub mod ScanCalls
 pub mod JudgedCalls

@@ -12,32 +12,30 @@ use Rattle.reader.proofs.scan.pass_over.Goals as goal
 
 pub returns-then-s-from : goal.returns-then-s-from
 returns-then-s-from c =
+    λ ended.
     let h : Skips (other (start_of c.args.format)) c.args.s.now (c.args.from + 1) c.args.stop c.skip-place.result =
     rw c.requires.start_value at (c.skip-place.ensures.passed (other c.args.start) (λ b r l h. search rules)) in
     let none : get_or c.args.s.now c.args.from 0 ≡ start_of c.args.format → ⊥ = λ e. c.if-s-from.true (e ∙ sym c.requires.start_value) in
     record {
       onward = omega (arith, h.onward);
       inside = h.inside;
-      there = omega (arith, h.inside, c.requires.scannable.inside);
-      few = omega (arith, h.inside, c.requires.scannable.inside);
-      scans = λ ended far. scan_skips ended c.args.format c.args.s.now c.args.stop c.requires.scannable.inside c.args.from far c.skip-place.result c.requires.from_lt_stop none h;
-      counts = λ ended. count_skips ended c.args.format c.args.s.now c.args.stop c.requires.scannable.inside c.args.from c.skip-place.result c.requires.from_lt_stop none h;
+      scans = λ far. scan_skips ended c.args.format c.args.s.now c.args.stop c.requires.stop_in_bounds c.args.from far c.skip-place.result c.requires.from_lt_stop none h;
+      counts = count_skips ended c.args.format c.args.s.now c.args.stop c.requires.stop_in_bounds c.args.from c.skip-place.result c.requires.from_lt_stop none h;
     }
 
 pub returns : goal.returns
 returns c =
-    let starts : Starts c.args.format c.args.s.now c.args.stop c.args.from c.max-place.result = let run : Skips (same (start_of c.args.format)) c.args.s.now (c.args.from + 1) c.args.stop c.skip.result =
+    λ ended.
+    let run : Skips (same (start_of c.args.format)) c.args.s.now (c.args.from + 1) c.args.stop c.skip.result =
     rw c.requires.start_value at (c.skip.ensures.passed (same c.args.start) (λ b r l h. search rules)) in
     let doubled = c.requires.may_start.doubled refl c.if-s-from.false in
+    let h : Starts c.args.format c.args.s.now c.args.stop c.args.from c.max-place.result =
     subst (Starts c.args.format c.args.s.now c.args.stop c.args.from) (sym c.max-place.ensures)
-    (starts_run c.args.format c.args.s.now c.args.stop c.args.from _ c.requires.scannable.inside c.requires.from_lt_stop (c.if-s-from.false ∙ c.requires.start_value)
+    (starts_run c.args.format c.args.s.now c.args.stop c.args.from _ c.requires.stop_in_bounds c.requires.from_lt_stop (c.if-s-from.false ∙ c.requires.start_value)
     (doubled.0, doubled.1 ∙ c.requires.start_value) run) in
-    let h = starts in
     record {
       onward = h.onward;
       inside = h.inside;
-      there = omega (arith, h.there);
-      few = omega (arith, h.there);
-      scans = λ ended far. scan_starts ended c.args.format c.args.s.now c.args.stop c.max-place.result c.args.from far h;
-      counts = λ ended. count_starts ended c.args.format c.args.s.now c.args.stop c.max-place.result c.args.from h;
+      scans = λ far. scan_starts ended c.args.format c.args.s.now c.args.stop c.max-place.result c.args.from far h;
+      counts = count_starts ended c.args.format c.args.s.now c.args.stop c.max-place.result c.args.from h;
     }

@@ -1,4 +1,4 @@
--- `reader::answer::took_first` meets its contract: the values of a call that took more differ in the bytes taken alone.
+-- `reader::answer::FeedAnswer::took_first` meets its contract: the values of a call that took more differ in the bytes taken alone.
 -- Assumes nothing.
 use Prim.Native.Nat.{ℕ, ◌+◌}
 use native.Mathlib.Omega.{arith}
@@ -7,7 +7,7 @@ use mathlib.Core.List.{List, [], ◌∷◌}
 use Rattle.reader.specs.Reader.{Called, took_first, Values, called_values, fed_values_of}
 use Rattle.reader.specs.Answer.{values_at}
 use Rattle.reader.specs.declared.answer.FeedAnswer.{FeedAnswer}
-use Rattle.reader.proofs.answer.took_first.Goals as goal
+use Rattle.reader.proofs.answer.FeedAnswer.took_first.Goals as goal
 
 -- Values with n bytes more taken.
 abbrev more : ℕ → Values → Values

@@ -1,4 +1,4 @@
--- `reader::answer::judged_held` meets its contract: a call whose values are a frame's handed one out, and one whose values are no frame's did not.
+-- `reader::answer::FeedAnswer::judged_held` meets its contract: a call whose values are a frame's handed one out, and one whose values are no frame's did not.
 -- Assumes nothing.
 use Prim.Native.Nat.{ℕ}
 use mathlib.Core.Bool.{true, false, false≢true}
@@ -8,7 +8,7 @@ use lib.ListN.{length}
 use Rattle.reader.specs.Reader.{Called, judged_held, Values, called_values, fed_values_of}
 use Rattle.reader.specs.declared.answer.FeedAnswer.{FeedAnswer}
 use Rattle.reader.proofs.Promises.{no_frames}
-use Rattle.reader.proofs.answer.judged_held.Goals as goal
+use Rattle.reader.proofs.answer.FeedAnswer.judged_held.Goals as goal
 
 -- Behind a frame none of the held bytes was judged.
 behind-frame : (c : Called) (total : ℕ) (ps : List (List ℕ)) → (called_values c total ps).is_frame ≡ true → 0 ≡ judged_held ps c.held

@@ -1,4 +1,4 @@
--- `reader::reader::hold` meets its contract: the bytes were copied to the front of the array.
+-- `reader::reader::Reader::hold` meets its contract: the bytes were copied to the front of the array.
 -- Assumes nothing.
 use mathlib.Core.Path.{refl, ap, ◌∙◌}
 use lib.ListN.{length, take, replicate}
@@ -7,7 +7,7 @@ use mathlib.Core.List.{List}
 use Rattle.reader.specs.Reader.{holding}
 use Rattle.frame.proofs.Copying.{copied}
 use Rattle.frame.proofs.Lists.{front_of_paste}
-use Rattle.reader.proofs.reader.hold.Goals as goal
+use Rattle.reader.proofs.reader.Reader.hold.Goals as goal
 
 pub returns : goal.returns
 returns c =
