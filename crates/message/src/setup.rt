@@ -1,32 +1,34 @@
 // Setting up the module itself: the family DB of sheet 000, and what the module reports.
-ghost use Rattle.std.specs.Prelude.{◌≡◌, ◌≤◌, length};
-ghost use Rattle.message.specs.Setup.{command_number, command_of, setup_layout, settings_layout, settings_refusal, information_layout, state_byte, report_layout};
+ghost use Rattle.std.specs.Prelude.{◌≡◌, ◌≤◌, length, true, false, OnOk, OnErr, IfErr};
+ghost use Rattle.settings.specs.List.{is_list};
+ghost use Rattle.message.specs.declared.refusal.Refusal.TheVariants.{Identifier};
+ghost use Rattle.message.specs.Setup.{command_number, command_of, setup_layout, settings_layout, settings_refusal, information_layout, report_layout};
 ghost use Rattle.message.specs.ToModule.{to_module_of, to_itself};
 ghost use Rattle.message.specs.FromModule.{from_module_of, ack_meaning, information_meaning, settings_meaning, control_meaning};
 ghost use Rattle.message.specs.Write.{Writes};
 
 use crate::from_module::{Delivery, FromModule, Notice};
 use crate::number::long;
-use crate::refusal::Refusal;
+use crate::refusal::{Refusal, ensure};
 use crate::to_module::{Request, ToModule};
-use crate::write::{send, write_parts};
+use crate::write::{PayloadWriter, send};
 use frame::Framing;
 
 // The commands to the module itself with nothing after them.
 #[derive(Clone, Copy)]
 pub enum SetupCommand {
     // F0: asks for an acknowledgement.
-    EnableAck,
+    EnableAck = 0xF0,
     // F1: asks for information.
-    GetInformation,
+    GetInformation = 0xF1,
     // F3: asks for the settings.
-    GetSettings,
+    GetSettings = 0xF3,
     // FD: erases the settings and resets the module.
-    EraseSettings,
+    EraseSettings = 0xFD,
     // FE: saves the settings that were applied and resets the module.
-    SaveSettings,
+    SaveSettings = 0xFE,
     // FF: drops the settings that were applied and resets the module.
-    Reset,
+    Reset = 0xFF,
 }
 
 // The information of F1. Every field is carried unjudged.
@@ -62,17 +64,11 @@ impl SetupCommand {
     pub fn number(self) -> u8
         ensures { result ≡ command_number self }
     {
-        match self {
-            SetupCommand::EnableAck => 0xF0,
-            SetupCommand::GetInformation => 0xF1,
-            SetupCommand::GetSettings => 0xF3,
-            SetupCommand::EraseSettings => 0xFD,
-            SetupCommand::SaveSettings => 0xFE,
-            SetupCommand::Reset => 0xFF,
-        }
+        self as u8
     }
 
     // The command with this number, if any.
+    #[tactic(auto, unfolding(crate::specs::Setup::command_of))]
     pub fn named(number: u8) -> Option<SetupCommand>
         ensures { result ≡ command_of number }
     {
@@ -88,48 +84,50 @@ impl SetupCommand {
     }
 }
 
+// Refuses what is no settings list.
+fn check_list(list: &[u8]) -> Result<(), Refusal>
+    ensures ok { OnOk result (is_list list.now ≡ true) }
+    ensures err { OnErr result (is_list list.now ≡ false) }
+    ensures refusal { IfErr result (λ e. e ≡ Identifier) }
+{
+    ensure(settings::is_list(list), Refusal::Identifier)
+}
+
 // Reads a payload to the module that begins with DB.
+#[tactic(auto, unfolding(crate::specs::ToModule::to_itself))]
 pub(crate) fn read_setup(payload: &[u8]) -> Result<ToModule, Refusal>
     requires { 2 ≤ length payload.now }
     ensures { to_module_of result ≡ to_itself payload.now }
 {
     let number = payload[1];
     if number == 0xF2 {
-        if !settings::is_list(&payload[2..]) {
-            return Err(Refusal::Identifier);
-        }
+        check_list(&payload[2..])?;
         return Ok(ToModule::Request {
             request: Request::Settings,
             start: 2,
         });
     }
     let command = SetupCommand::named(number).ok_or(Refusal::Command)?;
-    if payload.len() != 2 {
-        return Err(Refusal::Length);
-    }
+    ensure(payload.len() == 2, Refusal::Length)?;
     Ok(ToModule::Setup(command))
 }
 
 // Reads an acknowledgement.
+#[tactic(auto, unfolding(crate::specs::FromModule::ack_meaning))]
 pub(crate) fn read_ack(payload: &[u8]) -> Result<FromModule, Refusal>
     ensures { from_module_of result ≡ ack_meaning payload.now }
 {
-    if payload.len() != 3 {
-        return Err(Refusal::Length);
-    }
-    if payload[2] != 0x01 {
-        return Err(Refusal::Field);
-    }
+    ensure(payload.len() == 3, Refusal::Length)?;
+    ensure(payload[2] == 0x01, Refusal::Field)?;
     Ok(FromModule::Notice(Notice::Setup(SetupReport::Acknowledged)))
 }
 
 // Reads the module's information.
+#[tactic(auto, unfolding(crate::specs::FromModule::information_meaning))]
 pub(crate) fn read_information(payload: &[u8]) -> Result<FromModule, Refusal>
     ensures { from_module_of result ≡ information_meaning payload.now }
 {
-    if payload.len() != 17 {
-        return Err(Refusal::Length);
-    }
+    ensure(payload.len() == 17, Refusal::Length)?;
     Ok(FromModule::Notice(Notice::Setup(SetupReport::Information(Information {
         application: long(payload, 2),
         version: long(payload, 6),
@@ -141,18 +139,15 @@ pub(crate) fn read_information(payload: &[u8]) -> Result<FromModule, Refusal>
 }
 
 // Reads the module's settings, or that it failed.
+#[tactic(auto, unfolding(crate::specs::FromModule::settings_meaning))]
 pub(crate) fn read_settings(payload: &[u8]) -> Result<FromModule, Refusal>
     requires { 2 ≤ length payload.now }
     ensures { from_module_of result ≡ settings_meaning payload.now }
 {
-    if payload.len() == 3 {
-        if payload[2] == 0xFF {
-            return Ok(FromModule::Notice(Notice::Setup(SetupReport::SettingsFailed)));
-        }
+    if payload.len() == 3 && payload[2] == 0xFF {
+        return Ok(FromModule::Notice(Notice::Setup(SetupReport::SettingsFailed)));
     }
-    if !settings::is_list(&payload[2..]) {
-        return Err(Refusal::Identifier);
-    }
+    check_list(&payload[2..])?;
     Ok(FromModule::Delivery {
         delivery: Delivery::Settings,
         start: 2,
@@ -160,18 +155,12 @@ pub(crate) fn read_settings(payload: &[u8]) -> Result<FromModule, Refusal>
 }
 
 // Reads the state of silent mode.
+#[tactic(auto, unfolding(crate::specs::FromModule::control_meaning))]
 pub(crate) fn read_control(payload: &[u8]) -> Result<FromModule, Refusal>
     ensures { from_module_of result ≡ control_meaning payload.now }
 {
-    if payload.len() != 4 {
-        return Err(Refusal::Length);
-    }
-    if payload[2] != 0x11 {
-        return Err(Refusal::Field);
-    }
-    if 1 < payload[3] {
-        return Err(Refusal::Field);
-    }
+    ensure(payload.len() == 4, Refusal::Length)?;
+    ensure(payload[2] == 0x11 && payload[3] <= 1, Refusal::Field)?;
     Ok(FromModule::Notice(Notice::Setup(SetupReport::SilentMode {
         released: payload[3] == 1,
     })))
@@ -187,11 +176,10 @@ pub(crate) fn write_settings(
     ensures { Writes framing (settings_refusal list.now) (settings_layout command list.now)
         buf.old result buf.new }
 {
-    if !settings::is_list(list) {
-        return Err(Refusal::Identifier);
-    }
-    let head = [0xDB, command];
-    write_parts(framing, &head, list, buf)
+    check_list(list)?;
+    let mut payload = PayloadWriter::new();
+    payload.put(&[0xDB, command]);
+    payload.send_with(framing, list, buf)
 }
 
 // Writes a command to the module itself as a frame into the front of buf; the rest of buf stays. Refused with 13, which leaves all of buf.
@@ -202,8 +190,7 @@ pub fn write_setup(
 ) -> Result<usize, Refusal>
     ensures { Writes framing 0 (setup_layout command) buf.old result buf.new }
 {
-    let payload = [0xDB, command.number()];
-    send(framing, &payload, buf)
+    send(framing, &[0xDB, command.number()], buf)
 }
 
 // Writes the module's information.
@@ -214,38 +201,14 @@ fn write_information(
 ) -> Result<usize, Refusal>
     ensures { Writes framing 0 (information_layout information) buf.old result buf.new }
 {
-    let application = information.application;
-    let version = information.version;
-    let serial = information.serial;
-    let payload = [
-        0xDB,
-        0xF1,
-        (application / 16777216 % 256) as u8,
-        (application / 65536 % 256) as u8,
-        (application / 256 % 256) as u8,
-        (application % 256) as u8,
-        (version / 16777216 % 256) as u8,
-        (version / 65536 % 256) as u8,
-        (version / 256 % 256) as u8,
-        (version % 256) as u8,
-        information.device,
-        (serial / 16777216 % 256) as u8,
-        (serial / 65536 % 256) as u8,
-        (serial / 256 % 256) as u8,
-        (serial % 256) as u8,
-        information.silent,
-        information.network,
-    ];
-    send(framing, &payload, buf)
-}
-
-fn state_byte(released: bool) -> u8
-    ensures { result ≡ state_byte released }
-{
-    if released {
-        return 1;
-    }
-    0
+    let mut payload = PayloadWriter::new();
+    payload.put(&[0xDB, 0xF1]);
+    payload.put_long(information.application);
+    payload.put_long(information.version);
+    payload.put(&[information.device]);
+    payload.put_long(information.serial);
+    payload.put(&[information.silent, information.network]);
+    payload.send(framing, buf)
 }
 
 // Writes what the module reports of itself, but for its settings.
@@ -257,18 +220,13 @@ pub(crate) fn write_report(
     ensures { Writes framing 0 (report_layout report) buf.old result buf.new }
 {
     match report {
-        SetupReport::Acknowledged => {
-            let payload = [0xDB, 0xF0, 0x01];
-            send(framing, &payload, buf)
-        }
+        SetupReport::Acknowledged => send(framing, &[0xDB, 0xF0, 0x01], buf),
         SetupReport::Information(information) => write_information(framing, information, buf),
-        SetupReport::SettingsFailed => {
-            let payload = [0xDB, 0xF3, 0xFF];
-            send(framing, &payload, buf)
-        }
-        SetupReport::SilentMode { released } => {
-            let payload = [0xDB, 0xF8, 0x11, state_byte(released)];
-            send(framing, &payload, buf)
-        }
+        SetupReport::SettingsFailed => send(framing, &[0xDB, 0xF3, 0xFF], buf),
+        SetupReport::SilentMode { released } => send(
+            framing,
+            &[0xDB, 0xF8, 0x11, u8::from(released)],
+            buf,
+        ),
     }
 }
