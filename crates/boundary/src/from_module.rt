@@ -146,10 +146,7 @@ fn notice_numbers(notice: Notice) -> FromModuleNumbers
         Notice::Response(m) => FromModuleNumbers {
             kind: 3,
             response_id: m.id,
-            result: match m.outcome {
-                Outcome::Failure => 0,
-                Outcome::Success => 1,
-            },
+            result: m.outcome as u8,
             ..FromModuleNumbers::default()
         },
         Notice::Standard(m) => FromModuleNumbers {

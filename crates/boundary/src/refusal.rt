@@ -42,22 +42,18 @@ impl Numbered for NotAList {
 // Kept: what numbers stand for is found by functions and not by TryFrom, whose error would have to be public, beside the types of the C interface.
 #[derive(Clone, Copy)]
 pub(crate) enum Unnamed {
-    // 255: one that stands for no framing, format, mark or kind of message.
-    Kind,
-    // 9: one that names no command.
-    Command,
-    // 11: a result, or a state of silent mode, that is neither 0 nor 1.
-    Flag,
+    // A number that stands for no framing, format, mark or kind of message.
+    Kind = 255,
+    // One that names no command.
+    Command = 9,
+    // A result, or a state of silent mode, that is neither 0 nor 1.
+    Flag = 11,
 }
 
 impl Numbered for Unnamed {
     ghost number_of = { unnamed_number };
 
     fn number(self) -> u8 {
-        match self {
-            Unnamed::Kind => 255,
-            Unnamed::Command => 9,
-            Unnamed::Flag => 11,
-        }
+        self as u8
     }
 }
