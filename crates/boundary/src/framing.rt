@@ -12,7 +12,7 @@ pub(crate) fn framing_of(number: u8) -> Option<Framing>
     match number {
         0 => Some(Framing::Binary),
         1 => Some(Framing::Ascii),
-        _ => None,
+        2.. => None,
     }
 }
 
