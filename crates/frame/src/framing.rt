@@ -11,7 +11,7 @@ use crate::refusal::Refusal;
 use crate::{ascii, binary};
 
 // How frames are laid out on the line, and so how they are written.
-#[derive(Clone, Copy)]
+#[derive(Clone, Copy, Debug, PartialEq, Eq)]
 pub enum Framing {
     // A5 5A, a length, the payload, its XOR and 04.
     Binary,
@@ -20,7 +20,7 @@ pub enum Framing {
 }
 
 // Whether a binary frame that is read may lack its last byte, the footer 04.
-#[derive(Clone, Copy)]
+#[derive(Clone, Copy, Debug, PartialEq, Eq)]
 pub enum Footer {
     // A frame is complete at its checksum; a 04 right behind it belongs to it.
     Optional,
@@ -29,7 +29,7 @@ pub enum Footer {
 }
 
 // Which line ends an ASCII frame that is read may have.
-#[derive(Clone, Copy)]
+#[derive(Clone, Copy, Debug, PartialEq, Eq)]
 pub enum Ending {
     // A frame ends with CR LF.
     CrLf,
@@ -38,7 +38,7 @@ pub enum Ending {
 }
 
 // How frames are read: a framing with its choice.
-#[derive(Clone, Copy)]
+#[derive(Clone, Copy, Debug, PartialEq, Eq)]
 pub enum Format {
     Binary(Footer),
     Ascii(Ending),

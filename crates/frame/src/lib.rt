@@ -14,4 +14,4 @@ pub use framing::{
 };
 pub use hex::hex_of;
 pub use refusal::Refusal;
-pub use single::{ReadAnswer, WriteAnswer, read_frame, read_frame_as, write_frame};
+pub use single::{FrameRead, read_frame, read_frame_as, write_frame};

@@ -2,28 +2,32 @@
 ghost use Rattle.std.specs.Prelude.{◌≡◌};
 ghost use Rattle.frame.specs.Refusal.{number_of};
 
-#[derive(Clone, Copy)]
+use thiserror::Error;
+
+#[derive(Clone, Copy, Debug, PartialEq, Eq, Error)]
 pub enum Refusal {
-    // 1: no frame starts here.
+    #[error("no frame starts here")]
     Start,
-    // 2: the bytes end before the frame does.
+    #[error("the bytes end before the frame does")]
     Cut,
-    // 3: a length that no frame has.
+    #[error("a length that no frame has")]
     Length,
-    // 4: the checksum is another one.
+    #[error("the checksum is another one")]
     Checksum,
-    // 5: the frame's end is another one; given only where the footer is required, and under the ending CR LF.
+    // Given only where the footer is required, and under the ending CR LF.
+    #[error("the frame's end is another one")]
     Footer,
-    // 6: a character that is neither a digit nor CR nor, under any ending, LF.
+    // Under any ending LF is none of these.
+    #[error("a character that is neither a digit nor the frame's end")]
     Character,
-    // 13: the buffer is too short.
+    #[error("the buffer is too short")]
     Buffer,
-    // 14: the payload to write is empty or longer than 256 bytes.
+    #[error("the payload is empty or longer than 256 bytes")]
     Payload,
-    // 15: the chunk is longer than 65,536 bytes.
+    #[error("the chunk is longer than 65,536 bytes")]
     Chunk,
-    // 16: the reader's state holds more bytes than a frame can have, or says that more were judged than it holds, or a view does not
-    // lie in the chunk.
+    // The state holds more bytes than a frame can have, or says that more were judged than it holds, or a view does not lie in the chunk.
+    #[error("the reader's state is none that a reader has")]
     State,
 }
 
