@@ -7,10 +7,13 @@ use Prim.Native.Nat.{ℕ, zero, suc, ◌+◌, ◌-◌, ◌<◌, ◌≤◌}
 use native.Mathlib.Omega.{arith}
 use native.Mathlib.Nat.{add-zero}
 use lib.Dec.{eqb}
+use Rattle.std.proofs.Common.{Ok, Some, None, slice_get}
+use Rattle.std.proofs.lemmas.Bool.{cases_lt}
+use Rattle.std.proofs.Math.Logic.{◌⊎◌, inl, inr}
 use lib.ListN.{length, get_or, drop, length-drop, drop_of_length-le}
 use lib.Seq.{drop-cons, drop-drop}
 use Rattle.settings.specs.List.{width_of, among, list_from, is_list}
-use Rattle.settings.specs.Walk.{settings_from, settings_of, nth, found, nothing, finding}
+use Rattle.settings.specs.Walk.{settings_from, settings_of, nth, nothing, finding, finding_of}
 use Rattle.settings.specs.declared.walk.Setting.{Setting}
 
 -- Data that are not cut, and what is behind them.
@@ -41,53 +44,75 @@ next_whole id s (seen, e) =
     let h = data_whole (width_of id) (id ∷ seen) s new.1 in
     (h.0, (id ∷ seen, h.1))
 
--- A walk over s that looks for the setting with an index stands at `at`, an identifier or the end, and has to pass `left` settings more.
-pub record Walking (s : List ℕ) (index at left : ℕ) : Type 0 where
+-- A walk over s that looks for the setting with an index stands at `at`, an identifier or the end, behind the settings that it passed.
+pub record Walking (s : List ℕ) (index at passed : ℕ) : Type 0 where
   pub inside : at ≤ length s
   pub whole : Whole (drop at s)
-  pub same : finding s index ≡ nth (settings_from 0 at (drop at s)) left
+  pub same : (left : ℕ) → passed + left ≡ index → finding s index ≡ nth (settings_from 0 at (drop at s)) left
 
 -- Bytes that are no list are refused; a list is walked from its start.
 pub no_list : (s : List ℕ) (index : ℕ) → is_list s ≡ false → nothing 17 ≡ finding s index
 no_list s index e = rw e
 
-pub start : (s : List ℕ) (index : ℕ) → is_list s ≡ true → Walking s index 0 index
+pub start : (s : List ℕ) (index : ℕ) → is_list s ≡ true → Walking s index 0 0
 unfolding is_list settings_of
-start s index e = record { inside = omega arith; whole = ([], e); same = rw e }
+start s index e = record { inside = omega arith; whole = ([], e); same = λ left p. let same : left ≡ index = omega arith in rw (e, same) }
 
--- At the end no setting is left.
-pub over : (s : List ℕ) (index at left : ℕ) → Walking s index at left → length s ≤ at → nothing 0 ≡ finding s index
+-- Where an identifier or the end stands at `at`: none at the end; else the setting there, and those behind its data.
+pub ended : (s : List ℕ) (at : ℕ) → length s ≤ at → settings_from 0 at (drop at s) ≡ []
 unfolding settings_from
-over s index at left walking end = sym (walking.same ∙ rw (drop_of_length-le s end))
+ended s at h = rw (drop_of_length-le s h)
 
-later : (x : Setting) (xs : List Setting) (left : ℕ) → (left ≡ 0 → ⊥) → nth (x ∷ xs) left ≡ nth xs (left - 1)
-later x xs zero ne = absurd (ne refl)
-later x xs (suc left) ne =
-    let one_less : suc left - 1 ≡ left = omega arith in
-    rw one_less
+behind : (s : List ℕ) (at w : ℕ) → drop w (drop (suc at) s) ≡ drop (at + 1 + w) s
+behind s at w =
+    let sum : suc at + w ≡ at + 1 + w = omega arith in
+    drop-drop w (suc at) s ∙ rw sum
 
--- An identifier, whose data have w bytes.
-module _ (s : List ℕ) (index at left w : ℕ) (walking : Walking s index at left) (before : at < length s) (width : w ≡ width_of (get_or s at 0)) where
-  behind : drop w (drop (suc at) s) ≡ drop (at + (1 + w)) s
-  behind =
-      let sum : suc at + w ≡ at + (1 + w) = omega arith in
-      drop-drop w (suc at) s ∙ rw sum
+pub split :
+    (s : List ℕ) (at : ℕ) → at < length s
+    → settings_from 0 at (drop at s)
+    ≡ record { identifier = get_or s at 0; start = at + 1; len = width_of (get_or s at 0) }
+    ∷ settings_from 0 (at + 1 + width_of (get_or s at 0)) (drop (at + 1 + width_of (get_or s at 0)) s)
+unfolding settings_from
+split s at h = rw (drop-cons s at 0 h, passed_over (width_of (get_or s at 0)) (at + 1) (drop (suc at) s), behind s at (width_of (get_or s at 0)))
 
-  split : settings_from 0 at (drop at s)
-      ≡ record { identifier = get_or s at 0; start = at + 1; len = w } ∷ settings_from 0 (at + (1 + w)) (drop (at + (1 + w)) s)
-  unfolding settings_from
-  split =
-      let sum : at + 1 + w ≡ at + (1 + w) = omega arith in
-      rw (drop-cons s at 0 before, ← width, passed_over w (at + 1) (drop (suc at) s), behind, sum)
+-- Where no setting is left, none is found; at the index, the first of those left.
+pub none_is : (s : List ℕ) (index at passed : ℕ) → Walking s index at passed → passed ≤ index → None ≡ slice_get (settings_from 0 at (drop at s)) 0
+    → nothing 0 ≡ finding s index
+none_is s index at passed walking below e =
+    let sum : passed + (index - passed) ≡ index = omega arith in
+    none _ (index - passed) e ∙ sym (walking.same (index - passed) sum)
+  where
+    none : (xs : List Setting) (left : ℕ) → None ≡ slice_get xs 0 → nothing 0 ≡ nth xs left
+    none [] left e = refl
+    none (x ∷ xs) left e = cc
 
-  pub here : left ≡ 0 → found (record { identifier = get_or s at 0; start = at + 1; len = w }) ≡ finding s index
-  here z = sym (walking.same ∙ rw (split, z))
+pub first_is : (s : List ℕ) (index at : ℕ) → Walking s index at index → finding_of (Ok (slice_get (settings_from 0 at (drop at s)) 0)) ≡ finding s index
+first_is s index at walking = first _ ∙ sym (walking.same 0 (omega arith))
+  where
+    first : (xs : List Setting) → finding_of (Ok (slice_get xs 0)) ≡ nth xs 0
+    first [] = refl
+    first (x ∷ xs) = refl
 
-  pub onward : (left ≡ 0 → ⊥) → Walking s index (at + (1 + w)) (left - 1)
-  onward ne =
-      let h = next_whole (get_or s at 0) (drop (suc at) s) (rw (drop-cons s at 0 before) at walking.whole) in
-      record {
-        inside = omega (arith, h.0, length-drop (suc at) s);
-        whole = rw (← width, behind) at h.1;
-        same = walking.same ∙ rw split (later _ (settings_from 0 (at + (1 + w)) (drop (at + (1 + w)) s)) left ne);
-      }
+later : (xs : List Setting) (x : Setting) (ys : List Setting) (left : ℕ) → xs ≡ x ∷ ys → nth xs (suc left) ≡ nth ys left
+later xs x ys left e = rw e
+
+-- A walk with a setting to pass goes on behind that setting's data.
+pub onward :
+    (s : List ℕ) (index at passed : ℕ) (x : Setting) → Walking s index at passed → Some x ≡ slice_get (settings_from 0 at (drop at s)) 0
+    → Walking s index (x.start + x.len) (passed + 1)
+onward s index at passed x walking e = here (cases_lt at (length s))
+  where
+    here : (at < length s) ⊎ (length s ≤ at) → Walking s index (x.start + x.len) (passed + 1)
+    here (inr h) = let no = rw (ended s at h) at e in cc
+    here (inl h) =
+        let width = width_of (get_or s at 0) in
+        let known : Some x ≡ Some (record { identifier = get_or s at 0; start = at + 1; len = width }) = rw (split s at h) at e in
+        let is : x ≡ record { identifier = get_or s at 0; start = at + 1; len = width } = cc in
+        let rest = next_whole (get_or s at 0) (drop (suc at) s) (rw (drop-cons s at 0 h) at walking.whole) in
+        rw is
+        (record {
+          inside = omega (arith, rest.0, length-drop (suc at) s);
+          whole = rw (behind s at width) at rest.1;
+          same = λ left p. walking.same (suc left) (omega arith) ∙ later _ _ _ left (split s at h);
+        })

@@ -1,9 +1,8 @@
 -- Walking a settings list: which setting has an index, and where its data are.
-use Rattle.std.specs.Prelude.{ℕ, zero, suc, ◌+◌, Bool, true, false, cond, List, [], ◌∷◌}
+use Rattle.std.specs.Prelude.{ℕ, zero, suc, ◌+◌, Bool, true, false, cond, List, [], ◌∷◌, Option, Some, None, Result, Ok, Err}
 use Rattle.settings.specs.List.{width_of, is_list}
 use Rattle.settings.specs.declared.walk.Setting.{Setting}
-use Rattle.settings.specs.declared.walk.SettingAnswer.{SettingAnswer}
-use Rattle.settings.specs.declared.walk.SettingAnswer.TheVariants.{Found, Past, Refused}
+use Rattle.settings.specs.declared.walk.NotAList.{NotAList}
 
 -- The settings of the rest of a list, which stands at `at`, where w more bytes of data are passed over first.
 unfoldable pub settings_from : ℕ → ℕ → List ℕ → List Setting
@@ -42,7 +41,7 @@ abbrev pub finding : List ℕ → ℕ → Finding
 finding s i = cond (is_list s) (nth (settings_of s) i) (nothing 17)
 
 -- The number and the setting of each answer.
-abbrev pub finding_of : SettingAnswer → Finding
-finding_of (Found x) = found x
-finding_of Past = nothing 0
-finding_of Refused = nothing 17
+abbrev pub finding_of : Result (Option Setting) NotAList → Finding
+finding_of (Ok (Some x)) = found x
+finding_of (Ok None) = nothing 0
+finding_of (Err e) = nothing 17

@@ -5,4 +5,4 @@ mod list;
 mod walk;
 
 pub use list::is_list;
-pub use walk::{Setting, SettingAnswer, setting_at};
+pub use walk::{NotAList, Setting, setting_at};

@@ -1,32 +1,23 @@
--- `settings::walk::setting_at` meets its contract: in the loop, what is looked for is the setting with index `left` of the
--- rest at `at`.
+-- `settings::walk::setting_at` meets its contract.
 -- Assumes nothing.
-use mathlib.Core.Path.{sym, ◌∙◌}
-use native.Mathlib.Omega.{arith}
-use borrow.Author.Rules.{rules}
-use Rattle.settings.proofs.WalkLaws.{no_list, start, over, here, onward}
+use Rattle.std.proofs.Common.{sym, arith, rules, ◌∙◌, ◌≡◌}
+use Rattle.settings.proofs.WalkLaws.{start, none_is, first_is, onward}
 use Rattle.settings.proofs.walk.setting_at.Goals as goal
 
-pub returns-then-not-is_list : goal.returns-then-not-is_list
-returns-then-not-is_list c = no_list _ _ (sym c.is_list.ensures ∙ c.if-not-is_list.true)
+pub loop-init : goal.loop-init
+loop-init c = start _ _ (sym c.is_list.ensures ∙ c.if-not-is_list.false)
 
-pub loop-at-init : goal.loop-at-init
-loop-at-init c = start _ _ (sym c.is_list.ensures ∙ c.if-not-is_list.false)
+pub returns-in_default : goal.returns-in_default
+returns-in_default c = none_is _ _ _ _ c.loop.invariant c.loop.auto.counter-end (sym c.in_default.is ∙ c.setting_from.ensures)
 
-pub returns-then-left-eq0 : goal.returns-then-left-eq0
-returns-then-left-eq0 c = here _ _ _ _ _ c.loop-at.invariant c.loop-at-test.true c.width_of-len.ensures c.if-left-eq0.true
-
-pub loop-at-preserved : goal.loop-at-preserved
-loop-at-preserved c = onward _ _ _ _ _ c.loop-at.invariant c.loop-at-test.true c.width_of-len.ensures c.if-left-eq0.false
+pub loop-preserved : goal.loop-preserved
+loop-preserved c = onward _ _ _ _ _ c.loop.invariant (sym c.in-Some.is ∙ c.setting_from.ensures)
 
 pub overflow_add-at : goal.overflow_add-at
-overflow_add-at c = search (rules, (loop-at-preserved c).inside)
-
-pub overflow_add-at-in-loop-at : goal.overflow_add-at-in-loop-at
-overflow_add-at-in-loop-at c = search (rules, (loop-at-preserved c).inside)
-
-pub loop-at-smaller : goal.loop-at-smaller
-loop-at-smaller c = omega (arith, (loop-at-preserved c).inside)
+overflow_add-at c = search (rules, (loop-preserved c).inside)
 
 pub returns : goal.returns
-returns c = over _ _ _ _ c.loop-at.invariant c.loop-at-test.false
+returns c =
+    let same : c.loop.counter ≡ c.args.index = omega arith in
+    let walking = rw same at c.loop.invariant in
+    rw c.setting_from-2.ensures (first_is _ _ _ walking)
