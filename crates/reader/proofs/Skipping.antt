@@ -31,7 +31,7 @@ use Rattle.reader.proofs.Prefixes.{refused_sized}
 use Rattle.reader.proofs.Scanning.{step_refused}
 
 -- The elements of two lists in a row.
-all_pass_append : (test : ℕ → Bool) (s t : List ℕ) → all_pass test (s ++ t) ≡ all_pass test s && all_pass test t
+pub all_pass_append : (test : ℕ → Bool) (s t : List ℕ) → all_pass test (s ++ t) ≡ all_pass test s && all_pass test t
 all_pass_append test [] t = refl
 all_pass_append test (c ∷ s) t = rw (all_pass_append test s t, ← and_assoc (test c) (all_pass test s) (all_pass test t))
 

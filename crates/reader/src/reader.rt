@@ -8,7 +8,7 @@ ghost use Rattle.reader.specs.Answer.{scan_whole};
 ghost use Rattle.reader.specs.Feeding.{Joins, Stores, Leaves, LeavesHeld, LeavesLine, QuietAnswered, ChunkFed, HeldFed};
 
 use crate::answer::{Before, FeedAnswer, Kept, QuietAnswer, answer, judged_held, took_first};
-use crate::scan::{ScanEnd, find, left_out, smaller};
+use crate::scan::{ScanEnd, find, left_out};
 use frame::{Format, Framing, Refusal, absorbed, may_follow};
 
 // A reader's state, by value: its format; the bytes that it holds, the first `count` of `held`; and `follows`, whether an optional byte, the 04 of a frame that
@@ -85,7 +85,7 @@ fn join(format: Format, held: &[u8], chunk: &[u8]) -> Joined
     ensures { Joins format held.now chunk.now result }
 {
     let count = held.len();
-    let more = smaller(chunk.len(), limit_of(format));
+    let more = chunk.len().min(limit_of(format));
     let mut bytes = [0u8; 1034];
     octets::copy(held, &mut bytes);
     octets::copy(&chunk[..more], &mut bytes[count..]);
@@ -122,24 +122,12 @@ fn shift(held: &mut [u8], kept: Kept) -> Left
     let answer = kept.answer;
     let follows = kept.follows;
     if 0 < from {
-        move_down(held, from, count);
+        held.copy_within(from..kept.end, 0);
     }
     Left {
         answer,
         count,
         follows,
-    }
-}
-
-// Moves `count` bytes of s from `from` on to its front.
-fn move_down(s: &mut [u8], from: usize, count: usize)
-    requires { from + count ≤ length s.old }
-    ensures { take count s.new ≡ take count (drop from s.old) }
-{
-    let mut i = 0;
-    while i < count {
-        s[i] = s[from + i];
-        i += 1;
     }
 }
 
@@ -296,7 +284,7 @@ fn drop_optional(format: Format, held: &mut [u8], count: usize, follows: bool) -
         return count;
     }
     let rest = count - 1;
-    move_down(held, 1, rest);
+    held.copy_within(1..count, 0);
     rest
 }
 

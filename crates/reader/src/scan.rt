@@ -1,10 +1,10 @@
 // Finding the first frame of a slice by the leftmost rule.
-ghost use Rattle.std.specs.Prelude.{◌≡◌, true, false, ◌+◌, ◌-◌, ◌≤◌, ◌<◌, max, min, length, get_or, take, drop};
+ghost use Rattle.std.specs.Prelude.{◌≡◌, ℕ, Bool, true, false, ◌+◌, ◌-◌, ◌≤◌, ◌<◌, max, min, length, get_or, take, drop};
 ghost use Rattle.frame.specs.Framing.{judge, judged_at};
 ghost use Rattle.reader.specs.Reader.{judged_to};
 ghost use Rattle.frame.specs.DigitRuns.{all_pass};
 ghost use Rattle.reader.specs.Scan.{start_of, passed_by, judging, scan_from, scan_judged, scanned, other, same, stopped_at, stop_buffer};
-ghost use Rattle.reader.specs.Scan.{Skips, Scannable, MayStart, PassesOver, LeavesOut};
+ghost use Rattle.reader.specs.Scan.{Tests, Skips, Scannable, MayStart, PassesOver, LeavesOut};
 
 use frame::{Format, Judged, extract, judge, unpack};
 
@@ -58,80 +58,51 @@ fn passed_by(format: Format, judged: usize) -> usize
     }
 }
 
-// The larger of two numbers.
-pub(crate) fn larger(a: usize, b: usize) -> usize
-    ensures { result ≡ max a b }
+// Whether the 16 bytes all pass a test. All are looked at, in a loop of fixed length, which is vectorised.
+fn block_passes<F: Fn(u8) -> bool>(block: &[u8; 16], passes: &F) -> bool
+    requires { F.IsAlwaysCallable passes.now }
+    ensures { (test : ℕ → Bool) → Tests F.Fn passes.now test → result ≡ all_pass test block.now }
 {
-    if a < b { b } else { a }
-}
-
-// The smaller of two numbers.
-pub(crate) fn smaller(a: usize, b: usize) -> usize
-    ensures { result ≡ min a b }
-{
-    if a < b { a } else { b }
-}
-
-// Whether none of the 16 bytes from `at` on is b. All are looked at, in a loop of fixed length, which is vectorised.
-fn block_lacks(s: &[u8], at: usize, b: u8) -> bool
-    requires { at + 16 ≤ length s.now }
-    ensures { result ≡ all_pass (other b) (take 16 (drop at s.now)) }
-{
-    let mut ok = true;
-    let mut i = 0;
-    while i < 16 {
-        ok = ok & (s[at + i] != b);
-        i += 1;
+    let mut all = true;
+    for b in block {
+        all &= passes(*b);
     }
-    ok
+    all
 }
 
-// The place behind the blocks of 16 bytes from `from` on that lack b, up to `stop`.
-fn skip_blocks(s: &[u8], b: u8, from: usize, stop: usize) -> usize
+// How many bytes the blocks of 16 at the front of s have that pass a test.
+fn blocks_passing<F: Fn(u8) -> bool>(s: &[u8], passes: &F) -> usize
+    requires { F.IsAlwaysCallable passes.now }
+    ensures in_bounds { result ≤ length s.now }
+    ensures all { (test : ℕ → Bool) → Tests F.Fn passes.now test → all_pass test (take result s.now) ≡ true }
+{
+    let (blocks, _) = s.as_chunks::<16>();
+    let mut count = 0;
+    for block in blocks {
+        if !block_passes(block, passes) {
+            return count;
+        }
+        count += 16;
+    }
+    count
+}
+
+// The first place from `from` on whose byte fails a test, or `stop` where all before it pass.
+fn skip<F: Fn(u8) -> bool>(s: &[u8], from: usize, stop: usize, passes: F) -> usize
     requires from_le_stop { from ≤ stop }
     requires stop_in_bounds { stop ≤ length s.now }
-    ensures { Skips (other b) s.now from stop result }
+    requires callable { F.IsAlwaysCallable passes }
+    ensures onward { from ≤ result }
+    ensures inside { result ≤ stop }
+    ensures passed { (test : ℕ → Bool) → Tests F.Fn passes test → Skips test s.now from stop result }
 {
-    let mut at = from;
-    while at + 16 <= stop {
-        if !block_lacks(s, at, b) {
-            return at;
+    let first = from + blocks_passing(&s[from..stop], &passes);
+    for place in first..stop {
+        if !passes(s[place]) {
+            return place;
         }
-        at += 16;
     }
-    at
-}
-
-// The place of the first b from `from` on, or `stop` where there is none before it.
-fn skip(s: &[u8], b: u8, from: usize, stop: usize) -> usize
-    requires from_le_stop { from ≤ stop }
-    requires stop_in_bounds { stop ≤ length s.now }
-    ensures { Skips (other b) s.now from stop result }
-{
-    let mut at = skip_blocks(s, b, from, stop);
-    while at < stop {
-        if s[at] == b {
-            return at;
-        }
-        at += 1;
-    }
-    at
-}
-
-// The first place from `from` on that lacks b, or `stop` where all places before it have it.
-fn run_end(s: &[u8], b: u8, from: usize, stop: usize) -> usize
-    requires from_le_stop { from ≤ stop }
-    requires stop_in_bounds { stop ≤ length s.now }
-    ensures { Skips (same b) s.now from stop result }
-{
-    let mut at = from;
-    while at < stop {
-        if s[at] != b {
-            return at;
-        }
-        at += 1;
-    }
-    at
+    stop
 }
 
 // Whether the byte at `place` is followed by the same byte. In either framing a start that another start follows fails at that one.
@@ -167,7 +138,7 @@ fn pass_over(format: Format, s: &[u8], start: u8, from: usize, stop: usize) -> S
     ensures { PassesOver format s.now from stop result }
 {
     if s[from] != start {
-        let place = skip(s, start, from + 1, stop);
+        let place = skip(s, from + 1, stop, |b| b != start);
         let reach = place;
         let judged = place - from;
         return Step {
@@ -176,7 +147,7 @@ fn pass_over(format: Format, s: &[u8], start: u8, from: usize, stop: usize) -> S
             judged,
         };
     }
-    let place = larger(run_end(s, start, from + 1, stop) - 1, from + 1);
+    let place = (skip(s, from + 1, stop, |b| b == start) - 1).max(from + 1);
     let reach = place + 1;
     let judged = 2 * (place - from);
     Step {
@@ -204,7 +175,7 @@ fn at_frame(place: usize, reach: usize, judged: usize, used: usize, len: usize) 
     requires used_bound_2 { judged + used ≤ 4294967296 }
     ensures { result ≡ stopped_at place (max reach (place + used)) (judged + used) (ScanEnd.Frame used len) }
 {
-    let far = larger(reach, place + used);
+    let far = reach.max(place + used);
     stopped(place, far, judged + used, ScanEnd::Frame { used, len })
 }
 
@@ -255,7 +226,7 @@ fn scan(format: Format, s: &[u8], from: usize, stop: usize, reach: usize, ended:
     while place < stop {
         if !may_start(s, start, place) {
             let step = pass_over(format, s, start, place, stop);
-            far = larger(far, step.reach);
+            far = far.max(step.reach);
             total += step.judged;
             place = step.place;
             continue;
@@ -266,12 +237,12 @@ fn scan(format: Format, s: &[u8], from: usize, stop: usize, reach: usize, ended:
                 if !ended {
                     return stopped(place, far, total, ScanEnd::Undecided);
                 }
-                far = larger(far, place);
+                far = far.max(place);
                 place += 1;
             }
             Judged::Failed { refusal: _, judged } => {
-                let next = smaller(place + passed_by(format, judged), stop);
-                far = larger(far, place + judged);
+                let next = (place + passed_by(format, judged)).min(stop);
+                far = far.max(place + judged);
                 total += failed_bytes(judged, next - place);
                 place = next;
             }
@@ -321,7 +292,7 @@ pub(crate) fn left_out(
     ensures buf_unchanged { buf.new ≡ buf.old }
 {
     if found.place == 0 {
-        return smaller(known, found.judged);
+        return known.min(found.judged);
     }
     if known <= 1 {
         return known;
@@ -351,18 +322,18 @@ pub(crate) fn find_first(
     }
     if s[0] != start_of(format) {
         let found = find(format, s, 0, size, reach, false, buf);
-        return counted(found, 0, smaller(known, 1));
+        return counted(found, 0, known.min(1));
     }
     match extract(format, s, buf) {
-        Judged::Undecided => stopped(0, reach, size - smaller(known, size), ScanEnd::Undecided),
+        Judged::Undecided => stopped(0, reach, size - known.min(size), ScanEnd::Undecided),
         Judged::Failed { refusal: _, judged } => {
-            let next = smaller(passed_by(format, judged), size);
-            let found = find(format, s, next, size, larger(reach, judged), false, buf);
-            counted(found, failed_bytes(judged, next), smaller(known, judged))
+            let next = passed_by(format, judged).min(size);
+            let found = find(format, s, next, size, reach.max(judged), false, buf);
+            counted(found, failed_bytes(judged, next), known.min(judged))
         }
         Judged::Frame { used, len } => {
-            let total = used - smaller(known, used);
-            stopped(0, larger(reach, used), total, ScanEnd::Frame { used, len })
+            let total = used - known.min(used);
+            stopped(0, reach.max(used), total, ScanEnd::Frame { used, len })
         }
     }
 }

@@ -5,7 +5,7 @@ ghost use Rattle.reader.specs.Feeding.{line_over, judged_in, KeepsCall, PartFed,
 
 use crate::answer::{Before, FeedAnswer, Kept, answer, judged_held, took_first};
 use crate::reader::{Reader, hold, judged_behind, limit_of};
-use crate::scan::{find_first, larger};
+use crate::scan::find_first;
 use frame::{Format, Refusal, absorbed};
 
 // A reader's state, by value, whose held bytes are those of a chunk from index `from` up to `end`, which is behind them; `follows` and `judged` are the
@@ -100,7 +100,7 @@ fn past_optional(view: View, chunk: &[u8]) -> View
     View {
         format: format,
         from: next,
-        end: larger(view.end, next),
+        end: view.end.max(next),
         follows: false,
         judged: judged_behind(first, view.judged),
     }

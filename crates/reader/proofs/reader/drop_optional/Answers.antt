@@ -9,6 +9,8 @@ use lib.ListN.{length, take, drop}
 use lib.Seq.{length-take-le}
 use Rattle.frame.proofs.Lists.{drop_take}
 use Rattle.frame.proofs.Optional.{absorbed_one, absorbed_there}
+use Rattle.reader.proofs.Parts.{part_moved}
+use Prim.Native.Nat.{◌-◌}
 use Rattle.reader.proofs.reader.drop_optional.Goals as goal
 
 pub slice_bounds-absorbed-end : goal.slice_bounds-absorbed-end
@@ -35,15 +37,6 @@ overflow_sub-rest c =
     (omega (arith, c.if-absorbed-eq0.false), omega (arith, c.if-absorbed-eq0.false, held-size)) in
     (one).1
 
-pub move_down-requires : goal.move_down-requires
-move_down-requires c =
-    let held : List ℕ = take c.args.count c.args.held.now in
-    let held-size : length (held) ≡ c.args.count = length-take-le c.args.count c.args.held.now c.requires in
-    let one : (c.absorbed.result ≡ 1) × (1 ≤ c.args.count) = let most = absorbed_one c.args.format c.args.follows (held) in
-    let there = absorbed_there c.args.format c.args.follows (held) in
-    (omega (arith, c.if-absorbed-eq0.false), omega (arith, c.if-absorbed-eq0.false, held-size)) in
-    omega (arith, (one).1, c.requires)
-
 pub returns-clause-upper_bound : goal.returns-clause-upper_bound
 returns-clause-upper_bound c =
     let held : List ℕ = take c.args.count c.args.held.now in
@@ -58,6 +51,6 @@ returns-clause-held_after c =
     let held-size : length (held) ≡ c.args.count = length-take-le c.args.count c.args.held.now c.requires in
     let one : (c.absorbed.result ≡ 1) × (1 ≤ c.args.count) = let most = absorbed_one c.args.format c.args.follows (held) in
     let there = absorbed_there c.args.format c.args.follows (held) in
-    (omega (arith, c.if-absorbed-eq0.false), omega (arith, c.if-absorbed-eq0.false, held-size)) in c.move_down.ensures
+    (omega (arith, c.if-absorbed-eq0.false), omega (arith, c.if-absorbed-eq0.false, held-size)) in ap (take (c.args.count - 1)) c.copy_within.ensures.after ∙ part_moved 1 c.args.count c.args.held.now c.requires
     ∙ sym (drop_take 1 c.args.count c.args.held.now)
     ∙ ap (λ (n : ℕ). drop n (held)) (sym (one).0 ∙ c.absorbed.ensures)

@@ -30,7 +30,7 @@ pub copy-requires : goal.copy-requires
 copy-requires c = omega (arith, limit_most c.args.format, length-replicate {A = ℕ} 1034 0)
 
 pub slice_bounds-copy-end-2 : goal.slice_bounds-copy-end-2
-slice_bounds-copy-end-2 c = sym (length-take-le _ c.args.chunk.now (omega (arith, c.smaller-more.ensures)))
+slice_bounds-copy-end-2 c = sym (length-take-le _ c.args.chunk.now (omega (arith, c.min-more.ensures)))
 
 pub slice_bounds-copy-count : goal.slice_bounds-copy-count
 slice_bounds-copy-count c = omega (arith, limit_most c.args.format)
@@ -41,21 +41,21 @@ slice_bounds-bytes-start c = omega (arith, limit_most c.args.format)
 pub copy-requires-2 : goal.copy-requires-2
 copy-requires-2 c =
     let zeros : length c.copy.new.to ≡ 1034 = c.copy.auto.to ∙ length-replicate {A = ℕ} 1034 0 in
-    omega (arith, limit_most c.args.format, c.smaller-more.ensures, c.limit_of.ensures, length-take c.smaller-more.result c.args.chunk.now, zeros)
+    omega (arith, limit_most c.args.format, c.min-more.ensures, c.limit_of.ensures, length-take c.min-more.result c.args.chunk.now, zeros)
 
 pub returns : goal.returns
 returns c =
     let zeros : length c.copy.new.to ≡ 1034 = c.copy.auto.to ∙ length-replicate {A = ℕ} 1034 0 in
-    let least : c.smaller-more.result ≡ min (length c.args.chunk.now) (limit c.args.format) = c.smaller-more.ensures ∙ ap (min (length c.args.chunk.now)) c.limit_of.ensures in
-    let front : List ℕ = take c.smaller-more.result c.args.chunk.now in
-    let long : length front ≡ c.smaller-more.result = length-take-le c.smaller-more.result c.args.chunk.now (omega arith) in
+    let least : c.min-more.result ≡ min (length c.args.chunk.now) (limit c.args.format) = c.min-more.ensures ∙ ap (min (length c.args.chunk.now)) c.limit_of.ensures in
+    let front : List ℕ = take c.min-more.result c.args.chunk.now in
+    let long : length front ≡ c.min-more.result = length-take-le c.min-more.result c.args.chunk.now (omega arith) in
     let same : c.args.held.now ++ front ≡ joined c.args.format c.args.held.now c.args.chunk.now =
     ap (λ (l : List ℕ). c.args.held.now ++ l) (ap (λ (i : ℕ). take i c.args.chunk.now) least ∙ take_least c.args.chunk.now (limit c.args.format))
     in
     record {
       size = omega (arith, long, length-append c.args.held.now front, ap length same);
-      bytes = ap (take (length c.args.held.now + c.smaller-more.result)) (copied_at c.copy.new.to front _ (length c.args.held.now) (1034 - length c.args.held.now) (omega (arith, zeros))
+      bytes = ap (take (length c.args.held.now + c.min-more.result)) (copied_at c.copy.new.to front _ (length c.args.held.now) (1034 - length c.args.held.now) (omega (arith, zeros))
           c.copy-2.ensures.bytes
           ∙ ap (λ (d : List ℕ). paste d (length c.args.held.now) front (length front)) (copied _ c.args.held.now _ c.copy.ensures.bytes))
-          ∙ copies (replicate 1034 0) c.args.held.now front (length c.args.held.now) c.smaller-more.result refl long (omega (arith, limit_most c.args.format, length-replicate {A = ℕ} 1034 0)) ∙ same;
+          ∙ copies (replicate 1034 0) c.args.held.now front (length c.args.held.now) c.min-more.result refl long (omega (arith, limit_most c.args.format, length-replicate {A = ℕ} 1034 0)) ∙ same;
     }

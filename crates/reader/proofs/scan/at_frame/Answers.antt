@@ -7,4 +7,4 @@ use Rattle.reader.specs.declared.scan.ScanEnd.TheVariants.{Frame}
 use Rattle.reader.proofs.scan.at_frame.Goals as goal
 
 pub returns : goal.returns
-returns c = c.stopped.ensures ∙ ap (λ (far : ℕ). stopped_at c.args.place far (c.args.judged + c.args.used) (Frame c.args.used c.args.len)) c.larger-far.ensures
+returns c = c.stopped.ensures ∙ ap (λ (far : ℕ). stopped_at c.args.place far (c.args.judged + c.args.used) (Frame c.args.used c.args.len)) c.max-far.ensures

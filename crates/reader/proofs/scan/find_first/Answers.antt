@@ -74,7 +74,7 @@ counted-requires-clause-known_bound c =
     let one : judged_at c.args.format c.args.s.now ≡ 1 = ap (λ (v : Verdict). judged_as v c.args.s.now)
     (start_fails c.args.format c.args.s.now 0 (omega arith) (λ e. c.if-s-start_of.true (e ∙ sym c.start_of.ensures))) in
     let find-counts : c.find-found.result.judged ≡ judged_to c.args.format (judge c.args.format) c.args.s.now = c.find-found.ensures.judged_value ∙ sym (whole-count) in
-    let counts = find-counts in omega (arith, c.smaller.ensures, one, whole_first c.args.format (judge c.args.format) c.args.s.now)
+    let counts = find-counts in omega (arith, c.min.ensures, one, whole_first c.args.format (judge c.args.format) c.args.s.now)
 
 pub returns-then-s-start_of-clause-result_value : goal.returns-then-s-start_of-clause-result_value
 returns-then-s-start_of-clause-result_value c =
@@ -92,7 +92,7 @@ returns-then-s-start_of-clause-judged_value c =
     ∙ ap (λ (k : ℕ). scan_judged c.args.format (judging false c.args.format) k c.args.s.now) (sym (sub-zero (length c.args.s.now))) in
     let one : judged_at c.args.format c.args.s.now ≡ 1 = ap (λ (v : Verdict). judged_as v c.args.s.now)
     (start_fails c.args.format c.args.s.now 0 (omega arith) (λ e. c.if-s-start_of.true (e ∙ sym c.start_of.ensures))) in
-    let find-counts : c.find-found.result.judged ≡ judged_to c.args.format (judge c.args.format) c.args.s.now = c.find-found.ensures.judged_value ∙ sym (whole-count) in omega (arith, new-count c.args.format c.args.s.now c.find-found.result c.counted.result _ c.counted.ensures, find-counts, c.smaller.ensures, one)
+    let find-counts : c.find-found.result.judged ≡ judged_to c.args.format (judge c.args.format) c.args.s.now = c.find-found.ensures.judged_value ∙ sym (whole-count) in omega (arith, new-count c.args.format c.args.s.now c.find-found.result c.counted.result _ c.counted.ensures, find-counts, c.min.ensures, one)
 
 pub returns-then-s-start_of-clause-buf_after : goal.returns-then-s-start_of-clause-buf_after
 returns-then-s-start_of-clause-buf_after c =
@@ -104,7 +104,7 @@ returns-then-s-start_of-clause-buf_after c =
     let find-counts : c.find-found.result.judged ≡ judged_to c.args.format (judge c.args.format) c.args.s.now = c.find-found.ensures.judged_value ∙ sym (whole-count) in same-buffer c.args.format c.args.s.now c.find-found.result c.counted.result _ c.counted.ensures c.args.buf.now _ c.find-found.ensures.buf_after
 
 pub overflow_sub-size : goal.overflow_sub-size
-overflow_sub-size c = omega (arith, c.smaller-in-Undecided.ensures)
+overflow_sub-size c = omega (arith, c.min-in-Undecided.ensures)
 
 pub passed_by-requires : goal.passed_by-requires
 passed_by-requires c =
@@ -123,9 +123,9 @@ find-found-requires-in-Failed-clause-scannable c =
     let untouched : c.extract.new.buf ≡ c.args.buf.now = handed_out ∙ ap (λ (v : Verdict). in_front (payload_in v) c.args.buf.now) (failed) in
     let failed-inside : c.in-Failed.judged ≤ length c.args.s.now = let a = c.args in
     subst (λ (v : Verdict). judged_bytes v ≤ length a.s.now) (failed) (judged_there a.format a.s.now) in record {
-      onward = omega (arith, c.smaller-next.ensures);
+      onward = omega (arith, c.min-next.ensures);
       inside = omega arith;
-      reached = omega (arith, c.larger.ensures, failed-inside);
+      reached = omega (arith, c.max.ensures, failed-inside);
       short = c.requires.s_len_bound;
     }
 
@@ -149,10 +149,10 @@ failed_bytes-requires-clause-judged_bound c =
     let started : get_or c.args.s.now 0 0 ≡ start_of c.args.format = c.if-s-start_of.false ∙ c.start_of.ensures in
     let failed-inside : c.in-Failed.judged ≤ length c.args.s.now = let a = c.args in
     subst (λ (v : Verdict). judged_bytes v ≤ length a.s.now) (failed) (judged_there a.format a.s.now) in
-    let onward : (let a = c.args in c.smaller-next.result ≡ min (0 + passed_by a.format c.in-Failed.judged) (length a.s.now)) = let a = c.args in
-    c.smaller-next.ensures
+    let onward : (let a = c.args in c.min-next.result ≡ min (0 + passed_by a.format c.in-Failed.judged) (length a.s.now)) = let a = c.args in
+    c.min-next.ensures
     ∙ ap (λ (n : ℕ). min n (length a.s.now)) (c.passed_by.ensures ∙ sym (zero-add (passed_by a.format c.in-Failed.judged))) in
-    let behind-first : 1 ≤ c.smaller-next.result = let a = c.args in
+    let behind-first : 1 ≤ c.min-next.result = let a = c.args in
     let h = fails_over a.format a.s.now (length a.s.now) 0 _ _ (le_refl (length a.s.now)) (some) (started) (failed) in
     omega (arith, onward, h.0.onward) in omega (arith, failed-inside)
 
@@ -165,10 +165,10 @@ failed_bytes-requires-clause-le_places c =
     let started : get_or c.args.s.now 0 0 ≡ start_of c.args.format = c.if-s-start_of.false ∙ c.start_of.ensures in
     let failed-inside : c.in-Failed.judged ≤ length c.args.s.now = let a = c.args in
     subst (λ (v : Verdict). judged_bytes v ≤ length a.s.now) (failed) (judged_there a.format a.s.now) in
-    let onward : (let a = c.args in c.smaller-next.result ≡ min (0 + passed_by a.format c.in-Failed.judged) (length a.s.now)) = let a = c.args in
-    c.smaller-next.ensures
+    let onward : (let a = c.args in c.min-next.result ≡ min (0 + passed_by a.format c.in-Failed.judged) (length a.s.now)) = let a = c.args in
+    c.min-next.ensures
     ∙ ap (λ (n : ℕ). min n (length a.s.now)) (c.passed_by.ensures ∙ sym (zero-add (passed_by a.format c.in-Failed.judged))) in
-    let behind-first : 1 ≤ c.smaller-next.result = let a = c.args in
+    let behind-first : 1 ≤ c.min-next.result = let a = c.args in
     let h = fails_over a.format a.s.now (length a.s.now) 0 _ _ (le_refl (length a.s.now)) (some) (started) (failed) in
     omega (arith, onward, h.0.onward) in behind-first
 
@@ -181,10 +181,10 @@ failed_bytes-requires-clause-places_bound c =
     let started : get_or c.args.s.now 0 0 ≡ start_of c.args.format = c.if-s-start_of.false ∙ c.start_of.ensures in
     let failed-inside : c.in-Failed.judged ≤ length c.args.s.now = let a = c.args in
     subst (λ (v : Verdict). judged_bytes v ≤ length a.s.now) (failed) (judged_there a.format a.s.now) in
-    let onward : (let a = c.args in c.smaller-next.result ≡ min (0 + passed_by a.format c.in-Failed.judged) (length a.s.now)) = let a = c.args in
-    c.smaller-next.ensures
+    let onward : (let a = c.args in c.min-next.result ≡ min (0 + passed_by a.format c.in-Failed.judged) (length a.s.now)) = let a = c.args in
+    c.min-next.ensures
     ∙ ap (λ (n : ℕ). min n (length a.s.now)) (c.passed_by.ensures ∙ sym (zero-add (passed_by a.format c.in-Failed.judged))) in
-    let behind-first : 1 ≤ c.smaller-next.result = let a = c.args in
+    let behind-first : 1 ≤ c.min-next.result = let a = c.args in
     let h = fails_over a.format a.s.now (length a.s.now) 0 _ _ (le_refl (length a.s.now)) (some) (started) (failed) in
     omega (arith, onward, h.0.onward) in omega (arith, onward)
 
@@ -198,8 +198,8 @@ counted-requires-in-Failed-clause-more_bound c =
     let failed : (let a = c.args in judge a.format a.s.now ≡ refused c.in-Failed.judged (number_of c.in-Failed.refusal)) = verdict-is _ c.in-Failed.is in
     let some : 1 ≤ length c.args.s.now = omega arith in
     let started : get_or c.args.s.now 0 0 ≡ start_of c.args.format = c.if-s-start_of.false ∙ c.start_of.ensures in
-    let onward : (let a = c.args in c.smaller-next.result ≡ min (0 + passed_by a.format c.in-Failed.judged) (length a.s.now)) = let a = c.args in
-    c.smaller-next.ensures
+    let onward : (let a = c.args in c.min-next.result ≡ min (0 + passed_by a.format c.in-Failed.judged) (length a.s.now)) = let a = c.args in
+    c.min-next.ensures
     ∙ ap (λ (n : ℕ). min n (length a.s.now)) (c.passed_by.ensures ∙ sym (zero-add (passed_by a.format c.in-Failed.judged))) in
     let fail-counts : judged_to c.args.format (judge c.args.format) c.args.s.now ≡ c.find-found-in-Failed.result.judged + c.failed_bytes.result = let counts = count_fails false c.args.format c.args.s.now (length c.args.s.now) (le_refl (length c.args.s.now)) 0 c.in-Failed.judged _ (some) (started) (failed) in
     let there =
@@ -221,8 +221,8 @@ counted-requires-in-Failed-clause-known_bound c =
     let failed : (let a = c.args in judge a.format a.s.now ≡ refused c.in-Failed.judged (number_of c.in-Failed.refusal)) = verdict-is _ c.in-Failed.is in
     let some : 1 ≤ length c.args.s.now = omega arith in
     let started : get_or c.args.s.now 0 0 ≡ start_of c.args.format = c.if-s-start_of.false ∙ c.start_of.ensures in
-    let onward : (let a = c.args in c.smaller-next.result ≡ min (0 + passed_by a.format c.in-Failed.judged) (length a.s.now)) = let a = c.args in
-    c.smaller-next.ensures
+    let onward : (let a = c.args in c.min-next.result ≡ min (0 + passed_by a.format c.in-Failed.judged) (length a.s.now)) = let a = c.args in
+    c.min-next.ensures
     ∙ ap (λ (n : ℕ). min n (length a.s.now)) (c.passed_by.ensures ∙ sym (zero-add (passed_by a.format c.in-Failed.judged))) in
     let fail-counts : judged_to c.args.format (judge c.args.format) c.args.s.now ≡ c.find-found-in-Failed.result.judged + c.failed_bytes.result = let counts = count_fails false c.args.format c.args.s.now (length c.args.s.now) (le_refl (length c.args.s.now)) 0 c.in-Failed.judged _ (some) (started) (failed) in
     let there =
@@ -232,10 +232,10 @@ counted-requires-in-Failed-clause-known_bound c =
     in
     omega (arith, whole-count, there, c.find-found-in-Failed.ensures.judged_value, c.failed_bytes.ensures) in
     let counts = fail-counts in
-    let judged = judged-is _ c.in-Failed.is in omega (arith, c.smaller-in-Failed.ensures, whole_first c.args.format (judge c.args.format) c.args.s.now)
+    let judged = judged-is _ c.in-Failed.is in omega (arith, c.min-in-Failed.ensures, whole_first c.args.format (judge c.args.format) c.args.s.now)
 
 pub overflow_sub-total : goal.overflow_sub-total
-overflow_sub-total c = omega (arith, c.smaller-in-Frame.ensures)
+overflow_sub-total c = omega (arith, c.min-in-Frame.ensures)
 
 pub returns-in-Undecided-clause-result_value : goal.returns-in-Undecided-clause-result_value
 returns-in-Undecided-clause-result_value c =
@@ -263,7 +263,7 @@ returns-in-Undecided-clause-judged_value c =
     let e = verdict-is _ c.in-Undecided.is in omega (
       arith,
       ap (λ (y : ScanResult). y.judged) c.stopped-in-Undecided.ensures,
-      c.smaller-in-Undecided.ensures,
+      c.min-in-Undecided.ensures,
       judged-is _ c.in-Undecided.is,
       whole-count,
       count_undecided c.args.format (length c.args.s.now) 0 c.args.s.now (omega arith) e,
@@ -296,8 +296,8 @@ returns-in-Failed-clause-result_value c =
     let untouched : c.extract.new.buf ≡ c.args.buf.now = handed_out ∙ ap (λ (v : Verdict). in_front (payload_in v) c.args.buf.now) (failed) in
     let some : 1 ≤ length c.args.s.now = omega arith in
     let started : get_or c.args.s.now 0 0 ≡ start_of c.args.format = c.if-s-start_of.false ∙ c.start_of.ensures in
-    let onward : (let a = c.args in c.smaller-next.result ≡ min (0 + passed_by a.format c.in-Failed.judged) (length a.s.now)) = let a = c.args in
-    c.smaller-next.ensures
+    let onward : (let a = c.args in c.min-next.result ≡ min (0 + passed_by a.format c.in-Failed.judged) (length a.s.now)) = let a = c.args in
+    c.min-next.ensures
     ∙ ap (λ (n : ℕ). min n (length a.s.now)) (c.passed_by.ensures ∙ sym (zero-add (passed_by a.format c.in-Failed.judged))) in
     let fail-counts : judged_to c.args.format (judge c.args.format) c.args.s.now ≡ c.find-found-in-Failed.result.judged + c.failed_bytes.result = let counts = count_fails false c.args.format c.args.s.now (length c.args.s.now) (le_refl (length c.args.s.now)) 0 c.in-Failed.judged _ (some) (started) (failed) in
     let there =
@@ -307,9 +307,9 @@ returns-in-Failed-clause-result_value c =
     in
     omega (arith, whole-count, there, c.find-found-in-Failed.ensures.judged_value, c.failed_bytes.ensures) in
     let to = min (0 + passed_by c.args.format c.in-Failed.judged) (length c.args.s.now) in
-    let far : c.larger.result ≡ max c.args.reach (0 + c.in-Failed.judged) = c.larger.ensures ∙ ap (max c.args.reach) (sym (zero-add c.in-Failed.judged)) in same_stop c.args.format c.args.s.now c.find-found-in-Failed.result c.counted-in-Failed.result _ c.counted-in-Failed.ensures _
+    let far : c.max.result ≡ max c.args.reach (0 + c.in-Failed.judged) = c.max.ensures ∙ ap (max c.args.reach) (sym (zero-add c.in-Failed.judged)) in same_stop c.args.format c.args.s.now c.find-found-in-Failed.result c.counted-in-Failed.result _ c.counted-in-Failed.ensures _
     (c.find-found-in-Failed.ensures.result_value
-    ∙ ap (λ (n : ℕ). scan_from (judging false c.args.format) (length c.args.s.now - n) n c.larger.result (drop n c.args.s.now)) (onward)
+    ∙ ap (λ (n : ℕ). scan_from (judging false c.args.format) (length c.args.s.now - n) n c.max.result (drop n c.args.s.now)) (onward)
     ∙ ap (λ (n : ℕ). scan_from (judging false c.args.format) (length c.args.s.now - to) to n (drop to c.args.s.now)) far
     ∙ sym (scan_fails false c.args.format c.args.s.now (length c.args.s.now) (le_refl (length c.args.s.now)) 0 c.args.reach c.in-Failed.judged _ (some) (started) (failed))
     ∙ whole)
@@ -328,8 +328,8 @@ returns-in-Failed-clause-judged_value c =
     let untouched : c.extract.new.buf ≡ c.args.buf.now = handed_out ∙ ap (λ (v : Verdict). in_front (payload_in v) c.args.buf.now) (failed) in
     let some : 1 ≤ length c.args.s.now = omega arith in
     let started : get_or c.args.s.now 0 0 ≡ start_of c.args.format = c.if-s-start_of.false ∙ c.start_of.ensures in
-    let onward : (let a = c.args in c.smaller-next.result ≡ min (0 + passed_by a.format c.in-Failed.judged) (length a.s.now)) = let a = c.args in
-    c.smaller-next.ensures
+    let onward : (let a = c.args in c.min-next.result ≡ min (0 + passed_by a.format c.in-Failed.judged) (length a.s.now)) = let a = c.args in
+    c.min-next.ensures
     ∙ ap (λ (n : ℕ). min n (length a.s.now)) (c.passed_by.ensures ∙ sym (zero-add (passed_by a.format c.in-Failed.judged))) in
     let fail-counts : judged_to c.args.format (judge c.args.format) c.args.s.now ≡ c.find-found-in-Failed.result.judged + c.failed_bytes.result = let counts = count_fails false c.args.format c.args.s.now (length c.args.s.now) (le_refl (length c.args.s.now)) 0 c.in-Failed.judged _ (some) (started) (failed) in
     let there =
@@ -339,11 +339,11 @@ returns-in-Failed-clause-judged_value c =
     in
     omega (arith, whole-count, there, c.find-found-in-Failed.ensures.judged_value, c.failed_bytes.ensures) in
     let to = min (0 + passed_by c.args.format c.in-Failed.judged) (length c.args.s.now) in
-    let far : c.larger.result ≡ max c.args.reach (0 + c.in-Failed.judged) = c.larger.ensures ∙ ap (max c.args.reach) (sym (zero-add c.in-Failed.judged)) in omega (
+    let far : c.max.result ≡ max c.args.reach (0 + c.in-Failed.judged) = c.max.ensures ∙ ap (max c.args.reach) (sym (zero-add c.in-Failed.judged)) in omega (
       arith,
       new-count c.args.format c.args.s.now c.find-found-in-Failed.result c.counted-in-Failed.result _ c.counted-in-Failed.ensures,
       fail-counts,
-      c.smaller-in-Failed.ensures,
+      c.min-in-Failed.ensures,
       judged-is _ c.in-Failed.is,
     )
 
@@ -361,8 +361,8 @@ returns-in-Failed-clause-buf_after c =
     let untouched : c.extract.new.buf ≡ c.args.buf.now = handed_out ∙ ap (λ (v : Verdict). in_front (payload_in v) c.args.buf.now) (failed) in
     let some : 1 ≤ length c.args.s.now = omega arith in
     let started : get_or c.args.s.now 0 0 ≡ start_of c.args.format = c.if-s-start_of.false ∙ c.start_of.ensures in
-    let onward : (let a = c.args in c.smaller-next.result ≡ min (0 + passed_by a.format c.in-Failed.judged) (length a.s.now)) = let a = c.args in
-    c.smaller-next.ensures
+    let onward : (let a = c.args in c.min-next.result ≡ min (0 + passed_by a.format c.in-Failed.judged) (length a.s.now)) = let a = c.args in
+    c.min-next.ensures
     ∙ ap (λ (n : ℕ). min n (length a.s.now)) (c.passed_by.ensures ∙ sym (zero-add (passed_by a.format c.in-Failed.judged))) in
     let fail-counts : judged_to c.args.format (judge c.args.format) c.args.s.now ≡ c.find-found-in-Failed.result.judged + c.failed_bytes.result = let counts = count_fails false c.args.format c.args.s.now (length c.args.s.now) (le_refl (length c.args.s.now)) 0 c.in-Failed.judged _ (some) (started) (failed) in
     let there =
@@ -372,7 +372,7 @@ returns-in-Failed-clause-buf_after c =
     in
     omega (arith, whole-count, there, c.find-found-in-Failed.ensures.judged_value, c.failed_bytes.ensures) in
     let to = min (0 + passed_by c.args.format c.in-Failed.judged) (length c.args.s.now) in
-    let far : c.larger.result ≡ max c.args.reach (0 + c.in-Failed.judged) = c.larger.ensures ∙ ap (max c.args.reach) (sym (zero-add c.in-Failed.judged)) in same-buffer c.args.format c.args.s.now c.find-found-in-Failed.result c.counted-in-Failed.result _ c.counted-in-Failed.ensures c.args.buf.now _
+    let far : c.max.result ≡ max c.args.reach (0 + c.in-Failed.judged) = c.max.ensures ∙ ap (max c.args.reach) (sym (zero-add c.in-Failed.judged)) in same-buffer c.args.format c.args.s.now c.find-found-in-Failed.result c.counted-in-Failed.result _ c.counted-in-Failed.ensures c.args.buf.now _
     (c.find-found-in-Failed.ensures.buf_after ∙ ap (stop_buffer (scanned c.args.format c.args.s.now c.find-found-in-Failed.result).stop) (untouched))
 
 pub returns-in-Frame-clause-result_value : goal.returns-in-Frame-clause-result_value
@@ -387,7 +387,7 @@ returns-in-Frame-clause-result_value c =
     let judged-is : (r : Judged) → c.extract.result ≡ r → let a = c.args in judged_at a.format a.s.now ≡ judged_as (verdict_of a.format a.s.now r) a.s.now = λ r e. ap (λ (v : Verdict). judged_as v c.args.s.now) (verdict-is r e) in
     let p = payload_at c.args.format c.args.s.now c.in-Frame.len in
     let e = verdict-is _ c.in-Frame.is in ap (scanned c.args.format c.args.s.now) c.stopped-in-Frame.ensures
-    ∙ ap (λ (n : ℕ). scanned_to 0 n (found c.in-Frame.used p)) (c.larger-in-Frame.ensures ∙ ap (max c.args.reach) (sym (zero-add c.in-Frame.used)))
+    ∙ ap (λ (n : ℕ). scanned_to 0 n (found c.in-Frame.used p)) (c.max-in-Frame.ensures ∙ ap (max c.args.reach) (sym (zero-add c.in-Frame.used)))
     ∙ sym (step_frame false c.args.format (length c.args.s.now) 0 c.args.reach c.args.s.now (omega arith) c.in-Frame.used p e)
     ∙ whole
 
@@ -405,7 +405,7 @@ returns-in-Frame-clause-judged_value c =
     let e = verdict-is _ c.in-Frame.is in omega (
       arith,
       ap (λ (y : ScanResult). y.judged) c.stopped-in-Frame.ensures,
-      c.smaller-in-Frame.ensures,
+      c.min-in-Frame.ensures,
       judged-is _ c.in-Frame.is,
       whole-count,
       count_frame false c.args.format (length c.args.s.now) 0 c.args.s.now (omega arith) c.in-Frame.used p e,

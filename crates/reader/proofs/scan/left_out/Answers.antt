@@ -20,7 +20,7 @@ returns-then-found-eq0-clause-value c =
     in
     let stays : 1 ≤ c.requires.places → scan_judged c.args.format judgement c.requires.places c.args.s.now ≡ judged_at c.args.format c.args.s.now =
     λ l. count_stays judgement c.requires.reached c.args.s.now c.args.format c.requires.places l first
-    in ⊎_elim (λ l. omega (arith, c.smaller.ensures, c.requires.few)) (λ l. omega (arith, c.smaller.ensures, c.requires.counts, stays l)) (le_or_lt c.requires.places 0)
+    in ⊎_elim (λ l. omega (arith, c.min.ensures, c.requires.few)) (λ l. omega (arith, c.min.ensures, c.requires.counts, stays l)) (le_or_lt c.requires.places 0)
 
 pub returns-then-found-eq0-clause-buf_unchanged : goal.returns-then-found-eq0-clause-buf_unchanged
 returns-then-found-eq0-clause-buf_unchanged c =

@@ -7,11 +7,13 @@ use lib.ListN.{get_or}
 use Rattle.reader.specs.Scan.{start_of, other, same, Skips}
 use Rattle.reader.proofs.Skipping.{Starts, starts_run, scan_skips, scan_starts}
 use Rattle.reader.proofs.Counting.{count_skips, count_starts}
+use borrow.Author.Rules.{rules}
 use Rattle.reader.proofs.scan.pass_over.Goals as goal
 
 pub returns-then-s-from : goal.returns-then-s-from
 returns-then-s-from c =
-    let h : Skips (other (start_of c.args.format)) c.args.s.now (c.args.from + 1) c.args.stop c.skip-place.result = rw c.requires.start_value at c.skip-place.ensures in
+    let h : Skips (other (start_of c.args.format)) c.args.s.now (c.args.from + 1) c.args.stop c.skip-place.result =
+    rw c.requires.start_value at (c.skip-place.ensures.passed (other c.args.start) (λ b r l h. search rules)) in
     let none : get_or c.args.s.now c.args.from 0 ≡ start_of c.args.format → ⊥ = λ e. c.if-s-from.true (e ∙ sym c.requires.start_value) in
     record {
       onward = omega (arith, h.onward);
@@ -24,9 +26,10 @@ returns-then-s-from c =
 
 pub returns : goal.returns
 returns c =
-    let starts : Starts c.args.format c.args.s.now c.args.stop c.args.from c.larger-place.result = let run : Skips (same (start_of c.args.format)) c.args.s.now (c.args.from + 1) c.args.stop c.run_end.result = rw c.requires.start_value at c.run_end.ensures in
+    let starts : Starts c.args.format c.args.s.now c.args.stop c.args.from c.max-place.result = let run : Skips (same (start_of c.args.format)) c.args.s.now (c.args.from + 1) c.args.stop c.skip.result =
+    rw c.requires.start_value at (c.skip.ensures.passed (same c.args.start) (λ b r l h. search rules)) in
     let doubled = c.requires.may_start.doubled refl c.if-s-from.false in
-    subst (Starts c.args.format c.args.s.now c.args.stop c.args.from) (sym c.larger-place.ensures)
+    subst (Starts c.args.format c.args.s.now c.args.stop c.args.from) (sym c.max-place.ensures)
     (starts_run c.args.format c.args.s.now c.args.stop c.args.from _ c.requires.scannable.inside c.requires.from_lt_stop (c.if-s-from.false ∙ c.requires.start_value)
     (doubled.0, doubled.1 ∙ c.requires.start_value) run) in
     let h = starts in
@@ -35,6 +38,6 @@ returns c =
       inside = h.inside;
       there = omega (arith, h.there);
       few = omega (arith, h.there);
-      scans = λ ended far. scan_starts ended c.args.format c.args.s.now c.args.stop c.larger-place.result c.args.from far h;
-      counts = λ ended. count_starts ended c.args.format c.args.s.now c.args.stop c.larger-place.result c.args.from h;
+      scans = λ ended far. scan_starts ended c.args.format c.args.s.now c.args.stop c.max-place.result c.args.from far h;
+      counts = λ ended. count_starts ended c.args.format c.args.s.now c.args.stop c.max-place.result c.args.from h;
     }

@@ -48,7 +48,7 @@ loop-place-smaller-then-not-may_start c = omega (arith, c.pass_over-step.ensures
 pub loop-place-preserved-then-not-may_start : goal.loop-place-preserved-then-not-may_start
 loop-place-preserved-then-not-may_start c = (
   c.pass_over-step.ensures.inside,
-  ap (λ (far : ℕ). scan_from (judging c.args.ended c.args.format) (c.args.stop - c.pass_over-step.result.place) c.pass_over-step.result.place far (drop c.pass_over-step.result.place c.args.s.now)) c.larger-far.ensures
+  ap (λ (far : ℕ). scan_from (judging c.args.ended c.args.format) (c.args.stop - c.pass_over-step.result.place) c.pass_over-step.result.place far (drop c.pass_over-step.result.place c.args.s.now)) c.max-far.ensures
       ∙ sym (c.pass_over-step.ensures.scans c.args.ended c.loop-place.far)
       ∙ c.loop-place.invariant.1,
   omega (arith, c.pass_over-step.ensures.counts c.args.ended, c.loop-place.invariant.2),
@@ -120,7 +120,7 @@ loop-place-preserved-in-Undecided c =
     let q = verdict-is _ c.in-Undecided.is in
     let is : c.args.ended ≡ true = c.if-not-ended.false in (
       omega arith,
-      ap (next c.args.ended) c.larger-far-in-Undecided.ensures
+      ap (next c.args.ended) c.max-far-in-Undecided.ensures
           ∙ ap (λ (e : Bool). next e (max c.loop-place.far c.loop-place.place)) is
           ∙ sym (step_ended c.args.format c.args.stop c.loop-place.place c.loop-place.far c.args.s.now (before-stop) q)
           ∙ ap here (sym is)
@@ -190,7 +190,7 @@ overflow_sub-next c =
     let started : get_or c.args.s.now c.loop-place.place 0 ≡ start_of c.args.format = c.may_start.ensures.starts c.if-not-may_start.false ∙ c.start_of-start.ensures in
     let over : (let a = c.args in let place = c.loop-place.place in Skips (other (start_of a.format)) a.s.now (place + 1) a.stop (min (place + passed_by a.format c.in-Failed.judged) a.stop) × (passed_by a.format c.in-Failed.judged ≤ c.in-Failed.judged)) = let a = c.args in
     fails_over a.format a.s.now a.stop c.loop-place.place _ _ (omega arith) (before-stop) (started) (failed) in
-    let onward : (let a = c.args in c.smaller-next.result ≡ min (c.loop-place.place + passed_by a.format c.in-Failed.judged) a.stop) = c.smaller-next.ensures ∙ ap (λ (n : ℕ). min (c.loop-place.place + n) c.args.stop) c.passed_by.ensures in
+    let onward : (let a = c.args in c.min-next.result ≡ min (c.loop-place.place + passed_by a.format c.in-Failed.judged) a.stop) = c.min-next.ensures ∙ ap (λ (n : ℕ). min (c.loop-place.place + n) c.args.stop) c.passed_by.ensures in
     omega (arith, onward, (over).0.onward)
 
 pub failed_bytes-total-requires-clause-judged_bound : goal.failed_bytes-total-requires-clause-judged_bound
@@ -211,7 +211,7 @@ failed_bytes-total-requires-clause-judged_bound c =
     let started : get_or c.args.s.now c.loop-place.place 0 ≡ start_of c.args.format = c.may_start.ensures.starts c.if-not-may_start.false ∙ c.start_of-start.ensures in
     let over : (let a = c.args in let place = c.loop-place.place in Skips (other (start_of a.format)) a.s.now (place + 1) a.stop (min (place + passed_by a.format c.in-Failed.judged) a.stop) × (passed_by a.format c.in-Failed.judged ≤ c.in-Failed.judged)) = let a = c.args in
     fails_over a.format a.s.now a.stop c.loop-place.place _ _ (omega arith) (before-stop) (started) (failed) in
-    let onward : (let a = c.args in c.smaller-next.result ≡ min (c.loop-place.place + passed_by a.format c.in-Failed.judged) a.stop) = c.smaller-next.ensures ∙ ap (λ (n : ℕ). min (c.loop-place.place + n) c.args.stop) c.passed_by.ensures in omega (arith, failed-inside)
+    let onward : (let a = c.args in c.min-next.result ≡ min (c.loop-place.place + passed_by a.format c.in-Failed.judged) a.stop) = c.min-next.ensures ∙ ap (λ (n : ℕ). min (c.loop-place.place + n) c.args.stop) c.passed_by.ensures in omega (arith, failed-inside)
 
 pub failed_bytes-total-requires-clause-le_places : goal.failed_bytes-total-requires-clause-le_places
 failed_bytes-total-requires-clause-le_places c =
@@ -231,7 +231,7 @@ failed_bytes-total-requires-clause-le_places c =
     let started : get_or c.args.s.now c.loop-place.place 0 ≡ start_of c.args.format = c.may_start.ensures.starts c.if-not-may_start.false ∙ c.start_of-start.ensures in
     let over : (let a = c.args in let place = c.loop-place.place in Skips (other (start_of a.format)) a.s.now (place + 1) a.stop (min (place + passed_by a.format c.in-Failed.judged) a.stop) × (passed_by a.format c.in-Failed.judged ≤ c.in-Failed.judged)) = let a = c.args in
     fails_over a.format a.s.now a.stop c.loop-place.place _ _ (omega arith) (before-stop) (started) (failed) in
-    let onward : (let a = c.args in c.smaller-next.result ≡ min (c.loop-place.place + passed_by a.format c.in-Failed.judged) a.stop) = c.smaller-next.ensures ∙ ap (λ (n : ℕ). min (c.loop-place.place + n) c.args.stop) c.passed_by.ensures in omega (arith, onward, (over).0.onward)
+    let onward : (let a = c.args in c.min-next.result ≡ min (c.loop-place.place + passed_by a.format c.in-Failed.judged) a.stop) = c.min-next.ensures ∙ ap (λ (n : ℕ). min (c.loop-place.place + n) c.args.stop) c.passed_by.ensures in omega (arith, onward, (over).0.onward)
 
 pub failed_bytes-total-requires-clause-places_bound : goal.failed_bytes-total-requires-clause-places_bound
 failed_bytes-total-requires-clause-places_bound c =
@@ -251,7 +251,7 @@ failed_bytes-total-requires-clause-places_bound c =
     let started : get_or c.args.s.now c.loop-place.place 0 ≡ start_of c.args.format = c.may_start.ensures.starts c.if-not-may_start.false ∙ c.start_of-start.ensures in
     let over : (let a = c.args in let place = c.loop-place.place in Skips (other (start_of a.format)) a.s.now (place + 1) a.stop (min (place + passed_by a.format c.in-Failed.judged) a.stop) × (passed_by a.format c.in-Failed.judged ≤ c.in-Failed.judged)) = let a = c.args in
     fails_over a.format a.s.now a.stop c.loop-place.place _ _ (omega arith) (before-stop) (started) (failed) in
-    let onward : (let a = c.args in c.smaller-next.result ≡ min (c.loop-place.place + passed_by a.format c.in-Failed.judged) a.stop) = c.smaller-next.ensures ∙ ap (λ (n : ℕ). min (c.loop-place.place + n) c.args.stop) c.passed_by.ensures in omega (arith, onward)
+    let onward : (let a = c.args in c.min-next.result ≡ min (c.loop-place.place + passed_by a.format c.in-Failed.judged) a.stop) = c.min-next.ensures ∙ ap (λ (n : ℕ). min (c.loop-place.place + n) c.args.stop) c.passed_by.ensures in omega (arith, onward)
 
 pub overflow_add-total-in-Failed : goal.overflow_add-total-in-Failed
 overflow_add-total-in-Failed c =
@@ -264,11 +264,11 @@ overflow_add-total-in-Failed c =
     let before-stop : c.loop-place.place < c.args.stop = c.loop-place-test.true in
     let failed : (let a = c.args in let place = c.loop-place.place in judge a.format (drop place a.s.now) ≡ refused c.in-Failed.judged (number_of c.in-Failed.refusal)) = verdict-is _ c.in-Failed.is in
     let started : get_or c.args.s.now c.loop-place.place 0 ≡ start_of c.args.format = c.may_start.ensures.starts c.if-not-may_start.false ∙ c.start_of-start.ensures in
-    let onward : (let a = c.args in c.smaller-next.result ≡ min (c.loop-place.place + passed_by a.format c.in-Failed.judged) a.stop) = c.smaller-next.ensures ∙ ap (λ (n : ℕ). min (c.loop-place.place + n) c.args.stop) c.passed_by.ensures in
-    let fail-counts : left ≡ c.failed_bytes-total.result + scan_judged c.args.format (judging c.args.ended c.args.format) (c.args.stop - c.smaller-next.result) (drop c.smaller-next.result c.args.s.now) = let rest : ℕ → ℕ = λ to. scan_judged c.args.format (judging c.args.ended c.args.format) (c.args.stop - to) (drop to c.args.s.now) in
+    let onward : (let a = c.args in c.min-next.result ≡ min (c.loop-place.place + passed_by a.format c.in-Failed.judged) a.stop) = c.min-next.ensures ∙ ap (λ (n : ℕ). min (c.loop-place.place + n) c.args.stop) c.passed_by.ensures in
+    let fail-counts : left ≡ c.failed_bytes-total.result + scan_judged c.args.format (judging c.args.ended c.args.format) (c.args.stop - c.min-next.result) (drop c.min-next.result c.args.s.now) = let rest : ℕ → ℕ = λ to. scan_judged c.args.format (judging c.args.ended c.args.format) (c.args.stop - to) (drop to c.args.s.now) in
     count_fails c.args.ended c.args.format c.args.s.now c.args.stop c.requires.inside c.loop-place.place c.in-Failed.judged _ (before-stop) (started) (failed)
     ∙ ap (λ (to : ℕ). c.in-Failed.judged + (to - c.loop-place.place - 1) + rest to) (sym (onward))
-    ∙ ap (λ (n : ℕ). n + rest c.smaller-next.result) (sym c.failed_bytes-total.ensures) in
+    ∙ ap (λ (n : ℕ). n + rest c.min-next.result) (sym c.failed_bytes-total.ensures) in
     omega (arith, few, fail-counts)
 
 pub loop-place-smaller : goal.loop-place-smaller
@@ -282,7 +282,7 @@ loop-place-smaller c =
     let started : get_or c.args.s.now c.loop-place.place 0 ≡ start_of c.args.format = c.may_start.ensures.starts c.if-not-may_start.false ∙ c.start_of-start.ensures in
     let over : (let a = c.args in let place = c.loop-place.place in Skips (other (start_of a.format)) a.s.now (place + 1) a.stop (min (place + passed_by a.format c.in-Failed.judged) a.stop) × (passed_by a.format c.in-Failed.judged ≤ c.in-Failed.judged)) = let a = c.args in
     fails_over a.format a.s.now a.stop c.loop-place.place _ _ (omega arith) (before-stop) (started) (failed) in
-    let onward : (let a = c.args in c.smaller-next.result ≡ min (c.loop-place.place + passed_by a.format c.in-Failed.judged) a.stop) = c.smaller-next.ensures ∙ ap (λ (n : ℕ). min (c.loop-place.place + n) c.args.stop) c.passed_by.ensures in
+    let onward : (let a = c.args in c.min-next.result ≡ min (c.loop-place.place + passed_by a.format c.in-Failed.judged) a.stop) = c.min-next.ensures ∙ ap (λ (n : ℕ). min (c.loop-place.place + n) c.args.stop) c.passed_by.ensures in
     omega (arith, onward, (over).0.onward)
 
 pub loop-place-preserved : goal.loop-place-preserved
@@ -295,15 +295,15 @@ loop-place-preserved c =
     let before-stop : c.loop-place.place < c.args.stop = c.loop-place-test.true in
     let failed : (let a = c.args in let place = c.loop-place.place in judge a.format (drop place a.s.now) ≡ refused c.in-Failed.judged (number_of c.in-Failed.refusal)) = verdict-is _ c.in-Failed.is in
     let started : get_or c.args.s.now c.loop-place.place 0 ≡ start_of c.args.format = c.may_start.ensures.starts c.if-not-may_start.false ∙ c.start_of-start.ensures in
-    let onward : (let a = c.args in c.smaller-next.result ≡ min (c.loop-place.place + passed_by a.format c.in-Failed.judged) a.stop) = c.smaller-next.ensures ∙ ap (λ (n : ℕ). min (c.loop-place.place + n) c.args.stop) c.passed_by.ensures in
-    let fail-counts : left ≡ c.failed_bytes-total.result + scan_judged c.args.format (judging c.args.ended c.args.format) (c.args.stop - c.smaller-next.result) (drop c.smaller-next.result c.args.s.now) = let rest : ℕ → ℕ = λ to. scan_judged c.args.format (judging c.args.ended c.args.format) (c.args.stop - to) (drop to c.args.s.now) in
+    let onward : (let a = c.args in c.min-next.result ≡ min (c.loop-place.place + passed_by a.format c.in-Failed.judged) a.stop) = c.min-next.ensures ∙ ap (λ (n : ℕ). min (c.loop-place.place + n) c.args.stop) c.passed_by.ensures in
+    let fail-counts : left ≡ c.failed_bytes-total.result + scan_judged c.args.format (judging c.args.ended c.args.format) (c.args.stop - c.min-next.result) (drop c.min-next.result c.args.s.now) = let rest : ℕ → ℕ = λ to. scan_judged c.args.format (judging c.args.ended c.args.format) (c.args.stop - to) (drop to c.args.s.now) in
     count_fails c.args.ended c.args.format c.args.s.now c.args.stop c.requires.inside c.loop-place.place c.in-Failed.judged _ (before-stop) (started) (failed)
     ∙ ap (λ (to : ℕ). c.in-Failed.judged + (to - c.loop-place.place - 1) + rest to) (sym (onward))
-    ∙ ap (λ (n : ℕ). n + rest c.smaller-next.result) (sym c.failed_bytes-total.ensures) in
+    ∙ ap (λ (n : ℕ). n + rest c.min-next.result) (sym c.failed_bytes-total.ensures) in
     let to = min (c.loop-place.place + passed_by c.args.format c.in-Failed.judged) c.args.stop in (
       omega (arith, onward),
-      ap (λ (n : ℕ). scan_from (judging c.args.ended c.args.format) (c.args.stop - n) n c.larger-far-in-Failed.result (drop n c.args.s.now)) (onward)
-          ∙ ap (λ (far : ℕ). scan_from (judging c.args.ended c.args.format) (c.args.stop - to) to far (drop to c.args.s.now)) c.larger-far-in-Failed.ensures
+      ap (λ (n : ℕ). scan_from (judging c.args.ended c.args.format) (c.args.stop - n) n c.max-far-in-Failed.result (drop n c.args.s.now)) (onward)
+          ∙ ap (λ (far : ℕ). scan_from (judging c.args.ended c.args.format) (c.args.stop - to) to far (drop to c.args.s.now)) c.max-far-in-Failed.ensures
           ∙ sym (scan_fails c.args.ended c.args.format c.args.s.now c.args.stop c.requires.inside c.loop-place.place c.loop-place.far c.in-Failed.judged _
           (before-stop) (started) (failed))
           ∙ c.loop-place.invariant.1,

@@ -1,9 +1,7 @@
-use Prim.Native.Nat.{◌-◌}
-use Rattle.reader.specs.Scan.{other, Skips}
+use Prim.Native.Nat.{ℕ}
+use mathlib.Core.Bool.{Bool}
+use Rattle.reader.specs.Scan.{Tests, Skips}
 use Rattle.reader.proofs.scan.skip.Given as goal
 
-abbrev pub invariant-loop-at : goal.invariant-loop-at
-invariant-loop-at l = Skips (other l.b) l.s l.from l.stop l.at
-
-abbrev pub decreases-loop-at : goal.decreases-loop-at
-decreases-loop-at l = l.stop - l.at
+abbrev pub invariant-loop-place : goal.invariant-loop-place
+invariant-loop-place g l = (test : ℕ → Bool) → Tests g.F.Fn l.passes test → Skips test l.s l.from l.stop l.place

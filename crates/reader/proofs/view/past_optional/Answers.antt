@@ -42,5 +42,5 @@ overflow_add-next c =
 
 pub returns : goal.returns
 returns c =
-    past_marked c.args.view c.args.chunk.now _ c.absorbed-first.result c.larger.result c.judged_behind.result
-    (not-false _ c.if-not-view.false) c.absorbed-first.ensures (take_rest c.args.chunk.now c.args.view.from) c.larger.ensures c.judged_behind.ensures
+    past_marked c.args.view c.args.chunk.now _ c.absorbed-first.result c.max.result c.judged_behind.result
+    (not-false _ c.if-not-view.false) c.absorbed-first.ensures (take_rest c.args.chunk.now c.args.view.from) c.max.ensures c.judged_behind.ensures
