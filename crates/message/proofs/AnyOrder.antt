@@ -1,5 +1,6 @@
 -- Options are read in any order: what is read so far is the options restricted to those whose groups are read, and each group adds its own.
 -- Assumes nothing.
+use Rattle.std.specs.Prelude.{None}
 use Prim.Native.Nat.{ℕ}
 use native.Mathlib.Omega.{arith}
 use mathlib.Core.Path.{◌≡◌, refl, sym, ap, subst, fun_ext, ◌∙◌}
@@ -17,8 +18,6 @@ use borrow.Author.Tests.{eqb-false, ne_eqb}
 use Rattle.message.specs.Options.{no_options, option_bytes, option_groups, option_string, flag_bytes, retry_bytes, word_bytes, retry_allowed}
 use Rattle.message.specs.Claims.{OptionsFit}
 use Rattle.message.specs.AnyOrder.{sheet_options, sheet_groups, AnyOrderIsRead}
-use Rattle.message.specs.declared.options.MaybeByte.TheVariants.{NotGiven as NoByte}
-use Rattle.message.specs.declared.options.MaybeWord.TheVariants.{NotGiven as NoWord}
 use Rattle.message.specs.declared.options.Options.{Options}
 use Rattle.message.proofs.OptionStrings.{at_end}
 use Rattle.message.proofs.OptionRoundTrip.{with, Takes, Ends, and_then}
@@ -69,10 +68,10 @@ abbrev part : Options → Mask → Options
 part o m =
     with
     (m ack && o.mac_ack)
-    (cond (m retries) o.retries NoByte)
-    (cond (m lower) o.lower_delay NoWord)
-    (cond (m upper) o.upper_delay NoWord)
-    (cond (m interval) o.interval NoWord)
+    (cond (m retries) o.retries None)
+    (cond (m lower) o.lower_delay None)
+    (cond (m upper) o.upper_delay None)
+    (cond (m interval) o.interval None)
     (m parallel && o.parallel)
     (m silent && o.no_response)
     (m sleep && o.sleep)

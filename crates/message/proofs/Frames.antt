@@ -1,5 +1,6 @@
 -- The frame of every message reads back as the message's payload, in every format of its framing.
 -- Assumes nothing.
+use Rattle.std.specs.Prelude.{Option, Some, None}
 use Prim.Native.Nat.{ℕ, zero, suc, ◌/◌, ◌%◌, ◌≤◌, ◌<◌}
 use mathlib.Core.Path.{◌≡◌, ap, subst, ◌∙◌}
 use mathlib.Core.List.{List, [], ◌∷◌, ◌++◌, append-nil, flatten}
@@ -25,10 +26,6 @@ use Rattle.message.specs.Options.{flag_bytes, retry_bytes, word_bytes, option_by
 use Rattle.message.specs.FromModule.{outcome_byte, delivery_layout, notice_layout}
 use Rattle.message.specs.Claims.{ByteFits, OptionsFit, AddressFits, SimpleFits, RequestFits, OrderFits, DeliveryFits, ReportFits, NoticeFits}
 use Rattle.message.specs.Claims.{Kind, requests, orders, deliveries, notices, family, FrameReadsBack}
-use Rattle.message.specs.declared.options.MaybeByte.{MaybeByte}
-use Rattle.message.specs.declared.options.MaybeByte.TheVariants.{NotGiven as NoByte, Given as Byte}
-use Rattle.message.specs.declared.options.MaybeWord.{MaybeWord}
-use Rattle.message.specs.declared.options.MaybeWord.TheVariants.{NotGiven as NoWord, Given as Word}
 use Rattle.message.specs.declared.options.Options.{Options}
 use Rattle.message.specs.declared.to_module.Address.{Address}
 use Rattle.message.specs.declared.to_module.Address.TheVariants.{Plain, Extended as ExtendedAddress}
@@ -86,13 +83,13 @@ flag_fits : (id : ℕ) → id < 256 → (b : Bool) → Fits (flag_bytes id b)
 flag_fits id h true = byte h end
 flag_fits id h false = end
 
-retry_fits : (r : MaybeByte) → ByteFits r → Fits (retry_bytes r)
-retry_fits NoByte h = end
-retry_fits (Byte b) h = byte (lit< tt) (byte h end)
+retry_fits : (r : Option ℕ) → ByteFits r → Fits (retry_bytes r)
+retry_fits None h = end
+retry_fits (Some b) h = byte (lit< tt) (byte h end)
 
-word_fits : (id : ℕ) → id < 256 → (w : MaybeWord) → Fits (word_bytes id w)
-word_fits id h NoWord = end
-word_fits id h (Word v) = byte h (word v end)
+word_fits : (id : ℕ) → id < 256 → (w : Option ℕ) → Fits (word_bytes id w)
+word_fits id h None = end
+word_fits id h (Some v) = byte h (word v end)
 
 option_fits : (o : Options) → OptionsFit o → Fits (option_bytes o)
 unfolding option_bytes

@@ -1,9 +1,8 @@
 -- Laws that belong to no one function, and the claims. The proof of a function stands in the folder of its module.
 --
 -- Laws on numbers, tests and lists of bytes: Numbers, Lists.
--- Laws that the proofs of functions cite, one for each way out: Putting and OptionLaws (option strings read and put), AddressLaws (the first
--- tests of a payload), RequestLaws (messages to the module read), ReportLaws (messages from the module read), SetupLaws (the family DB read),
--- WriteLaws (messages written).
+-- Laws that the proofs of functions cite: OptionLaws (option strings, one law for each way out), WriteLaws (messages written), Putting (bytes put into a
+-- buffer one behind another).
 -- What is read is what is written, and back: OptionGroups, OptionStrings and OptionRoundTrip (option strings), Readings (the ways in which a payload is
 -- read), Exact (what is read is its layout), Frames and Written (frames in a buffer), MessageRoundTrip, AnyOrder.
 -- The claims: Examples, and Theorems, which has all of them.
@@ -11,10 +10,6 @@ pub mod Numbers
 pub mod Lists
 pub mod Putting
 pub mod OptionLaws
-pub mod AddressLaws
-pub mod RequestLaws
-pub mod ReportLaws
-pub mod SetupLaws
 pub mod WriteLaws
 pub mod OptionGroups
 pub mod OptionStrings

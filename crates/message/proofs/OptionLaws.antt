@@ -4,126 +4,25 @@ use Prim.Native.Nat.{ℕ, ◌+◌, ◌*◌, ◌≤◌, ◌<◌}
 use native.Mathlib.Numerals.{add-one}
 use native.Mathlib.Omega.{arith}
 use mathlib.Core.Path.{◌≡◌, refl, ap, ◌∙◌}
-use mathlib.Core.Bool.{Bool, true, false}
+use mathlib.Core.Bool.{true, false}
 use mathlib.Core.Logic.{◌⊎◌, inl, inr}
 use mathlib.Core.List.{List, [], ◌∷◌, ◌++◌, append_assoc}
 use borrow.Author.Tests.{eq-eqb, ne_eqb, le-leb, lt-leb}
-use lib.ListN.{length, get_or, drop, length-append, length-drop}
+use lib.ListN.{length, get_or, drop, length-drop}
 use lib.Seq.{drop-cons}
 use Rattle.message.specs.Number.{word_at}
-use Rattle.message.specs.declared.options.MaybeByte.{MaybeByte}
-use Rattle.message.specs.declared.options.MaybeByte.TheVariants.{NotGiven as NoByte, Given as Byte}
-use Rattle.message.specs.declared.options.MaybeWord.{MaybeWord}
-use Rattle.message.specs.declared.options.MaybeWord.TheVariants.{NotGiven as NoWord, Given as Word}
 use Rattle.message.specs.declared.options.Options.{Options}
 use Rattle.message.specs.Options.{has_option, give_flag, give_retries, give_word, is_retry, is_option, expected_after, given_after}
 use Rattle.message.specs.Options.{Expected, option, retry_byte, first_of, second_of, bad, opted, options_from}
 use Rattle.message.specs.Options.{flag_bytes, retry_bytes, word_bytes, option_bytes}
-use Rattle.message.specs.Put.{Puts}
-use Rattle.message.proofs.Putting.{puts_none, puts_append, puts_length}
 
--- An option without an argument has at most one byte.
-flag_length : (id : ℕ) (given : Bool) → length (flag_bytes id given) ≤ 1
-flag_length id true = omega arith
-flag_length id false = omega arith
-
--- The retries have at most two bytes.
-retry_length : (r : MaybeByte) → length (retry_bytes r) ≤ 2
-retry_length NoByte = omega arith
-retry_length (Byte b) = omega arith
-
--- An option of two bytes has at most three bytes.
-word_length : (id : ℕ) (v : MaybeWord) → length (word_bytes id v) ≤ 3
-word_length id NoWord = omega arith
-word_length id (Word v) = omega arith
-
--- An option string has at most 16 bytes.
-pub option_length : (o : Options) → length (option_bytes o) ≤ 16
+-- The options one behind another, and FF, behind a list.
+pub options_behind : (p : List ℕ) (o : Options)
+    → ((((((((p ++ flag_bytes 0x01 o.mac_ack) ++ retry_bytes o.retries) ++ word_bytes 0x03 o.lower_delay) ++ word_bytes 0x04 o.upper_delay)
+    ++ word_bytes 0x05 o.interval) ++ flag_bytes 0x06 o.parallel) ++ flag_bytes 0x07 o.no_response) ++ flag_bytes 0x08 o.sleep) ++ (0xFF ∷ [])
+    ≡ p ++ option_bytes o
 unfolding option_bytes
-option_length o =
-    simp length-append
-    (omega (
-      arith,
-      flag_length 0x01 o.mac_ack,
-      retry_length o.retries,
-      word_length 0x03 o.lower_delay,
-      word_length 0x04 o.upper_delay,
-      word_length 0x05 o.interval,
-      flag_length 0x06 o.parallel,
-      flag_length 0x07 o.no_response,
-      flag_length 0x08 o.sleep,
-    ))
-
--- At most `most` bytes put, in a buffer that has room for 16 and keeps its length.
-pub record Placed (d : List ℕ) (at most : ℕ) (s : List ℕ) (e : ℕ) (m : List ℕ) : Type 0 where
-  pub room : at + 16 ≤ length d
-  pub puts : Puts d at s e m
-  pub small : length s ≤ most
-  pub long : length m ≡ length d
-
--- Nothing is placed.
-pub placed_none : (d : List ℕ) (at : ℕ) → at + 16 ≤ length d → Placed d at 0 [] at d
-placed_none d at room = record { room = room; puts = puts_none d at; small = omega arith; long = refl }
-
--- There is room for k bytes more.
-pub room_left : {d m s : List ℕ} {at most e : ℕ} (k : ℕ) → most + k ≤ 16 → Placed d at most s e m → e + k ≤ length m
-room_left k few p = omega (arith, p.room, p.small, p.long, p.puts.ends)
-
--- What is placed, and at most k bytes more.
-placed_next : {d m n s b : List ℕ} {at most e f : ℕ} (k : ℕ) → most + k ≤ 16 → length b ≤ k
-    → Placed d at most s e m → Puts m e b f n → Placed d at (most + k) (s ++ b) f n
-placed_next {d} {m} {n} {s} {b} {at} {most} {e} {f} k few l p q =
-    record {
-      room = p.room;
-      puts = puts_append (omega (arith, p.room, p.small)) p.puts q;
-      small = omega (arith, length-append s b, p.small);
-      long = puts_length (omega (arith, room_left k few p)) q ∙ p.long;
-    }
-
--- What is placed, and an option without an argument.
-pub placed_flag : {d m n s : List ℕ} {at most e f : ℕ} (id : ℕ) (given : Bool) → most + 1 ≤ 16
-    → Placed d at most s e m → Puts m e (flag_bytes id given) f n → Placed d at (most + 1) (s ++ flag_bytes id given) f n
-placed_flag id given few p q = placed_next 1 few (flag_length id given) p q
-
--- What is placed, and the retries.
-pub placed_retries : {d m n s : List ℕ} {at most e f : ℕ} (r : MaybeByte) → most + 2 ≤ 16
-    → Placed d at most s e m → Puts m e (retry_bytes r) f n → Placed d at (most + 2) (s ++ retry_bytes r) f n
-placed_retries r few p q = placed_next 2 few (retry_length r) p q
-
--- What is placed, and an option of two bytes.
-pub placed_word : {d m n s : List ℕ} {at most e f : ℕ} (id : ℕ) (v : MaybeWord) → most + 3 ≤ 16
-    → Placed d at most s e m → Puts m e (word_bytes id v) f n → Placed d at (most + 3) (s ++ word_bytes id v) f n
-placed_word id v few p q = placed_next 3 few (word_length id v) p q
-
--- The option string up to each of its options.
-abbrev pub up_to1 : Options → List ℕ
-up_to1 o = flag_bytes 0x01 o.mac_ack
-
-abbrev pub up_to2 : Options → List ℕ
-up_to2 o = up_to1 o ++ retry_bytes o.retries
-
-abbrev pub up_to3 : Options → List ℕ
-up_to3 o = up_to2 o ++ word_bytes 0x03 o.lower_delay
-
-abbrev pub up_to4 : Options → List ℕ
-up_to4 o = up_to3 o ++ word_bytes 0x04 o.upper_delay
-
-abbrev pub up_to5 : Options → List ℕ
-up_to5 o = up_to4 o ++ word_bytes 0x05 o.interval
-
-abbrev pub up_to6 : Options → List ℕ
-up_to6 o = up_to5 o ++ flag_bytes 0x06 o.parallel
-
-abbrev pub up_to7 : Options → List ℕ
-up_to7 o = up_to6 o ++ flag_bytes 0x07 o.no_response
-
-abbrev pub up_to8 : Options → List ℕ
-up_to8 o = up_to7 o ++ flag_bytes 0x08 o.sleep
-
--- The option string is that up to its last option, and FF.
-pub option_bytes_are : (o : Options) → up_to8 o ++ flag_bytes 0xFF true ≡ option_bytes o
-unfolding option_bytes
-option_bytes_are o = simp append_assoc
+options_behind p o = simp append_assoc
 
 -- What is left of a list begins with the element there.
 drop_one : (s : List ℕ) (i : ℕ) → i < length s → drop i s ≡ get_or s i 0 ∷ drop (i + 1) s
@@ -340,3 +239,18 @@ module _ (s : List ℕ) (at : ℕ) (o : Options) (there : at < length s) where
   read_word k a b h =
       read_first (get_or s (at + 1) 0 ∷ get_or s (at + 1 + 1) 0 ∷ drop (at + 3) s) (drop_three s at k) a b h
       ∙ take_word o at (get_or s at 0) (get_or s (at + 1) 0) (get_or s (at + 1 + 1) 0) (drop (at + 3) s)
+
+-- The ways out of reading options.
+pub ruleset ways_out = (
+  read_nothing,
+  read_end,
+  read_repeated,
+  read_low,
+  read_high,
+  read_flag,
+  read_retry_cut,
+  read_retry_wrong,
+  read_retry,
+  read_word_cut,
+  read_word,
+)

@@ -1,5 +1,6 @@
 -- The bytes of options are read back as those options.
 -- Assumes nothing.
+use Rattle.std.specs.Prelude.{Option, Some, None}
 use Prim.Native.Nat.{ℕ, ◌+◌}
 use mathlib.Core.Path.{◌≡◌, refl, ap, ◌∙◌}
 use mathlib.Core.List.{List, [], ◌++◌, append_assoc}
@@ -10,16 +11,12 @@ use lib.ListN.{length, length-append}
 use Rattle.message.specs.Options.{no_options, has_option, give_flag, word_or, is_option, retry_allowed, option_bytes}
 use Rattle.message.specs.Options.{opted, option, expected_after, given_after, options_from, flag_bytes, retry_bytes, word_bytes}
 use Rattle.message.specs.Claims.{WordFits, OptionsFit}
-use Rattle.message.specs.declared.options.MaybeByte.{MaybeByte}
-use Rattle.message.specs.declared.options.MaybeByte.TheVariants.{NotGiven as NoByte, Given as Byte}
-use Rattle.message.specs.declared.options.MaybeWord.{MaybeWord}
-use Rattle.message.specs.declared.options.MaybeWord.TheVariants.{NotGiven as NoWord, Given as Word}
 use Rattle.message.specs.declared.options.Options.{Options}
 use Rattle.message.proofs.Numbers.{word_back}
 use Rattle.message.proofs.OptionStrings.{at_end}
 
 -- Options by their fields.
-abbrev pub with : Bool → MaybeByte → MaybeWord → MaybeWord → MaybeWord → Bool → Bool → Bool → Options
+abbrev pub with : Bool → Option ℕ → Option ℕ → Option ℕ → Option ℕ → Bool → Bool → Bool → Options
 with a r l u i p n s =
     record {
       mac_ack = a;
@@ -62,37 +59,37 @@ three : (k : ℕ) → k + 1 + 1 + 1 ≡ k + 3
 three k = omega arith
 
 -- Each group of the options gives its field, whatever the others are.
-module _ {r : MaybeByte} {l u i : MaybeWord} {p n s : Bool} where
+module _ {r : Option ℕ} {l u i : Option ℕ} {p n s : Bool} where
   pub ack : (a : Bool) → Takes (with false r l u i p n s) (flag_bytes 0x01 a) (with a r l u i p n s)
   unfolding options_from has_option is_option expected_after given_after give_flag
   ack true = record { reads = λ k s. refl }
   ack false = none (with false r l u i p n s)
 
-module _ {a : Bool} {l u i : MaybeWord} {p n s : Bool} where
-  pub retry : (r : MaybeByte) → retry_allowed r ≡ true → Takes (with a NoByte l u i p n s) (retry_bytes r) (with a r l u i p n s)
+module _ {a : Bool} {l u i : Option ℕ} {p n s : Bool} where
+  pub retry : (r : Option ℕ) → retry_allowed r ≡ true → Takes (with a None l u i p n s) (retry_bytes r) (with a r l u i p n s)
   unfolding options_from has_option is_option expected_after given_after
-  retry NoByte h = none (with a NoByte l u i p n s)
-  retry (Byte b) h = record { reads = λ k s. rw (h, two) }
+  retry None h = none (with a None l u i p n s)
+  retry (Some b) h = record { reads = λ k s. rw (h, two) }
 
-module _ {a : Bool} {r : MaybeByte} {u i : MaybeWord} {p n s : Bool} where
-  pub lower : (l : MaybeWord) → WordFits l → Takes (with a r NoWord u i p n s) (word_bytes 0x03 l) (with a r l u i p n s)
+module _ {a : Bool} {r : Option ℕ} {u i : Option ℕ} {p n s : Bool} where
+  pub lower : (l : Option ℕ) → WordFits l → Takes (with a r None u i p n s) (word_bytes 0x03 l) (with a r l u i p n s)
   unfolding options_from has_option is_option expected_after given_after word_or
-  lower NoWord h = none (with a r NoWord u i p n s)
-  lower (Word v) h = record { reads = λ k s. rw (word_back v h, three) }
+  lower None h = none (with a r None u i p n s)
+  lower (Some v) h = record { reads = λ k s. rw (word_back v h, three) }
 
-module _ {a : Bool} {r : MaybeByte} {l i : MaybeWord} {p n s : Bool} where
-  pub upper : (u : MaybeWord) → WordFits u → Takes (with a r l NoWord i p n s) (word_bytes 0x04 u) (with a r l u i p n s)
+module _ {a : Bool} {r : Option ℕ} {l i : Option ℕ} {p n s : Bool} where
+  pub upper : (u : Option ℕ) → WordFits u → Takes (with a r l None i p n s) (word_bytes 0x04 u) (with a r l u i p n s)
   unfolding options_from has_option is_option expected_after given_after word_or
-  upper NoWord h = none (with a r l NoWord i p n s)
-  upper (Word v) h = record { reads = λ k s. rw (word_back v h, three) }
+  upper None h = none (with a r l None i p n s)
+  upper (Some v) h = record { reads = λ k s. rw (word_back v h, three) }
 
-module _ {a : Bool} {r : MaybeByte} {l u : MaybeWord} {p n s : Bool} where
-  pub interval : (i : MaybeWord) → WordFits i → Takes (with a r l u NoWord p n s) (word_bytes 0x05 i) (with a r l u i p n s)
+module _ {a : Bool} {r : Option ℕ} {l u : Option ℕ} {p n s : Bool} where
+  pub interval : (i : Option ℕ) → WordFits i → Takes (with a r l u None p n s) (word_bytes 0x05 i) (with a r l u i p n s)
   unfolding options_from has_option is_option expected_after given_after word_or
-  interval NoWord h = none (with a r l u NoWord p n s)
-  interval (Word v) h = record { reads = λ k s. rw (word_back v h, three) }
+  interval None h = none (with a r l u None p n s)
+  interval (Some v) h = record { reads = λ k s. rw (word_back v h, three) }
 
-module _ {a : Bool} {r : MaybeByte} {l u i : MaybeWord} where
+module _ {a : Bool} {r : Option ℕ} {l u i : Option ℕ} where
   pub parallel : {n s : Bool} (p : Bool) → Takes (with a r l u i false n s) (flag_bytes 0x06 p) (with a r l u i p n s)
   unfolding options_from has_option is_option expected_after given_after give_flag
   parallel true = record { reads = λ k s. refl }

@@ -1,5 +1,6 @@
 -- What an option string that is read is made of.
 -- Assumes nothing.
+use Rattle.std.specs.Prelude.{Option, Some, None, is_some}
 use Prim.Native.Nat.{ℕ, zero, suc, ◌+◌, ◌-◌, ◌*◌, ◌≤◌}
 use mathlib.Core.Path.{◌≡◌, refl, sym, ap, subst, ◌∙◌}
 use mathlib.Core.List.Permᴰ
@@ -15,11 +16,7 @@ use Rattle.frame.specs.Elements.{Bytes}
 use Rattle.message.specs.Number.{bytes2}
 use Rattle.message.specs.Options.{no_options, has_option, give_flag, give_retries, word_or, give_word, is_retry, is_option, retry_allowed}
 use Rattle.message.specs.Options.{bad, opted, Expected, option, retry_byte, first_of, second_of, expected_after, given_after, options_from}
-use Rattle.message.specs.Options.{byte_given, word_given, flag_bytes, retry_bytes, word_bytes, option_bytes, option_groups, option_string}
-use Rattle.message.specs.declared.options.MaybeByte.{MaybeByte}
-use Rattle.message.specs.declared.options.MaybeByte.TheVariants.{NotGiven as NoByte, Given as Byte}
-use Rattle.message.specs.declared.options.MaybeWord.{MaybeWord}
-use Rattle.message.specs.declared.options.MaybeWord.TheVariants.{NotGiven as NoWord, Given as Word}
+use Rattle.message.specs.Options.{flag_bytes, retry_bytes, word_bytes, option_bytes, option_groups, option_string}
 use Rattle.message.specs.declared.options.Options.{Options}
 use Rattle.message.proofs.Numbers.{both_true, choose, word_bytes_lem}
 use Rattle.message.proofs.OptionGroups.{full, empty, completed, with_empty, filled, one_more_lem, as_long}
@@ -29,13 +26,13 @@ flag_empty : (id : ℕ) (b : Bool) → b ≡ false → flag_bytes id b ≡ []
 flag_empty id true e = absurd (true≢false e)
 flag_empty id false e = refl
 
-byte_empty : (r : MaybeByte) → byte_given r ≡ false → retry_bytes r ≡ []
-byte_empty NoByte e = refl
-byte_empty (Byte b) e = absurd (true≢false e)
+byte_empty : (r : Option ℕ) → is_some r ≡ false → retry_bytes r ≡ []
+byte_empty None e = refl
+byte_empty (Some b) e = absurd (true≢false e)
 
-word_empty : (id : ℕ) (w : MaybeWord) → word_given w ≡ false → word_bytes id w ≡ []
-word_empty id NoWord e = refl
-word_empty id (Word v) e = absurd (true≢false e)
+word_empty : (id : ℕ) (w : Option ℕ) → is_some w ≡ false → word_bytes id w ≡ []
+word_empty id None e = refl
+word_empty id (Some v) e = absurd (true≢false e)
 
 -- With the group g more, the options o are the options `given`.
 abbrev Adds : Options → List ℕ → Options → Type 0

@@ -1,5 +1,6 @@
 -- The ways in which a payload is read as a message.
 -- Assumes nothing.
+use Rattle.std.specs.Prelude.{Option, Some, None}
 use Prim.Native.Nat.{ℕ, ◌-◌, ◌≤◌}
 use mathlib.Core.Path.{◌≡◌, refl, sym, subst}
 use mathlib.Core.List.{List, [], ◌∷◌}
@@ -19,8 +20,6 @@ use Rattle.message.specs.Setup.{command_number, named, commands, command_of, inf
 use Rattle.message.specs.Status.{standard_at, remote_at}
 use Rattle.message.specs.declared.options.Options.{Options}
 use Rattle.message.specs.declared.setup.SetupCommand.{SetupCommand}
-use Rattle.message.specs.declared.setup.NamedCommand.{NamedCommand}
-use Rattle.message.specs.declared.setup.NamedCommand.TheVariants.{Known, Unknown}
 use Rattle.message.specs.declared.setup.SetupReport.TheVariants.{Acknowledged, Information as IsInformation, SettingsFailed, SilentMode}
 use Rattle.message.specs.declared.to_module.Address.{Address}
 use Rattle.message.specs.declared.to_module.Address.TheVariants.{Plain, Extended as ExtendedAddress}
@@ -84,11 +83,11 @@ pub data ToWay (p : List ℕ) (r : Meaning Request Order) : Type 0 where
   commanded : (c : SetupCommand) → byte_at p 0 ≡ 0xDB → byte_at p 1 ≡ command_number c → length p ≡ 2 → bare (setup c) ≡ r → ToWay p r
 
 -- A number that names a command is the command's number.
-abbrev Names : ℕ → NamedCommand → Type 0
-Names n Unknown = Unit {0}
-Names n (Known c) = n ≡ command_number c
+abbrev Names : ℕ → Option SetupCommand → Type 0
+Names n None = Unit {0}
+Names n (Some c) = n ≡ command_number c
 
-named_first : (n : ℕ) (c : SetupCommand) (q : NamedCommand) (t : Bool) → eqb n (command_number c) ≡ t → Names n q → Names n (cond t (Known c) q)
+named_first : (n : ℕ) (c : SetupCommand) (q : Option SetupCommand) (t : Bool) → eqb n (command_number c) ≡ t → Names n q → Names n (cond t (Some c) q)
 named_first n c q true e h = eqb-true n (command_number c) e
 named_first n c q false e h = h
 
@@ -139,11 +138,11 @@ module _ (p : List ℕ) {r : Meaning Request Order} (is : IsMessage r) where
       choose (eqb (byte_at p 0) 0x80) e (λ place. extended_way (eqb-true (byte_at p 0) 0x80 place))
       (λ other on. let plain = read_on (is_plain (byte_at p 0)) 8 on is in plain_way two plain.0 plain.1)
 
-  command_way : byte_at p 0 ≡ 0xDB → (q : NamedCommand) → Names (byte_at p 1) q → command_as q p ≡ r → ToWay p r
-  command_way place (Known c) names e =
+  command_way : byte_at p 0 ≡ 0xDB → (q : Option SetupCommand) → Names (byte_at p 1) q → command_as q p ≡ r → ToWay p r
+  command_way place (Some c) names e =
       let long = read_on (eqb (length p) 2) 7 e is in
       commanded c place names (eqb-true (length p) 2 long.0) long.1
-  command_way place Unknown names e = absurd (subst IsMessage (sym e) is)
+  command_way place None names e = absurd (subst IsMessage (sym e) is)
 
   itself_way : 2 ≤ length p → byte_at p 0 ≡ 0xDB → to_itself p ≡ r → ToWay p r
   unfolding to_itself command_of

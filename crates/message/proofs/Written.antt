@@ -1,5 +1,6 @@
 -- What stands in the buffer where a write answers with a length, and when it does so.
 -- Assumes nothing.
+use Rattle.std.specs.Prelude.{Ok}
 use Prim.Native.Nat.{ℕ, ◌≤◌}
 use mathlib.Core.Path.{◌≡◌, refl, sym, ap, ◌∙◌}
 use mathlib.Core.List.{List}
@@ -13,7 +14,6 @@ use Rattle.frame.specs.Framing.{layout, in_front}
 use Rattle.frame.specs.Single.{Writing, length_writing, no_writing, writable}
 use Rattle.frame.specs.declared.framing.Framing.{Framing}
 use Rattle.message.specs.Write.{Writes}
-use Rattle.message.specs.declared.write.WriteAnswer.TheVariants.{Written}
 use Rattle.message.proofs.Numbers.{both_true}
 
 -- A write that answers with a length was not refused.
@@ -29,7 +29,7 @@ pub record Wrote (f : Framing) (refusal : ℕ) (p : List ℕ) (len : ℕ) (after
   pub count : len ≡ length (layout f p)
   pub front : take len after ≡ layout f p
 
-pub wrote : (f : Framing) (refusal : ℕ) (p buf : List ℕ) (len : ℕ) (after : List ℕ) → Writes f refusal p buf (Written len) after →
+pub wrote : (f : Framing) (refusal : ℕ) (p buf : List ℕ) (len : ℕ) (after : List ℕ) → Writes f refusal p buf (Ok len) after →
     Wrote f refusal p len after
 wrote f refusal p buf len after h =
     let out : List ℕ = layout f p in
@@ -48,7 +48,7 @@ wrote f refusal p buf len after h =
 
 -- Where all its tests hold, a write answers with the frame's length.
 pub wrote_back : (f : Framing) (refusal : ℕ) (p buf : List ℕ) → refusal ≡ 0 → 1 ≤ length p → length p ≤ 256 → length (layout f p) ≤ length buf →
-    Writes f refusal p buf (Written (length (layout f p))) (in_front (layout f p) buf)
+    Writes f refusal p buf (Ok (length (layout f p))) (in_front (layout f p) buf)
 wrote_back f refusal p buf none some most room =
     let allowed = eq-eqb refusal 0 none in
     let least = le-leb 1 (length p) some in

@@ -1,11 +1,9 @@
 -- Options are read in any order. Document 01, "Payloads": "Any order is read".
-use Rattle.std.specs.Prelude.{ℕ, ◌+◌, ◌≤◌, ◌≡◌, true, false, length}
+use Rattle.std.specs.Prelude.{ℕ, ◌+◌, ◌≤◌, ◌≡◌, true, false, length, Some, None}
 use mathlib.Core.List.{List, [], ◌∷◌, ◌++◌, Permᴰ as Permutation}
 use Rattle.message.specs.Options.{no_options, option, options_from, opted, retry_allowed, option_groups, option_string}
 use Rattle.message.specs.ToModule.{read_to_module, transmission_refusal}
 use Rattle.message.specs.Claims.{OptionsFit, RequestFits, ReadsAs, ordered_layout}
-use Rattle.message.specs.declared.options.MaybeByte.TheVariants.{Given as Byte}
-use Rattle.message.specs.declared.options.MaybeWord.TheVariants.{NotGiven as NoWord, Given as Word}
 use Rattle.message.specs.declared.options.Options.{Options}
 use Rattle.message.specs.declared.to_module.Transmission.{Transmission}
 use Rattle.message.specs.declared.to_module.Request.TheVariants.{Extended as ExtendedRequest}
@@ -15,10 +13,10 @@ abbrev pub sheet_options : Options
 sheet_options =
     record {
       mac_ack = true;
-      retries = Byte 0x85;
-      lower_delay = NoWord;
-      upper_delay = Word 0x0800;
-      interval = Word 0x0600;
+      retries = Some 0x85;
+      lower_delay = None;
+      upper_delay = Some 0x0800;
+      interval = Some 0x0600;
       parallel = true;
       no_response = false;
       sleep = false;

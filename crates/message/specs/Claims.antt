@@ -1,7 +1,7 @@
 -- What is claimed of messages: that they read back as they were written. Document 00, demand 2, and document 01, "Payloads" and "Refusal numbers"; document
 -- 02, CR 1, for those that set up the module, and CR 2 and 9: in every format of the framing in which they are written. proofs/Theorems.antt proves each
 -- claim.
-use Rattle.std.specs.Prelude.{ℕ, ◌≤◌, ◌<◌, ◌≡◌, length, take, drop}
+use Rattle.std.specs.Prelude.{ℕ, ◌≤◌, ◌<◌, ◌≡◌, length, take, drop, Option, Some, None, Ok}
 use mathlib.Core.List.{List, [], ◌∷◌, ◌++◌, Permᴰ as Permutation}
 use Rattle.frame.specs.Checks.{frame}
 use Rattle.frame.specs.Framing.{read, layout, framing_of, in_front}
@@ -16,10 +16,6 @@ use Rattle.message.specs.Options.{option_groups, option_string}
 use Rattle.message.specs.ToModule.{Order, change, setup, read_to_module, request_layout, request_refusal, address_bytes, order_layout, order_refusal}
 use Rattle.message.specs.FromModule.{read_from_module, delivery_layout, delivery_refusal, notice_layout, notice_refusal}
 use Rattle.message.specs.Write.{Writes}
-use Rattle.message.specs.declared.options.MaybeByte.{MaybeByte}
-use Rattle.message.specs.declared.options.MaybeByte.TheVariants.{NotGiven as NoByte, Given as Byte}
-use Rattle.message.specs.declared.options.MaybeWord.{MaybeWord}
-use Rattle.message.specs.declared.options.MaybeWord.TheVariants.{NotGiven as NoWord, Given as Word}
 use Rattle.message.specs.declared.options.Options.{Options}
 use Rattle.message.specs.declared.to_module.Address.{Address}
 use Rattle.message.specs.declared.to_module.Address.TheVariants.{Plain, Extended as ExtendedAddress}
@@ -33,7 +29,6 @@ use Rattle.message.specs.declared.from_module.Delivery.{Delivery}
 use Rattle.message.specs.declared.from_module.Delivery.TheVariants.{Simple as SimpleDelivery, Extended as ExtendedDelivery, Settings as SettingsDelivery}
 use Rattle.message.specs.declared.from_module.Notice.{Notice}
 use Rattle.message.specs.declared.from_module.Notice.TheVariants.{Response as IsResponse, Standard, Remote, Setup}
-use Rattle.message.specs.declared.write.WriteAnswer.TheVariants.{Written}
 
 -- The fields of a message fit the types that the code has for them.
 abbrev pub IsByte : ℕ → Type 0
@@ -45,13 +40,13 @@ IsWord v = v < 65536
 abbrev pub IsLong : ℕ → Type 0
 IsLong v = v < 4294967296
 
-abbrev pub ByteFits : MaybeByte → Type 0
-ByteFits NoByte = Unit {0}
-ByteFits (Byte b) = IsByte b
+abbrev pub ByteFits : Option ℕ → Type 0
+ByteFits None = Unit {0}
+ByteFits (Some b) = IsByte b
 
-abbrev pub WordFits : MaybeWord → Type 0
-WordFits NoWord = Unit {0}
-WordFits (Word v) = IsWord v
+abbrev pub WordFits : Option ℕ → Type 0
+WordFits None = Unit {0}
+WordFits (Some v) = IsWord v
 
 abbrev pub OptionsFit : Options → Type 0
 OptionsFit o = ByteFits o.retries × WordFits o.lower_delay × WordFits o.upper_delay × WordFits o.interval
@@ -188,7 +183,7 @@ pub record FrameStands (f : Framing) (p : List ℕ) (len : ℕ) (after : List �
 abbrev pub RoundTrip : Type 0
 RoundTrip =
     (k : Kind) (f : Framing) (m : (family k).Message) (buf : List ℕ) (len : ℕ) (after : List ℕ) → (family k).Representable m →
-    Writes f ((family k).refusal_of m) ((family k).layout_of m) buf (Written len) after →
+    Writes f ((family k).refusal_of m) ((family k).layout_of m) buf (Ok len) after →
     FrameStands f ((family k).layout_of m) len after × (family k).ReadAs ((family k).layout_of m) m
 
 -- Given room, a message of at most 256 bytes that has no refusal of its own is written, so the claim above is not about nothing.
@@ -197,7 +192,7 @@ CanWrite =
     (k : Kind) (f : Framing) (m : (family k).Message) (buf : List ℕ) →
     let p : List ℕ = (family k).layout_of m in
     (family k).refusal_of m ≡ 0 → length p ≤ 256 → length (layout f p) ≤ length buf →
-    Writes f ((family k).refusal_of m) p buf (Written (length (layout f p))) (in_front (layout f p) buf)
+    Writes f ((family k).refusal_of m) p buf (Ok (length (layout f p))) (in_front (layout f p) buf)
 
 -- What is read as a message has 2 to 256 bytes.
 abbrev pub MessageIsSized : Type 0

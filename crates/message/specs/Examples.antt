@@ -1,6 +1,6 @@
 -- All starred rows of document 01, "Frames to check against", those of document 02, CR 2, on the footer and of CR 9 on line ends, and payloads of each kind and
 -- refusal, those of CR 1 among them: one table, and one statement that is computed.
-use Rattle.std.specs.Prelude.{ℕ, ◌≡◌, List, [], ◌∷◌, ◌++◌, map, Bool, true, false, cond, leb, eqb, length, take, drop, replicate}
+use Rattle.std.specs.Prelude.{ℕ, ◌≡◌, List, [], ◌∷◌, ◌++◌, map, Bool, true, false, cond, leb, eqb, length, take, drop, replicate, Some, None}
 use Rattle.frame.specs.Checks.{Verdict}
 use Rattle.frame.specs.Framing.{read, format_of}
 use Rattle.frame.specs.Single.{Reading, reading, read_into, Writing}
@@ -23,8 +23,6 @@ use Rattle.message.specs.Write.{message_writing}
 use Rattle.message.specs.Claims.{Kind, requests, orders, deliveries, notices, family}
 use Rattle.message.specs.AnyOrder.{sheet_options}
 use Rattle.message.specs.declared.options.Options.{Options}
-use Rattle.message.specs.declared.options.MaybeByte.TheVariants.{NotGiven as NoByte, Given as Byte}
-use Rattle.message.specs.declared.options.MaybeWord.TheVariants.{NotGiven as NoWord, Given as Word}
 use Rattle.message.specs.declared.setup.SetupCommand.{SetupCommand}
 use Rattle.message.specs.declared.setup.SetupCommand.TheVariants.{EnableAck, GetInformation, GetSettings, EraseSettings, SaveSettings, Reset}
 use Rattle.message.specs.declared.setup.SetupReport.{SetupReport}
@@ -432,10 +430,10 @@ distinct_rows =
       response_id = 0x12;
       options = record {
         mac_ack = true;
-        retries = Byte 0x0E;
-        lower_delay = Word 0x1516;
-        upper_delay = Word 0x1314;
-        interval = Word 0x1117;
+        retries = Some 0x0E;
+        lower_delay = Some 0x1516;
+        upper_delay = Some 0x1314;
+        interval = Some 0x1117;
         parallel = true;
         no_response = true;
         sleep = true;
@@ -460,10 +458,10 @@ abbrev retries_alone : ℕ → Options
 retries_alone b =
     record {
       mac_ack = false;
-      retries = Byte b;
-      lower_delay = NoWord;
-      upper_delay = NoWord;
-      interval = NoWord;
+      retries = Some b;
+      lower_delay = None;
+      upper_delay = None;
+      interval = None;
       parallel = false;
       no_response = false;
       sleep = false;
@@ -479,10 +477,10 @@ abbrev flags_alone : Bool → Bool → Options
 flags_alone first second =
     record {
       mac_ack = first;
-      retries = NoByte;
-      lower_delay = NoWord;
-      upper_delay = NoWord;
-      interval = NoWord;
+      retries = None;
+      lower_delay = None;
+      upper_delay = None;
+      interval = None;
       parallel = second;
       no_response = first;
       sleep = second;

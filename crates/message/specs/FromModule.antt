@@ -1,5 +1,5 @@
 -- Messages from the module. Document 01, "Payloads" and "Refusal numbers"; document 02, CR 1.
-use Rattle.std.specs.Prelude.{ℕ, ◌-◌, List, [], ◌∷◌, ◌++◌, cond, ◌&&◌, leb, ltb, eqb, length}
+use Rattle.std.specs.Prelude.{ℕ, ◌-◌, List, [], ◌∷◌, ◌++◌, cond, ◌&&◌, leb, ltb, eqb, length, Result, Ok, Err}
 use Rattle.message.specs.Number.{byte_at, word_at, long_at, bytes2, bytes4}
 use Rattle.message.specs.Address.{plain_refusal}
 use Rattle.message.specs.Meaning.{Meaning, refused, carrying, bare, by_address, by_plain}
@@ -7,6 +7,7 @@ use Rattle.message.specs.Refusal.{number_of}
 use Rattle.message.specs.Setup.{information_at, report_layout, settings_layout, list_meaning, settings_refusal}
 use Rattle.message.specs.Simple.{simple_layout, simple_refusal}
 use Rattle.message.specs.Status.{standard_layout, standard_at, remote_layout, remote_at}
+use Rattle.message.specs.declared.refusal.Refusal.{Refusal}
 use Rattle.message.specs.declared.setup.SetupReport.TheVariants.{Acknowledged, Information as IsInformation, SettingsFailed, SilentMode}
 use Rattle.message.specs.declared.from_module.Reception.{Reception}
 use Rattle.message.specs.declared.from_module.Delivery.{Delivery}
@@ -16,7 +17,7 @@ use Rattle.message.specs.declared.from_module.Outcome.TheVariants.{Failure, Succ
 use Rattle.message.specs.declared.from_module.Notice.{Notice}
 use Rattle.message.specs.declared.from_module.Notice.TheVariants.{Response as IsResponse, Standard, Remote, Setup}
 use Rattle.message.specs.declared.from_module.FromModule.{FromModule}
-use Rattle.message.specs.declared.from_module.FromModule.TheVariants.{Delivery as IsDelivery, Notice as IsNotice, Refused}
+use Rattle.message.specs.declared.from_module.FromModule.TheVariants.{Delivery as IsDelivery, Notice as IsNotice}
 
 -- Extended, 14 + M bytes: sender, A0, response ID, source address (4), destination address (4), LQI, M (2), M data bytes.
 abbrev pub reception_layout : Reception → List ℕ → List ℕ
@@ -114,10 +115,10 @@ unfoldable pub read_from_module : List ℕ → Meaning Delivery Notice
 read_from_module p = by_address from_itself (by_plain sender_meaning) p
 
 -- The number and the message of each answer.
-abbrev pub from_module_of : FromModule → Meaning Delivery Notice
-from_module_of (IsDelivery m start) = carrying m start
-from_module_of (IsNotice m) = bare m
-from_module_of (Refused r) = refused (number_of r)
+abbrev pub from_module_of : Result FromModule Refusal → Meaning Delivery Notice
+from_module_of (Ok (IsDelivery m start)) = carrying m start
+from_module_of (Ok (IsNotice m)) = bare m
+from_module_of (Err r) = refused (number_of r)
 
 -- Why a message is not written: 8, 9, 17; 0 where none of these applies, and 14 and 13 follow (Write.antt). A response has no refusal of its own, nor
 -- has the state of silent mode: each is a type of two values (11). The module's other reports have no field that could be wrong.

@@ -1,11 +1,7 @@
 -- The option string of an extended message to the module. Document 01, "Payloads": an option, its argument, then the rest of the string,
 -- until FF. 01, 06, 07, 08 have no argument; 02 has one byte, 00 to 0F or 81 to 8F; 03, 04, 05 have two.
-use Rattle.std.specs.Prelude.{ℕ, ◌+◌, ◌*◌, List, [], ◌∷◌, ◌++◌, Bool, true, false, cond, ◌&&◌, ◌||◌, leb, eqb}
+use Rattle.std.specs.Prelude.{ℕ, ◌+◌, ◌*◌, List, [], ◌∷◌, ◌++◌, Bool, true, false, cond, ◌&&◌, ◌||◌, leb, eqb, Option, Some, None, is_some}
 use Rattle.message.specs.Number.{bytes2}
-use Rattle.message.specs.declared.options.MaybeByte.{MaybeByte}
-use Rattle.message.specs.declared.options.MaybeByte.TheVariants.{NotGiven as NoByte, Given as Byte}
-use Rattle.message.specs.declared.options.MaybeWord.{MaybeWord}
-use Rattle.message.specs.declared.options.MaybeWord.TheVariants.{NotGiven as NoWord, Given as Word}
 use Rattle.message.specs.declared.options.Options.{Options}
 
 -- No option given.
@@ -13,31 +9,23 @@ abbrev pub no_options : Options
 no_options =
     record {
       mac_ack = false;
-      retries = NoByte;
-      lower_delay = NoWord;
-      upper_delay = NoWord;
-      interval = NoWord;
+      retries = None;
+      lower_delay = None;
+      upper_delay = None;
+      interval = None;
       parallel = false;
       no_response = false;
       sleep = false;
     }
 
-abbrev pub byte_given : MaybeByte → Bool
-byte_given NoByte = false
-byte_given (Byte b) = true
-
-abbrev pub word_given : MaybeWord → Bool
-word_given NoWord = false
-word_given (Word v) = true
-
 -- The option is given.
 unfoldable pub has_option : Options → ℕ → Bool
 has_option o id =
     cond (eqb id 0x01) o.mac_ack
-    (cond (eqb id 0x02) (byte_given o.retries)
-    (cond (eqb id 0x03) (word_given o.lower_delay)
-    (cond (eqb id 0x04) (word_given o.upper_delay)
-    (cond (eqb id 0x05) (word_given o.interval)
+    (cond (eqb id 0x02) (is_some o.retries)
+    (cond (eqb id 0x03) (is_some o.lower_delay)
+    (cond (eqb id 0x04) (is_some o.upper_delay)
+    (cond (eqb id 0x05) (is_some o.interval)
     (cond (eqb id 0x06) o.parallel
     (cond (eqb id 0x07) o.no_response
     (cond (eqb id 0x08) o.sleep false)))))))
@@ -60,7 +48,7 @@ abbrev pub give_retries : Options → ℕ → Options
 give_retries o b =
     record {
       mac_ack = o.mac_ack;
-      retries = Byte b;
+      retries = Some b;
       lower_delay = o.lower_delay;
       upper_delay = o.upper_delay;
       interval = o.interval;
@@ -70,8 +58,8 @@ give_retries o b =
     }
 
 -- The argument of option own where option id is given with v.
-unfoldable pub word_or : ℕ → ℕ → ℕ → MaybeWord → MaybeWord
-word_or own id v was = cond (eqb own id) (Word v) was
+unfoldable pub word_or : ℕ → ℕ → ℕ → Option ℕ → Option ℕ
+word_or own id v was = cond (eqb own id) (Some v) was
 
 abbrev pub give_word : Options → ℕ → ℕ → Options
 give_word o id v =
@@ -129,13 +117,13 @@ abbrev pub flag_bytes : ℕ → Bool → List ℕ
 flag_bytes id true = id ∷ []
 flag_bytes id false = []
 
-abbrev pub retry_bytes : MaybeByte → List ℕ
-retry_bytes NoByte = []
-retry_bytes (Byte b) = 0x02 ∷ b ∷ []
+abbrev pub retry_bytes : Option ℕ → List ℕ
+retry_bytes None = []
+retry_bytes (Some b) = 0x02 ∷ b ∷ []
 
-abbrev pub word_bytes : ℕ → MaybeWord → List ℕ
-word_bytes id NoWord = []
-word_bytes id (Word v) = id ∷ bytes2 v
+abbrev pub word_bytes : ℕ → Option ℕ → List ℕ
+word_bytes id None = []
+word_bytes id (Some v) = id ∷ bytes2 v
 
 -- The options in ascending order, each one's bytes a group; the group of an option that is not given is empty.
 abbrev pub option_groups : Options → List (List ℕ)
@@ -160,6 +148,6 @@ unfoldable pub option_bytes : Options → List ℕ
 option_bytes o = option_string (option_groups o)
 
 -- The retry byte, where it is given, is one of those allowed (10).
-abbrev pub retry_allowed : MaybeByte → Bool
-retry_allowed NoByte = true
-retry_allowed (Byte b) = is_retry b
+abbrev pub retry_allowed : Option ℕ → Bool
+retry_allowed None = true
+retry_allowed (Some b) = is_retry b

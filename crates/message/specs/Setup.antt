@@ -1,12 +1,10 @@
 -- Setting up the module itself: DB in place of an address. Document 02, CR 1; sheet 000, "0xDB commands". What a settings list is, the crate settings says.
-use Rattle.std.specs.Prelude.{ℕ, List, [], ◌∷◌, ◌++◌, Bool, cond, eqb, drop}
+use Rattle.std.specs.Prelude.{ℕ, List, [], ◌∷◌, ◌++◌, Bool, cond, eqb, drop, Option, Some, None}
 use Rattle.settings.specs.List.{is_list}
 use Rattle.message.specs.Number.{byte_at, long_at, bytes4}
 use Rattle.message.specs.Meaning.{Meaning, refused, carrying}
 use Rattle.message.specs.declared.setup.SetupCommand.{SetupCommand}
 use Rattle.message.specs.declared.setup.SetupCommand.TheVariants.{EnableAck, GetInformation, GetSettings, EraseSettings, SaveSettings, Reset}
-use Rattle.message.specs.declared.setup.NamedCommand.{NamedCommand}
-use Rattle.message.specs.declared.setup.NamedCommand.TheVariants.{Known, Unknown}
 use Rattle.message.specs.declared.setup.Information.{Information}
 use Rattle.message.specs.declared.setup.SetupReport.{SetupReport}
 use Rattle.message.specs.declared.setup.SetupReport.TheVariants.{Acknowledged, Information as IsInformation, SettingsFailed, SilentMode}
@@ -24,11 +22,11 @@ command_number SaveSettings = 0xFE
 command_number Reset = 0xFF
 
 -- The one of these commands whose number is n, if any.
-abbrev pub named : List SetupCommand → ℕ → NamedCommand
-named [] n = Unknown
-named (c ∷ cs) n = cond (eqb n (command_number c)) (Known c) (named cs n)
+abbrev pub named : List SetupCommand → ℕ → Option SetupCommand
+named [] n = None
+named (c ∷ cs) n = cond (eqb n (command_number c)) (Some c) (named cs n)
 
-unfoldable pub command_of : ℕ → NamedCommand
+unfoldable pub command_of : ℕ → Option SetupCommand
 command_of n = named commands n
 
 -- Such a command, 2 bytes: DB, its number.

@@ -1,5 +1,5 @@
 -- Messages to the module. Document 01, "Payloads" and "Refusal numbers"; document 02, CR 1.
-use Rattle.std.specs.Prelude.{ℕ, List, [], ◌∷◌, ◌++◌, Bool, cond, ◌&&◌, leb, ltb, eqb, length, drop, replicate}
+use Rattle.std.specs.Prelude.{ℕ, List, [], ◌∷◌, ◌++◌, Bool, cond, ◌&&◌, leb, ltb, eqb, length, drop, replicate, Option, Some, None, Result, Ok, Err}
 use Rattle.message.specs.Number.{byte_at, word_at, long_at, bytes2, bytes4}
 use Rattle.message.specs.Address.{is_plain, is_extended, plain_refusal}
 use Rattle.message.specs.Meaning.{Meaning, refused, carrying, bare, by_address, by_plain}
@@ -7,9 +7,8 @@ use Rattle.message.specs.Options.{Opted, bad, opted, option, options_from, no_op
 use Rattle.message.specs.Refusal.{number_of}
 use Rattle.message.specs.Setup.{command_of, setup_layout, settings_layout, list_meaning, settings_refusal}
 use Rattle.message.specs.Simple.{simple_layout, simple_refusal}
+use Rattle.message.specs.declared.refusal.Refusal.{Refusal}
 use Rattle.message.specs.declared.setup.SetupCommand.{SetupCommand}
-use Rattle.message.specs.declared.setup.NamedCommand.{NamedCommand}
-use Rattle.message.specs.declared.setup.NamedCommand.TheVariants.{Known, Unknown}
 use Rattle.message.specs.declared.to_module.Address.{Address}
 use Rattle.message.specs.declared.to_module.Address.TheVariants.{Plain, Extended as ExtendedAddress}
 use Rattle.message.specs.declared.to_module.Transmission.{Transmission}
@@ -17,7 +16,7 @@ use Rattle.message.specs.declared.to_module.Request.{Request}
 use Rattle.message.specs.declared.to_module.Request.TheVariants.{Simple as SimpleRequest, Extended as ExtendedRequest, Settings}
 use Rattle.message.specs.declared.to_module.OutputChange.{OutputChange}
 use Rattle.message.specs.declared.to_module.ToModule.{ToModule}
-use Rattle.message.specs.declared.to_module.ToModule.TheVariants.{Request as IsRequest, OutputChange as IsOutputChange, Setup as IsSetup, Refused}
+use Rattle.message.specs.declared.to_module.ToModule.TheVariants.{Request as IsRequest, OutputChange as IsOutputChange, Setup as IsSetup}
 
 -- The bytes of an extended message before its options: address, A0, response ID; 0x80 in place of the address and four address bytes.
 abbrev pub address_bytes : Address → ℕ → List ℕ
@@ -89,9 +88,9 @@ unfoldable pub to_address : List ℕ → Meaning Request Order
 to_address p = cond (eqb (byte_at p 0) 0x80) (to_extended_address p) (by_plain to_plain_address p)
 
 -- A command to the module itself with nothing after it: any more bytes are 7; an unknown one is 9.
-abbrev pub command_as : NamedCommand → List ℕ → Meaning Request Order
-command_as Unknown p = refused 9
-command_as (Known c) p = cond (eqb (length p) 2) (bare (setup c)) (refused 7)
+abbrev pub command_as : Option SetupCommand → List ℕ → Meaning Request Order
+command_as None p = refused 9
+command_as (Some c) p = cond (eqb (length p) 2) (bare (setup c)) (refused 7)
 
 -- The module itself: F2 with a settings list, or one of those commands.
 unfoldable pub to_itself : List ℕ → Meaning Request Order
@@ -102,11 +101,11 @@ unfoldable pub read_to_module : List ℕ → Meaning Request Order
 read_to_module p = by_address to_itself to_address p
 
 -- The number and the message of each answer.
-abbrev pub to_module_of : ToModule → Meaning Request Order
-to_module_of (IsRequest m start) = carrying m start
-to_module_of (IsOutputChange m) = bare (change m)
-to_module_of (IsSetup c) = bare (setup c)
-to_module_of (Refused r) = refused (number_of r)
+abbrev pub to_module_of : Result ToModule Refusal → Meaning Request Order
+to_module_of (Ok (IsRequest m start)) = carrying m start
+to_module_of (Ok (IsOutputChange m)) = bare (change m)
+to_module_of (Ok (IsSetup c)) = bare (setup c)
+to_module_of (Err r) = refused (number_of r)
 
 -- The address is one of those allowed (8); 0x80 or DB in place of a plain address is not.
 abbrev pub address_allowed : Address → Bool

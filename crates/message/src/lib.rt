@@ -16,13 +16,12 @@ pub use from_module::{
     Delivery, FromModule, Notice, Outcome, Reception, Response, read_from_module, write_delivery,
     write_notice,
 };
-pub use options::{MaybeByte, MaybeWord, Options};
+pub use options::Options;
 pub use refusal::Refusal;
-pub use setup::{Information, NamedCommand, SetupCommand, SetupReport, write_setup};
+pub use setup::{Information, SetupCommand, SetupReport, write_setup};
 pub use simple::Simple;
 pub use status::{Channel, RemoteStatus, StandardStatus};
 pub use to_module::{
     Address, OutputChange, Request, ToModule, Transmission, read_to_module, write_output_change,
     write_request,
 };
-pub use write::WriteAnswer;

@@ -1,39 +1,25 @@
 // The option string of an extended message to the module.
-ghost use Rattle.std.specs.Prelude.{◌≡◌, ◌+◌, ◌<◌, ◌≤◌, length, drop};
-ghost use Rattle.message.specs.Options.{no_options, byte_given, word_given, has_option, give_flag, give_retries, word_or, give_word, is_retry};
+ghost use Rattle.std.specs.Prelude.{◌≡◌, ◌+◌, ◌≤◌, ◌++◌, length, drop};
+ghost use Rattle.message.specs.Options.{no_options, has_option, give_flag, give_retries, word_or, give_word, is_retry};
 ghost use Rattle.message.specs.Options.{option, options_from, retry_allowed, flag_bytes, retry_bytes, word_bytes, option_bytes};
 ghost use Rattle.message.specs.Parts.{options_read};
-ghost use Rattle.message.specs.Put.{Puts};
 
 use crate::number::word;
-
-// An option's argument of one byte, where it is given.
-#[derive(Clone, Copy)]
-pub enum MaybeByte {
-    NotGiven,
-    Given(u8),
-}
-
-// An option's argument of two bytes, where it is given.
-#[derive(Clone, Copy)]
-pub enum MaybeWord {
-    NotGiven,
-    Given(u16),
-}
+use crate::write::PayloadWriter;
 
 // Which options are given, and their arguments.
-#[derive(Clone, Copy)]
+#[derive(Clone, Copy, Default)]
 pub struct Options {
     // 01: enables MAC acknowledgement.
     pub mac_ack: bool,
     // 02: retries by the application, as the retry byte 00 to 0F or 81 to 8F.
-    pub retries: MaybeByte,
+    pub retries: Option<u8>,
     // 03: the minimum delay before the first transmission, in ms.
-    pub lower_delay: MaybeWord,
+    pub lower_delay: Option<u16>,
     // 04: the maximum delay before the first transmission, in ms.
-    pub upper_delay: MaybeWord,
+    pub upper_delay: Option<u16>,
     // 05: the interval between retries, in ms.
-    pub interval: MaybeWord,
+    pub interval: Option<u16>,
     // 06: allows parallel requests.
     pub parallel: bool,
     // 07: disables the response message.
@@ -42,64 +28,26 @@ pub struct Options {
     pub sleep: bool,
 }
 
-// What an option string is.
-#[derive(Drop)]
-pub(crate) enum OptionsRead {
-    // It ends before index `end`.
-    Ended { options: Options, end: usize },
-    Bad,
-}
-
 impl Options {
     // No option given.
     pub fn none() -> Self
         ensures { result ≡ no_options }
     {
-        Options {
-            mac_ack: false,
-            retries: MaybeByte::NotGiven,
-            lower_delay: MaybeWord::NotGiven,
-            upper_delay: MaybeWord::NotGiven,
-            interval: MaybeWord::NotGiven,
-            parallel: false,
-            no_response: false,
-            sleep: false,
-        }
-    }
-}
-
-fn is_byte_given(m: MaybeByte) -> bool
-    ensures { result ≡ byte_given m }
-{
-    match m {
-        MaybeByte::NotGiven => false,
-        MaybeByte::Given(_) => true,
-    }
-}
-
-fn is_word_given(m: MaybeWord) -> bool
-    ensures { result ≡ word_given m }
-{
-    match m {
-        MaybeWord::NotGiven => false,
-        MaybeWord::Given(_) => true,
+        Options::default()
     }
 }
 
 // Whether the option is given already.
+#[tactic(auto, unfolding(crate::specs::Options::has_option))]
 fn has(options: Options, id: u8) -> bool
     ensures { result ≡ has_option options id }
 {
-    let retries = options.retries;
-    let lower_delay = options.lower_delay;
-    let upper_delay = options.upper_delay;
-    let interval = options.interval;
     match id {
         0x01 => options.mac_ack,
-        0x02 => is_byte_given(retries),
-        0x03 => is_word_given(lower_delay),
-        0x04 => is_word_given(upper_delay),
-        0x05 => is_word_given(interval),
+        0x02 => options.retries.is_some(),
+        0x03 => options.lower_delay.is_some(),
+        0x04 => options.upper_delay.is_some(),
+        0x05 => options.interval.is_some(),
         0x06 => options.parallel,
         0x07 => options.no_response,
         0x08 => options.sleep,
@@ -108,199 +56,146 @@ fn has(options: Options, id: u8) -> bool
 }
 
 // The options with one more that has no argument.
+#[tactic(auto, unfolding(crate::specs::Options::give_flag))]
 fn give_flag(options: Options, id: u8) -> Options
     ensures { result ≡ give_flag options id }
 {
-    let mut next = options;
-    match id {
-        0x01 => {
-            next.mac_ack = true;
-        }
-        0x06 => {
-            next.parallel = true;
-        }
-        0x07 => {
-            next.no_response = true;
-        }
-        0x08 => {
-            next.sleep = true;
-        }
-        _ => {}
+    Options {
+        mac_ack: id == 0x01 || options.mac_ack,
+        parallel: id == 0x06 || options.parallel,
+        no_response: id == 0x07 || options.no_response,
+        sleep: id == 0x08 || options.sleep,
+        ..options
     }
-    next
 }
 
 // The options with the retries given.
 fn give_retries(options: Options, b: u8) -> Options
     ensures { result ≡ give_retries options b }
 {
-    let lower_delay = options.lower_delay;
-    let upper_delay = options.upper_delay;
-    let interval = options.interval;
     Options {
-        mac_ack: options.mac_ack,
-        retries: MaybeByte::Given(b),
-        lower_delay: lower_delay,
-        upper_delay: upper_delay,
-        interval: interval,
-        parallel: options.parallel,
-        no_response: options.no_response,
-        sleep: options.sleep,
+        retries: Some(b),
+        ..options
     }
 }
 
 // One argument of two bytes, given or as it was.
-fn word_or(id: u8, given: u8, v: u16, was: MaybeWord) -> MaybeWord
+#[tactic(auto, unfolding(crate::specs::Options::word_or))]
+fn word_or(id: u8, given: u8, v: u16, was: Option<u16>) -> Option<u16>
     ensures { result ≡ word_or id given v was }
 {
-    if id == given {
-        return MaybeWord::Given(v);
-    }
-    was
+    if id == given { Some(v) } else { was }
 }
 
 // The options with one more that has two bytes.
 fn give_word(options: Options, id: u8, v: u16) -> Options
     ensures { result ≡ give_word options id v }
 {
-    let retries = options.retries;
-    let lower_delay = options.lower_delay;
-    let upper_delay = options.upper_delay;
-    let interval = options.interval;
     Options {
-        mac_ack: options.mac_ack,
-        retries: retries,
-        lower_delay: word_or(0x03, id, v, lower_delay),
-        upper_delay: word_or(0x04, id, v, upper_delay),
-        interval: word_or(0x05, id, v, interval),
-        parallel: options.parallel,
-        no_response: options.no_response,
-        sleep: options.sleep,
+        lower_delay: word_or(0x03, id, v, options.lower_delay),
+        upper_delay: word_or(0x04, id, v, options.upper_delay),
+        interval: word_or(0x05, id, v, options.interval),
+        ..options
     }
 }
 
 // Whether a retry byte is one of 00 to 0F and 81 to 8F.
+#[tactic(auto, unfolding(crate::specs::Options::is_retry))]
 pub(crate) fn is_retry(b: u8) -> bool
     ensures { result ≡ is_retry b }
 {
-    if b <= 0x0F {
-        return true;
-    }
-    if b < 0x81 {
-        return false;
-    }
-    b <= 0x8F
+    matches!(b, 0x00..=0x0F | 0x81..=0x8F)
 }
 
-// Reads the rest of an option string, from `at` on, where `options` are given already: an option, its argument, then the rest, until FF.
-pub(crate) fn read_options(s: &[u8], at: usize, options: Options) -> OptionsRead
+// Reads the rest of an option string, from `at` on, where `options` are given already: an option, its argument, then the rest, until FF. Gives all options
+// and the index behind FF; none where it is no option string.
+#[tactic(auto, using(crate::proofs::OptionLaws::ways_out))]
+pub(crate) fn read_options(s: &[u8], at: usize, options: Options) -> Option<(Options, usize)>
     requires { at ≤ length s.now }
     ensures { options_read result ≡ options_from option options at (drop at s.now) }
 {
-    if s.len() <= at {
-        return OptionsRead::Bad;
-    }
-    let id = s[at];
+    let id = *s.get(at)?;
     if id == 0xFF {
-        return OptionsRead::Ended {
-            options: options,
-            end: at + 1,
-        };
+        return Some((options, at + 1));
     }
     if has(options, id) {
-        return OptionsRead::Bad;
+        return None;
     }
     match id {
         0x01 | 0x06 | 0x07 | 0x08 => read_options(s, at + 1, give_flag(options, id)),
         0x02 => {
-            if s.len() <= at + 1 {
-                return OptionsRead::Bad;
-            }
-            let b = s[at + 1];
+            let b = *s.get(at + 1)?;
             if !is_retry(b) {
-                return OptionsRead::Bad;
+                return None;
             }
             read_options(s, at + 2, give_retries(options, b))
         }
         0x03 | 0x04 | 0x05 => {
             if s.len() <= at + 2 {
-                return OptionsRead::Bad;
+                return None;
             }
             read_options(s, at + 3, give_word(options, id, word(s, at + 1)))
         }
-        _ => OptionsRead::Bad,
+        _ => None,
     }
 }
 
 // Whether the retry byte, where it is given, is one of those allowed.
-pub(crate) fn retry_allowed(retries: MaybeByte) -> bool
+pub(crate) fn retry_allowed(retries: Option<u8>) -> bool
     ensures { result ≡ retry_allowed retries }
 {
     match retries {
-        MaybeByte::NotGiven => true,
-        MaybeByte::Given(b) => is_retry(b),
+        None => true,
+        Some(b) => is_retry(b),
     }
 }
 
-// Puts an option without an argument into dst at `at` where it is given, and gives the place behind it.
-fn put_flag(dst: &mut [u8], at: usize, id: u8, given: bool) -> usize
-    requires { at < length dst.old }
-    ensures { Puts dst.old at (flag_bytes id given) result dst.new }
+// Puts an option without an argument behind a payload, where it is given.
+fn put_flag(payload: &mut PayloadWriter, id: u8, given: bool)
+    requires { length payload.old + 1 ≤ 256 }
+    ensures bytes { payload.new ≡ payload.old ++ flag_bytes id given }
+    ensures len { length payload.new ≤ length payload.old + 1 }
 {
     if given {
-        dst[at] = id;
-        return at + 1;
-    }
-    at
-}
-
-// Puts the retries into dst at `at` where they are given, and gives the place behind them.
-fn put_retries(dst: &mut [u8], at: usize, retries: MaybeByte) -> usize
-    requires { at + 1 < length dst.old }
-    ensures { Puts dst.old at (retry_bytes retries) result dst.new }
-{
-    match retries {
-        MaybeByte::NotGiven => at,
-        MaybeByte::Given(b) => {
-            dst[at] = 0x02;
-            dst[at + 1] = b;
-            at + 2
-        }
+        payload.put(&[id]);
     }
 }
 
-// Puts an option of two bytes into dst at `at` where it is given, and gives the place behind it.
-fn put_word(dst: &mut [u8], at: usize, id: u8, argument: MaybeWord) -> usize
-    requires { at + 2 < length dst.old }
-    ensures { Puts dst.old at (word_bytes id argument) result dst.new }
+// Puts the retries behind a payload, where they are given.
+fn put_retries(payload: &mut PayloadWriter, retries: Option<u8>)
+    requires { length payload.old + 2 ≤ 256 }
+    ensures bytes { payload.new ≡ payload.old ++ retry_bytes retries }
+    ensures len { length payload.new ≤ length payload.old + 2 }
 {
-    match argument {
-        MaybeWord::NotGiven => at,
-        MaybeWord::Given(v) => {
-            dst[at] = id;
-            dst[at + 1] = (v / 256 % 256) as u8;
-            dst[at + 2] = (v % 256) as u8;
-            at + 3
-        }
+    if let Some(b) = retries {
+        payload.put(&[0x02, b]);
     }
 }
 
-// Puts the option string into dst from `at` on, in ascending order with FF at its end, and gives the place behind it.
-pub(crate) fn put_options(dst: &mut [u8], at: usize, options: Options) -> usize
-    requires { at + 16 ≤ length dst.old }
-    ensures { Puts dst.old at (option_bytes options) result dst.new }
+// Puts an option of two bytes behind a payload, where it is given.
+fn put_word(payload: &mut PayloadWriter, id: u8, argument: Option<u16>)
+    requires { length payload.old + 3 ≤ 256 }
+    ensures bytes { payload.new ≡ payload.old ++ word_bytes id argument }
+    ensures len { length payload.new ≤ length payload.old + 3 }
 {
-    let retries = options.retries;
-    let lower_delay = options.lower_delay;
-    let upper_delay = options.upper_delay;
-    let interval = options.interval;
-    let end = put_flag(dst, at, 0x01, options.mac_ack);
-    let end = put_retries(dst, end, retries);
-    let end = put_word(dst, end, 0x03, lower_delay);
-    let end = put_word(dst, end, 0x04, upper_delay);
-    let end = put_word(dst, end, 0x05, interval);
-    let end = put_flag(dst, end, 0x06, options.parallel);
-    let end = put_flag(dst, end, 0x07, options.no_response);
-    let end = put_flag(dst, end, 0x08, options.sleep);
-    put_flag(dst, end, 0xFF, true)
+    if let Some(v) = argument {
+        payload.put(&[id]);
+        payload.put_word(v);
+    }
+}
+
+// Puts the option string behind a payload, in ascending order with FF at its end.
+pub(crate) fn put_options(payload: &mut PayloadWriter, options: Options)
+    requires { length payload.old + 16 ≤ 256 }
+    ensures { payload.new ≡ payload.old ++ option_bytes options }
+{
+    put_flag(payload, 0x01, options.mac_ack);
+    put_retries(payload, options.retries);
+    put_word(payload, 0x03, options.lower_delay);
+    put_word(payload, 0x04, options.upper_delay);
+    put_word(payload, 0x05, options.interval);
+    put_flag(payload, 0x06, options.parallel);
+    put_flag(payload, 0x07, options.no_response);
+    put_flag(payload, 0x08, options.sleep);
+    payload.put(&[0xFF]);
 }

@@ -1,27 +1,31 @@
 // Why a call gives no message, or writes none.
-ghost use Rattle.std.specs.Prelude.{◌≡◌};
+ghost use Rattle.std.specs.Prelude.{◌≡◌, true, false, OnOk, OnErr, IfErr};
 ghost use Rattle.message.specs.Refusal.{number_of};
 
-#[derive(Clone, Copy)]
+use thiserror::Error;
+
+// Each refusal has a number in documents 01 and 02.
+#[derive(Clone, Copy, Debug, PartialEq, Eq, Error)]
 pub enum Refusal {
-    // 7: the payload is too short, over 256 bytes, or of no length that its layout has.
-    Length,
-    // 8: an address that is not allowed.
-    Address,
-    // 9: a command that is not known for this direction.
-    Command,
-    // 10: an option unknown, repeated or cut, a wrong retry byte, or no FF.
-    Option,
-    // 11: a fixed field, a zero word, a result or a state has another value.
-    Field,
-    // 12: the count of data bytes in an extended message is not the payload's length less 14.
-    Count,
-    // 13: the buffer is too short.
-    Buffer,
-    // 14: the payload to write is longer than 256 bytes. (None is empty.)
-    Payload,
-    // 17: in a settings list an identifier unknown, repeated or cut.
-    Identifier,
+    #[error("the payload is too short, over 256 bytes, or of no length that its layout has")]
+    Length = 7,
+    #[error("an address that is not allowed")]
+    Address = 8,
+    #[error("a command that is not known for this direction")]
+    Command = 9,
+    #[error("an option is unknown, repeated or cut, the retry byte is wrong, or FF is missing")]
+    Option = 10,
+    #[error("a fixed field, a zero word, a result or a state has another value")]
+    Field = 11,
+    #[error("the count of data bytes in an extended message is not the payload's length less 14")]
+    Count = 12,
+    #[error("the buffer is too short")]
+    Buffer = 13,
+    // No payload to write is empty.
+    #[error("the payload to write is longer than 256 bytes")]
+    Payload = 14,
+    #[error("in a settings list an identifier is unknown, repeated or cut")]
+    Identifier = 17,
 }
 
 impl Refusal {
@@ -29,16 +33,15 @@ impl Refusal {
     pub fn number(self) -> u8
         ensures { result ≡ number_of self }
     {
-        match self {
-            Refusal::Length => 7,
-            Refusal::Address => 8,
-            Refusal::Command => 9,
-            Refusal::Option => 10,
-            Refusal::Field => 11,
-            Refusal::Count => 12,
-            Refusal::Buffer => 13,
-            Refusal::Payload => 14,
-            Refusal::Identifier => 17,
-        }
+        self as u8
     }
+}
+
+// Refuses where a condition does not hold.
+pub(crate) fn ensure(holds: bool, refusal: Refusal) -> Result<(), Refusal>
+    ensures ok { OnOk result (holds ≡ true) }
+    ensures err { OnErr result (holds ≡ false) }
+    ensures refusal { IfErr result (λ e. e ≡ refusal) }
+{
+    if holds { Ok(()) } else { Err(refusal) }
 }

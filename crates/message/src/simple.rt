@@ -3,8 +3,8 @@ ghost use Rattle.message.specs.Simple.{simple_refusal, simple_layout};
 ghost use Rattle.message.specs.Write.{Writes};
 
 use crate::address::is_plain;
-use crate::refusal::Refusal;
-use crate::write::{WriteAnswer, write_parts};
+use crate::refusal::{Refusal, ensure};
+use crate::write::PayloadWriter;
 use frame::Framing;
 
 // A simple message: the other side's address and a command below 80.
@@ -20,15 +20,12 @@ pub(crate) fn write_simple(
     message: Simple,
     data: &[u8],
     buf: &mut [u8],
-) -> WriteAnswer
+) -> Result<usize, Refusal>
     ensures { Writes framing (simple_refusal message) (simple_layout message «data».now) buf.old result buf.new }
 {
-    if !is_plain(message.address) {
-        return WriteAnswer::Refused(Refusal::Address);
-    }
-    if 0x80 <= message.command {
-        return WriteAnswer::Refused(Refusal::Command);
-    }
-    let head = [message.address, message.command];
-    write_parts(framing, &head, data, buf)
+    ensure(is_plain(message.address), Refusal::Address)?;
+    ensure(message.command < 0x80, Refusal::Command)?;
+    let mut payload = PayloadWriter::new();
+    payload.put(&[message.address, message.command]);
+    payload.send_with(framing, data, buf)
 }

@@ -1,6 +1,6 @@
 // The status messages of the standard app and the remote app.
-ghost use Rattle.std.specs.Prelude.{◌≡◌};
-ghost use Rattle.message.specs.Status.{millivolts};
+ghost use Rattle.std.specs.Prelude.{◌≡◌, ◌<◌};
+ghost use Rattle.message.specs.Status.{millivolts, channel_from};
 
 // The standard app's status. Every field that is not fixed is carried, the unused one too.
 #[derive(Clone, Copy)]
@@ -51,10 +51,12 @@ pub enum Channel {
     Four,
 }
 
-fn wide(b: u8) -> u16
-    ensures { result ≡ b }
+// A channel in mV, of its byte and its two correction bits.
+fn channel_from(byte: u8, bits: u8) -> u16
+    requires { bits < 4 }
+    ensures { result ≡ channel_from byte bits }
 {
-    b as u16
+    (u16::from(byte) * 4 + u16::from(bits)) * 4
 }
 
 impl StandardStatus {
@@ -64,10 +66,10 @@ impl StandardStatus {
     {
         let correction = self.correction;
         match channel {
-            Channel::One => (wide(self.ad1) * 4 + wide(correction % 4)) * 4,
-            Channel::Two => (wide(self.ad2) * 4 + wide(correction / 4 % 4)) * 4,
-            Channel::Three => (wide(self.ad3) * 4 + wide(correction / 16 % 4)) * 4,
-            Channel::Four => (wide(self.ad4) * 4 + wide(correction / 64 % 4)) * 4,
+            Channel::One => channel_from(self.ad1, correction % 4),
+            Channel::Two => channel_from(self.ad2, correction / 4 % 4),
+            Channel::Three => channel_from(self.ad3, correction / 16 % 4),
+            Channel::Four => channel_from(self.ad4, correction / 64 % 4),
         }
     }
 }

@@ -1,17 +1,16 @@
 // Messages to the module.
-ghost use Rattle.std.specs.Prelude.{◌≡◌, ◌≤◌, length};
+ghost use Rattle.std.specs.Prelude.{◌≡◌, ◌≤◌, ◌+◌, ◌++◌, length};
 ghost use Rattle.message.specs.ToModule.{to_module_of, read_to_module, to_extended_address, request_at, output_change_at, request_refusal, request_layout};
 ghost use Rattle.message.specs.ToModule.{address_allowed, address_bytes, transmission_refusal, transmission_layout, change_refusal, change_layout};
-ghost use Rattle.message.specs.Put.{Puts};
 ghost use Rattle.message.specs.Write.{Writes};
 
 use crate::address::{is_extended, is_plain};
 use crate::number::{long, word};
-use crate::options::{Options, OptionsRead, put_options, read_options, retry_allowed};
-use crate::refusal::Refusal;
+use crate::options::{Options, put_options, read_options, retry_allowed};
+use crate::refusal::{Refusal, ensure};
 use crate::setup::{SetupCommand, read_setup, write_settings};
 use crate::simple::{Simple, write_simple};
-use crate::write::{WriteAnswer, send, write_parts};
+use crate::write::PayloadWriter;
 use frame::Framing;
 
 // The destination of an extended message to the module.
@@ -48,7 +47,7 @@ pub struct OutputChange {
     pub mask: u16,
 }
 
-// What a payload to the module is.
+// A payload to the module.
 #[derive(Clone, Copy)]
 pub enum ToModule {
     // A message whose data are the payload's bytes from `start` on.
@@ -56,81 +55,64 @@ pub enum ToModule {
     OutputChange(OutputChange),
     // A command to the module itself.
     Setup(SetupCommand),
-    Refused(Refusal),
 }
 
 // Reads an extended message whose option string begins at index `at`.
-fn read_request(payload: &[u8], address: Address, at: usize) -> ToModule
+#[tactic(auto, unfolding(crate::specs::ToModule::request_at))]
+fn read_request(payload: &[u8], address: Address, at: usize) -> Result<ToModule, Refusal>
     requires le_at { 3 ≤ at }
     requires at_in_bounds { at ≤ length payload.now }
     ensures { to_module_of result ≡ request_at payload.now address at }
 {
-    match read_options(payload, at, Options::none()) {
-        OptionsRead::Bad => ToModule::Refused(Refusal::Option),
-        OptionsRead::Ended { options, end } => ToModule::Request {
-            request: Request::Extended(Transmission {
-                address: address,
-                response_id: payload[2],
-                options: options,
-            }),
-            start: end,
-        },
-    }
+    let (options, start) = read_options(payload, at, Options::none()).ok_or(Refusal::Option)?;
+    Ok(ToModule::Request {
+        request: Request::Extended(Transmission {
+            address,
+            response_id: payload[2],
+            options,
+        }),
+        start,
+    })
 }
 
 // Reads a payload that begins with 80: an extended message with an extended address.
-fn read_to_extended_address(payload: &[u8]) -> ToModule
+#[tactic(auto, unfolding(crate::specs::ToModule::to_extended_address))]
+fn read_to_extended_address(payload: &[u8]) -> Result<ToModule, Refusal>
     requires { 2 ≤ length payload.now }
     ensures { to_module_of result ≡ to_extended_address payload.now }
 {
-    if payload[1] != 0xA0 {
-        return ToModule::Refused(Refusal::Command);
-    }
-    if payload.len() < 7 {
-        return ToModule::Refused(Refusal::Length);
-    }
+    ensure(payload[1] == 0xA0, Refusal::Command)?;
+    ensure(7 <= payload.len(), Refusal::Length)?;
     let address = long(payload, 3);
-    if !is_extended(address) {
-        return ToModule::Refused(Refusal::Address);
-    }
+    ensure(is_extended(address), Refusal::Address)?;
     read_request(payload, Address::Extended(address), 7)
 }
 
 // Reads a change of outputs.
-fn read_output_change(payload: &[u8]) -> ToModule
+#[tactic(auto, unfolding(crate::specs::ToModule::output_change_at))]
+fn read_output_change(payload: &[u8]) -> Result<ToModule, Refusal>
     ensures { to_module_of result ≡ output_change_at payload.now }
 {
-    if payload.len() != 15 {
-        return ToModule::Refused(Refusal::Length);
-    }
-    if payload[2] != 0x01 {
-        return ToModule::Refused(Refusal::Field);
-    }
-    if long(payload, 7) != 0 {
-        return ToModule::Refused(Refusal::Field);
-    }
-    if long(payload, 11) != 0 {
-        return ToModule::Refused(Refusal::Field);
-    }
-    ToModule::OutputChange(OutputChange {
+    ensure(payload.len() == 15, Refusal::Length)?;
+    ensure(
+        payload[2] == 0x01 && long(payload, 7) == 0 && long(payload, 11) == 0,
+        Refusal::Field,
+    )?;
+    Ok(ToModule::OutputChange(OutputChange {
         address: payload[0],
         signals: word(payload, 3),
         mask: word(payload, 5),
-    })
+    }))
 }
 
 // Reads a payload as a message to the module. The refusals in their order: 7 where it has under 2 or over 256 bytes, 8 for an address, 9 for a
 // command, 7 for a length, 8 for an extended address, then 10, 11, 17.
-pub fn read_to_module(payload: &[u8]) -> ToModule
+#[tactic(auto, unfolding(crate::specs::ToModule::read_to_module, crate::specs::ToModule::to_address, crate::specs::ToModule::to_plain_address))]
+pub fn read_to_module(payload: &[u8]) -> Result<ToModule, Refusal>
     ensures { to_module_of result ≡ read_to_module payload.now }
 {
     let len = payload.len();
-    if len < 2 {
-        return ToModule::Refused(Refusal::Length);
-    }
-    if 256 < len {
-        return ToModule::Refused(Refusal::Length);
-    }
+    ensure(matches!(len, 2..=256), Refusal::Length)?;
     let address = payload[0];
     let command = payload[1];
     if address == 0xDB {
@@ -139,24 +121,18 @@ pub fn read_to_module(payload: &[u8]) -> ToModule
     if address == 0x80 {
         return read_to_extended_address(payload);
     }
-    if !is_plain(address) {
-        return ToModule::Refused(Refusal::Address);
-    }
+    ensure(is_plain(address), Refusal::Address)?;
     if command < 0x80 {
-        return ToModule::Request {
+        return Ok(ToModule::Request {
             request: Request::Simple(Simple { address, command }),
             start: 2,
-        };
+        });
     }
     if command == 0x80 {
         return read_output_change(payload);
     }
-    if command != 0xA0 {
-        return ToModule::Refused(Refusal::Command);
-    }
-    if len < 3 {
-        return ToModule::Refused(Refusal::Length);
-    }
+    ensure(command == 0xA0, Refusal::Command)?;
+    ensure(3 <= len, Refusal::Length)?;
     read_request(payload, Address::Plain(address), 3)
 }
 
@@ -169,25 +145,19 @@ fn address_allowed(address: Address) -> bool
     }
 }
 
-// Puts an extended message's bytes before its options into the front of dst, and gives their count.
-fn put_address(dst: &mut [u8], address: Address, response_id: u8) -> usize
-    requires { 7 ≤ length dst.old }
-    ensures { Puts dst.old 0 (address_bytes address response_id) result dst.new }
+// Puts an extended message's bytes before its options behind a payload.
+fn put_address(payload: &mut PayloadWriter, address: Address, response_id: u8)
+    requires { length payload.old + 7 ≤ 256 }
+    ensures bytes { payload.new ≡ payload.old ++ address_bytes address response_id }
+    ensures len { length payload.new ≤ length payload.old + 7 }
 {
-    dst[1] = 0xA0;
-    dst[2] = response_id;
     match address {
         Address::Plain(a) => {
-            dst[0] = a;
-            3
+            payload.put(&[a, 0xA0, response_id]);
         }
         Address::Extended(w) => {
-            dst[0] = 0x80;
-            dst[3] = (w / 16777216 % 256) as u8;
-            dst[4] = (w / 65536 % 256) as u8;
-            dst[5] = (w / 256 % 256) as u8;
-            dst[6] = (w % 256) as u8;
-            7
+            payload.put(&[0x80, 0xA0, response_id]);
+            payload.put_long(w);
         }
     }
 }
@@ -198,29 +168,26 @@ fn write_transmission(
     message: Transmission,
     data: &[u8],
     buf: &mut [u8],
-) -> WriteAnswer
+) -> Result<usize, Refusal>
     ensures { Writes framing (transmission_refusal message) (transmission_layout message «data».now)
         buf.old result buf.new }
 {
-    let address = message.address;
-    let options = message.options;
-    let retries = options.retries;
-    if !address_allowed(address) {
-        return WriteAnswer::Refused(Refusal::Address);
-    }
-    if !retry_allowed(retries) {
-        return WriteAnswer::Refused(Refusal::Option);
-    }
-    let mut head = [0u8; 32];
-    let at = put_address(&mut head, address, message.response_id);
-    let end = put_options(&mut head, at, options);
-    let whole = &head[..];
-    write_parts(framing, &whole[..end], data, buf)
+    ensure(address_allowed(message.address), Refusal::Address)?;
+    ensure(retry_allowed(message.options.retries), Refusal::Option)?;
+    let mut payload = PayloadWriter::new();
+    put_address(&mut payload, message.address, message.response_id);
+    put_options(&mut payload, message.options);
+    payload.send_with(framing, data, buf)
 }
 
 // Writes a message to the module with its data as a frame into the front of buf; the rest of buf stays. The refusals in their order: 8, 9, 10, 17,
 // then 14 where the payload has over 256 bytes, 13 where buf is shorter than the frame. A refusal leaves all of buf.
-pub fn write_request(framing: Framing, request: Request, data: &[u8], buf: &mut [u8]) -> WriteAnswer
+pub fn write_request(
+    framing: Framing,
+    request: Request,
+    data: &[u8],
+    buf: &mut [u8],
+) -> Result<usize, Refusal>
     ensures { Writes framing (request_refusal request «data».now) (request_layout request «data».now)
         buf.old result buf.new }
 {
@@ -232,30 +199,18 @@ pub fn write_request(framing: Framing, request: Request, data: &[u8], buf: &mut 
 }
 
 // Writes a change of outputs as a frame into the front of buf; the rest of buf stays. The refusals in their order: 8, 13. A refusal leaves all of buf.
-pub fn write_output_change(framing: Framing, change: OutputChange, buf: &mut [u8]) -> WriteAnswer
+pub fn write_output_change(
+    framing: Framing,
+    change: OutputChange,
+    buf: &mut [u8],
+) -> Result<usize, Refusal>
     ensures { Writes framing (change_refusal change) (change_layout change) buf.old result buf.new }
 {
-    if !is_plain(change.address) {
-        return WriteAnswer::Refused(Refusal::Address);
-    }
-    let signals = change.signals;
-    let mask = change.mask;
-    let payload = [
-        change.address,
-        0x80,
-        0x01,
-        (signals / 256 % 256) as u8,
-        (signals % 256) as u8,
-        (mask / 256 % 256) as u8,
-        (mask % 256) as u8,
-        0,
-        0,
-        0,
-        0,
-        0,
-        0,
-        0,
-        0,
-    ];
-    send(framing, &payload, buf)
+    ensure(is_plain(change.address), Refusal::Address)?;
+    let mut payload = PayloadWriter::new();
+    payload.put(&[change.address, 0x80, 0x01]);
+    payload.put_word(change.signals);
+    payload.put_word(change.mask);
+    payload.put(&[0; 8]);
+    payload.send(framing, buf)
 }

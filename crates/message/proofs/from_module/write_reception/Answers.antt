@@ -1,17 +1,23 @@
--- `message::from_module::write_reception` meets its contract: head and data are the layout, too long where the data are over 242 bytes.
+-- `message::from_module::write_reception` meets its contract: the parts in a row are the layout before the data.
 -- Assumes nothing.
-use native.Mathlib.Omega.{arith}
-use mathlib.Core.Path.{sym, ◌∙◌}
-use Rattle.message.proofs.WriteLaws.{plain_refused, plain_written, plain_payload}
+use Rattle.std.proofs.Common.{◌≡◌, sym, ◌∙◌, length, ◌++◌, arith}
+use Rattle.std.proofs.lemmas.Grind.{common_steps}
+use Rattle.message.specs.FromModule.{reception_layout}
+use Rattle.message.proofs.WriteLaws.{plain_written}
 use Rattle.message.proofs.from_module.write_reception.Goals as goal
-
-pub returns-then-not-is_plain : goal.returns-then-not-is_plain
-returns-then-not-is_plain c = plain_refused _ (sym c.is_plain.ensures ∙ c.if-not-is_plain.true)
-
-pub returns-then-len-gt242 : goal.returns-then-len-gt242
-returns-then-len-gt242 c = plain_payload _ (sym c.is_plain.ensures ∙ c.if-not-is_plain.false) (omega arith)
 
 pub returns : goal.returns
 returns c =
-    plain_written _ (sym c.is_plain.ensures ∙ c.if-not-is_plain.false)
-    c.write_parts.ensures
+    let counted : c.in_ok-len.len ≡ length c.args.«data».now = grind (arith, common_steps) in
+    let whole : c.put_word.new.self ++ c.args.«data».now ≡ reception_layout c.args.message c.args.«data».now =
+    rw (
+      c.put_word.ensures.bytes,
+      c.put-2.ensures.bytes,
+      c.put_long-2.ensures.bytes,
+      c.put_long.ensures.bytes,
+      c.put.ensures.bytes,
+      c.new-payload.ensures,
+      counted,
+    )
+    in
+    plain_written _ (sym c.is_plain.ensures ∙ c.in_ok-ensure.ensures.ok) (rw whole at c.send_with.ensures)
