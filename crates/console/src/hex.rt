@@ -31,6 +31,19 @@ fn write_byte<W: fmt::Write>(b: u8, f: &mut fmt::Formatter<W>) -> fmt::Result
     write!(f, "{b:02X}")
 }
 
+// Prints as the same digits, or as `-` where there are no bytes.
+#[derive(Clone, Copy)]
+pub struct HexField<'a>(pub &'a [u8]);
+
+impl fmt::Display for HexField<'_> {
+    fn fmt<W: fmt::Write>(&self, f: &mut fmt::Formatter<W>) -> fmt::Result {
+        if self.0.is_empty() {
+            return f.write_str("-");
+        }
+        write!(f, "{}", Hex(self.0))
+    }
+}
+
 // Puts the bytes that hex pairs with a character between stand for into the front of bytes, as many as fit, and gives how many there are.
 pub fn hex_bytes(pairs: &[u8], bytes: &mut [u8]) -> usize
     ensures prefix_len { IsPrefixLen result bytes.new }

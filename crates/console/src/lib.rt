@@ -7,7 +7,7 @@ mod part;
 mod streams;
 mod text;
 
-pub use hex::{Hex, hex_bytes};
+pub use hex::{Hex, HexField, hex_bytes};
 pub use part::{append, front, rest};
 pub use streams::{print_line, read_input};
 pub use text::{next_word, number};

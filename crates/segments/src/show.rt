@@ -1,5 +1,5 @@
 // What the program prints of formats, states and buffers.
-use console::{Hex, front};
+use console::{HexField, front};
 use frame::{Ending, Footer, Format};
 use reader::Reader;
 use std::fmt;
@@ -44,11 +44,9 @@ pub struct Left<'a>(pub &'a Reader);
 impl fmt::Display for Left<'_> {
     fn fmt<W: fmt::Write>(&self, f: &mut fmt::Formatter<W>) -> fmt::Result {
         let reader = self.0;
-        write!(f, "{} {} ", u8::from(reader.follows), reader.judged)?;
-        if reader.count == 0 {
-            return f.write_str("-");
-        }
-        write!(f, "{}", Hex(front(&reader.held, reader.count)))
+        let mark = u8::from(reader.follows);
+        let held = front(&reader.held, reader.count);
+        write!(f, "{mark} {} {}", reader.judged, HexField(held))
     }
 }
 
