@@ -1,9 +1,10 @@
 -- Laws on digits: their values, and their count at the front of a list.
 -- Assumes nothing.
-use Rattle.std.proofs.Common.{◌≡◌, ℕ, zero, suc, ◌+◌, ◌-◌, ◌*◌, ◌/◌, ◌%◌, ◌<◌, ◌≤◌, Bool, true, false, cond, ◌&&◌, ◌||◌, ltb, leb, List, [], ◌∷◌, length, get_or, take, drop, refl, ◌∙◌, zero-add, arith, length-drop, drop-drop, ltb-false, ltb-true, le-leb, leb-true}
+use Rattle.std.proofs.Common.{◌≡◌, ℕ, zero, suc, ◌+◌, ◌-◌, ◌*◌, ◌/◌, ◌%◌, ◌<◌, ◌≤◌, min, Bool, true, false, cond, ◌&&◌, ◌||◌, ltb, leb, List, [], ◌∷◌, length, get_or, take, drop, refl, ◌∙◌, zero-add, arith, length-drop, drop-drop, ltb-false, ltb-true, le-leb, leb-true}
 use native.Mathlib.Nat.{sub-zero, suc-sub-suc}
 use mathlib.Core.Bool.{and-false, false≢true}
 use borrow.Author.Tests.{lt-leb}
+use Rattle.std.specs.List.{prefix_len}
 use Rattle.frame.specs.Digit.{within, is_digit, digit_value, digit_of}
 use Rattle.frame.specs.DigitRuns.{digit_run, Digits, all_pass}
 use Rattle.frame.proofs.Numbers.{both_true}
@@ -158,3 +159,14 @@ value_digit c =
     by_range true l f g e = same (c - 0x30) (λ h. omega (arith, f refl)) (λ h. omega (arith, f refl))
     by_range false true f g e = same (c - 0x37) (λ h. omega (arith, g refl)) (λ h. omega (arith, g refl))
     by_range false false f g e = absurd (false≢true e)
+
+-- The count of digits, as the count of characters at the front that pass the test.
+pub run_prefix : (most : ℕ) (s : List ℕ) → digit_run most s ≡ min most (prefix_len is_digit s)
+run_prefix zero s = omega arith
+run_prefix (suc most) [] = omega arith
+run_prefix (suc most) (c ∷ s) = by_digit (is_digit c) (run_prefix most s)
+  where
+    by_digit : (q : Bool) → digit_run most s ≡ min most (prefix_len is_digit s)
+        → cond q (suc (digit_run most s)) 0 ≡ min (suc most) (cond q (1 + prefix_len is_digit s) 0)
+    by_digit true e = omega arith
+    by_digit false e = omega arith

@@ -1,11 +1,15 @@
 -- Laws on what digits and bytes stand for, and on the bytes that are computed of characters.
 -- Assumes nothing.
-use Rattle.std.proofs.Common.{◌≡◌, ℕ, zero, suc, ◌+◌, ◌-◌, ◌*◌, ◌/◌, ◌%◌, ◌<◌, ◌≤◌, Bool, true, ◌&&◌, eqb, List, [], ◌∷◌, ◌++◌, length, get_or, take, drop, set, sym, refl, ap, ◌∙◌, ap₂, append_assoc, append-nil, add-zero, div-add-mod', mul-suc, add-one, arith, length-append, length-drop, take-append-drop, drop_of_length-le, length-take, get_or-drop, take_all, get_or-take, take-suc, take-take, drop-drop, take_at, eqb-true}
+use Rattle.std.proofs.Common.{◌≡◌, ℕ, zero, suc, ◌+◌, ◌-◌, ◌*◌, ◌/◌, ◌%◌, ◌<◌, ◌≤◌, Bool, true, ◌&&◌, eqb, List, [], ◌∷◌, ◌++◌, length, get_or, take, drop, set, sym, refl, ap, ◌∙◌, ap₂, append_assoc, append-nil, add-zero, div-add-mod', mul-suc, add-one, arith, length-append, length-drop, take-append-drop, drop_of_length-le, length-take, length-take-le, get_or-drop, take_all, take-suc, take-take, drop-drop, take_at, eqb-true}
 use native.Mathlib.Numerals.{add-two}
 use lib.Bits.{bit_and}
 use Rattle.frame.proofs.Numbers.{both_true, below_at}
 use lib.Arith.{digits_div, digits_mod}
 use lib.Seq.{paste, drop-nil, take-nil, take-length}
+use Rattle.std.specs.List.{sum_by}
+use Rattle.std.proofs.lemmas.List.Sums.{sum_by-cons}
+use Rattle.std.specs.Simd.{first_chunks}
+use Rattle.octets.proofs.Prefix.{chunk_at}
 use Rattle.frame.specs.Digit.{is_digit, digit_value, digit_of}
 use Rattle.frame.specs.Hex.{hex, sum_of}
 use Rattle.frame.specs.Elements.{Bytes}
@@ -39,15 +43,17 @@ unhexed_at s i h =
     ap (λ (k : ℕ). get_or (unhexed s) k 0) (sym (add-zero i)) ∙ sym (get_or-drop i (unhexed s) 0 0)
     ∙ ap (λ (l : List ℕ). get_or l 0 0) (sym (unhexed_drop i s) ∙ unhexed_next s (2 * i) h)
 
--- The byte at i of a block, of its two characters.
-pub block_at : (s : List ℕ) (at i : ℕ) → i < 16 → at + 32 ≤ length s
-    → get_or (unhexed (take 32 (drop at s))) i 0 ≡ byte_of (get_or s (at + 2 * i) 0) (get_or s (at + 2 * i + 1) 0)
-block_at s at i h l =
-    let b : List ℕ = take 32 (drop at s) in
-    let char : (j : ℕ) → j < 32 → get_or b j 0 ≡ get_or s (at + j) 0 = λ j m. get_or-take 32 (drop at s) j 0 m ∙ get_or-drop at s j 0 in
-    let next : at + (2 * i + 1) ≡ at + 2 * i + 1 = omega arith in
-    unhexed_at b i (simp (length-take, length-drop) (omega arith))
-    ∙ rw (char (2 * i) (omega arith), char (2 * i + 1) (omega arith), next)
+-- The byte at i, of the pair there.
+pub unhexed_pair : (s d : List ℕ) (i : ℕ) → i < length s / 2
+    → byte_of (get_or (get_or (first_chunks 2 (length s / 2) s) i d) 0 0) (get_or (get_or (first_chunks 2 (length s / 2) s) i d) 1 0) ≡ get_or (unhexed s) i 0
+unhexed_pair s d i h =
+    let pair : get_or (first_chunks 2 (length s / 2) s) i d ≡ take 2 (drop (2 * i) s) = chunk_at 2 (length s / 2) i s d h in
+    rw (pair, drop_next s (2 * i) (omega arith), drop_next s (2 * i + 1) (omega arith)) (sym (unhexed_at s i (omega arith)))
+
+-- The sum of numbers, in the library's word.
+pub sum_is : (s : List ℕ) → sum_by (λ (b : ℕ). b) s ≡ sum_of s
+sum_is [] = refl
+sum_is (b ∷ s) = rw sum_by-cons (ap (λ (n : ℕ). b + n) (sum_is s))
 
 -- There are half as many bytes as characters.
 pub length_unhexed : (s : List ℕ) → length (unhexed s) ≡ length s / 2
@@ -197,6 +203,18 @@ decoded_take (suc i) (a ∷ b ∷ s) = rw (mul-suc 2 i, add-two, decoded_take i 
 unhexed_block : (k : ℕ) (s : List ℕ) → unhexed (take 32 (drop (2 * k) s)) ≡ take 16 (drop k (unhexed s))
 unhexed_block k s = unhexed_take 16 (drop (2 * k) s) ∙ ap (take 16) (unhexed_drop k s)
 
+-- A block of characters among the first m, by its place.
+pub front_block :
+    (m k : ℕ) (s d : List ℕ) → m ≤ length s → let t = take m s in k < length t / 32 →
+    get_or (first_chunks 32 (length t / 32) t) k d ≡ take 32 (drop (2 * (16 * k)) s)
+front_block m k s d h l =
+    let size : length (take m s) ≡ m = length-take-le m s h in
+    let place : 32 * k ≡ 2 * (16 * k) = omega arith in
+    chunk_at 32 (length (take m s) / 32) k (take m s) d l
+    ∙ ap (take 32) (drop_take (32 * k) m s)
+    ∙ take-take 32 (m - 32 * k) (drop (32 * k) s) (omega arith)
+    ∙ ap (λ (j : ℕ). take 32 (drop j s)) place
+
 -- A copy of a block of bytes, where d begins with the bytes before i.
 pub block_over :
     (s d b : List ℕ) (k i : ℕ) → b ≡ unhexed (take 32 (drop (2 * k) s)) → k ≤ i → i ≤ k + 16 → k + 16 ≤ length s / 2 →
@@ -231,6 +249,18 @@ two_blocks z a b lz la lb =
 pub sum_most : (s : List ℕ) → Bytes s → sum_of s ≤ 255 * length s
 sum_most [] h = omega arith
 sum_most (a ∷ s) h = omega (arith, h.0, sum_most s h.1)
+
+-- So the sum of what is computed of characters is at most 255 for each.
+pub sum_unhexed : (s : List ℕ) → sum_of (unhexed s) ≤ 255 * length s
+sum_unhexed s = omega (arith, sum_most (unhexed s) (unhexed_bytes s), length_unhexed s)
+
+-- The sum of the bytes from a pair on is that of the byte there and those behind it.
+pub sum_pair : (s d : List ℕ) (i : ℕ) → i < length s / 2
+    → byte_of (get_or (get_or (first_chunks 2 (length s / 2) s) i d) 0 0) (get_or (get_or (first_chunks 2 (length s / 2) s) i d) 1 0)
+    + sum_of (unhexed (drop (2 * (i + 1)) s)) ≡ sum_of (unhexed (drop (2 * i) s))
+sum_pair s d i h =
+    let there : i < length (unhexed s) = omega (arith, length_unhexed s) in
+    rw (unhexed_pair s d i h, unhexed_drop, unhexed_drop, drop_next (unhexed s) i there)
 
 -- The sum of the bytes from i on is that of a block and that of those behind it, and the block's is at most 255 for each byte.
 pub sum_block : (s : List ℕ) (i : ℕ) → i + 32 ≤ length s

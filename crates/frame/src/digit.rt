@@ -21,37 +21,6 @@ pub(crate) fn digit_value(c: u8) -> u8
     c % 16 + 9 * (c / 64)
 }
 
-// Whether the 16 characters from `at` on are digits. All are looked at, in a loop of fixed length, which is vectorised.
-fn block_is_digits(s: &[u8], at: usize) -> bool
-    requires { at + 16 ≤ length s.now }
-    ensures { result ≡ all_pass is_digit (take 16 (drop at s.now)) }
-{
-    let mut ok = true;
-    let mut i = 0;
-    while i < 16 {
-        ok = ok & is_digit(s[at + i]);
-        i += 1;
-    }
-    ok
-}
-
-// How many digits the whole blocks of digits at the front of s have. Behind them is a block with another character, or less than a block.
-fn block_run(s: &[u8]) -> usize
-    requires { length s.now ≤ 515 }
-    ensures upper_bound { result ≤ length s.now }
-    ensures s_value { result + digit_run (515 - result) (drop result s.now) ≡ digit_run 515 s.now }
-    ensures s_value_2 { result + 16 ≤ length s.now → all_pass is_digit (take 16 (drop result s.now)) ≡ false }
-{
-    let mut i = 0;
-    while i + 16 <= s.len() {
-        if !block_is_digits(s, i) {
-            return i;
-        }
-        i += 16;
-    }
-    i
-}
-
 // The 8 bytes from `at` on as one number, the first in its lowest byte.
 pub(crate) fn word(s: &[u8], at: usize) -> u64
     requires { at + 8 ≤ length s.now }
@@ -92,30 +61,14 @@ fn words_run(s: &[u8], at: usize) -> usize
     first + first / 8 * word_run(s, at + 8)
 }
 
-// How far the digits at the front of s go, where those before `from` are known: one by one.
-fn tail_run(s: &[u8], from: usize) -> usize
-    requires from_in_bounds { from ≤ length s.now }
-    requires s_len_bound { length s.now ≤ 515 }
-    ensures { result ≡ from + digit_run (515 - from) (drop from s.now) }
-{
-    let mut i = from;
-    while i < s.len() {
-        if !is_digit(s[i]) {
-            return i;
-        }
-        i += 1;
-    }
-    i
-}
-
 // How many digits stand at the front of s.
 fn front_run(s: &[u8]) -> usize
     requires { length s.now ≤ 515 }
     ensures { result ≡ digit_run 515 s.now }
 {
-    let at = block_run(s);
+    let at = octets::block_run_len(s, is_digit);
     if s.len() < at + 16 {
-        return tail_run(s, at);
+        return at + octets::run_len(&s[at..], is_digit);
     }
     at + words_run(s, at)
 }

@@ -8,29 +8,35 @@ ghost use Rattle.frame.specs.DigitRuns.{Digits};
 ghost use Rattle.frame.specs.Judged.{decoded, byte_of, unhexed};
 
 use crate::digit::digit_value;
-use std::num::wrapping_add_u8;
 
 // The byte that two digits stand for. Of other characters it is some byte, so that nothing is asked of them.
-fn byte_at(s: &[u8], i: usize) -> u8
-    requires { i + 1 < length s.now }
-    ensures value { result ≡ byte_of (slice_index s.now i) (slice_index s.now (i + 1)) }
-    ensures digits { Digits s.now → result ≡ digit_value (slice_index s.now i) * 16 + digit_value (slice_index s.now (i + 1)) }
+fn byte_of(pair: [u8; 2]) -> u8
+    ensures value { result ≡ byte_of (slice_index pair 0) (slice_index pair 1) }
+    ensures digits { Digits pair → result ≡ digit_value (slice_index pair 0) * 16 + digit_value (slice_index pair 1) }
 {
-    wrapping_add_u8(digit_value(s[i]) % 16 * 16, digit_value(s[i + 1]))
+    (digit_value(pair[0]) % 16 * 16).wrapping_add(digit_value(pair[1]))
 }
 
-// The 16 bytes whose digits begin at `at`, in an array of their own: such a loop is vectorised, stores into a slice are not.
-fn decode_block(s: &[u8], at: usize) -> [u8; 16]
-    requires { at + 32 ≤ length s.now }
-    ensures value { result ≡ unhexed (take 32 (drop at s.now)) }
-    ensures digits { Digits s.now → result ≡ decoded (take 32 (drop at s.now)) }
+// Puts the bytes that the digits of src stand for into the front of dst, one by one.
+fn decode_bytes(src: &[u8], dst: &mut [u8])
+    requires { length src.now / 2 ≤ length dst.old }
+    ensures value { dst.new ≡ in_front (unhexed src.now) dst.old }
+    ensures digits { Digits src.now → dst.new ≡ in_front (decoded src.now) dst.old }
+{
+    let (pairs, _) = src.as_chunks::<2>();
+    for (i, pair) in pairs.iter().enumerate() {
+        dst[i] = byte_of(*pair);
+    }
+}
+
+// The 16 bytes that 32 digits stand for, in an array of their own: such a loop is vectorised, stores into a slice are not.
+fn decode_block(s: &[u8]) -> [u8; 16]
+    requires { length s.now ≡ 32 }
+    ensures value { result ≡ unhexed s.now }
+    ensures digits { Digits s.now → result ≡ decoded s.now }
 {
     let mut block = [0u8; 16];
-    let mut i = 0;
-    while i < 16 {
-        block[i] = byte_at(s, at + 2 * i);
-        i += 1;
-    }
+    decode_bytes(s, &mut block);
     block
 }
 
@@ -39,110 +45,63 @@ pub(crate) fn byte_sum(s: &[u8]) -> u32
     requires { length s.now ≤ 256 }
     ensures { result ≡ sum_of s.now }
 {
-    let mut sum: u32 = 0;
-    let mut i = 0;
-    while i < s.len() {
-        sum = sum + s[i] as u32;
-        i += 1;
+    s.iter().map(|b| u32::from(*b)).sum()
+}
+
+// The same, of the last 8 at once, where there are so many.
+fn end_sum(s: &[u8]) -> u32
+    requires { length s.now ≤ 256 }
+    ensures { result ≡ sum_of s.now }
+{
+    match s.split_last_chunk::<8>() {
+        Some((front, last)) => byte_sum(last) + byte_sum(front),
+        None => byte_sum(s),
+    }
+}
+
+// The sum of the bytes that the digits of s stand for, one by one.
+fn tail_sum(s: &[u8]) -> u32
+    requires { length s.now ≤ 514 }
+    ensures value { result ≡ sum_of (unhexed s.now) }
+    ensures upper_bound { result ≤ 255 * length s.now }
+    ensures digits { Digits s.now → result ≡ sum_of (decoded s.now) }
+{
+    let (pairs, _) = s.as_chunks::<2>();
+    let mut sum = 0;
+    for pair in pairs {
+        sum += u32::from(byte_of(*pair));
     }
     sum
 }
 
-// The sum of the bytes from `from` up to `end`, one by one.
-fn part_sum(s: &[u8], from: usize, end: usize) -> u32
-    requires from_le_end { from ≤ end }
-    requires end_in_bounds { end ≤ length s.now }
-    requires s_len_bound { length s.now ≤ 256 }
-    ensures { result ≡ sum_of (slice_range s.now from end) }
+// The same, by a block of 8 bytes first where there is one: its length is known, so that its sum is vectorised.
+fn rest_sum(s: &[u8]) -> u32
+    requires { length s.now ≤ 514 }
+    ensures value { result ≡ sum_of (unhexed s.now) }
+    ensures digits { Digits s.now → result ≡ sum_of (decoded s.now) }
 {
-    let mut sum: u32 = 0;
-    let mut i = from;
-    while i < end {
-        sum = sum + s[i] as u32;
-        i += 1;
+    match s.split_first_chunk::<16>() {
+        Some((block, rest)) => tail_sum(block) + tail_sum(rest),
+        None => tail_sum(s),
     }
-    sum
 }
 
-// The sum of the `count` bytes before `end`: of the last 8 at once, where there are so many.
-fn end_sum(s: &[u8], end: usize, count: usize) -> u32
-    requires count_le_end { count ≤ end }
-    requires end_in_bounds { end ≤ length s.now }
-    requires s_len_bound { length s.now ≤ 256 }
-    ensures { result ≡ sum_of (take count (drop (end - count) s.now)) }
-{
-    if count < 8 {
-        return part_sum(s, end - count, end);
-    }
-    byte_sum(&s[end - 8..end]) + part_sum(s, end - count, end - 8)
-}
-
-// The sum of the 8 bytes whose digits begin at `at`, in a loop of fixed length, which is vectorised.
-fn block_sum(s: &[u8], at: usize) -> u32
-    requires { at + 16 ≤ length s.now }
-    ensures s_value { result + sum_of (unhexed (drop (at + 16) s.now)) ≡ sum_of (unhexed (drop at s.now)) }
-    ensures upper_bound { result ≤ 2040 }
-    ensures digits { Digits s.now → result + sum_of (decoded (drop (at + 16) s.now)) ≡ sum_of (decoded (drop at s.now)) }
-{
-    let mut sum: u32 = 0;
-    let mut i = 0;
-    while i < 8 {
-        sum = sum + byte_at(s, at + 2 * i) as u32;
-        i += 1;
-    }
-    sum
-}
-
-// The sum of the bytes whose digits begin at `from`, one by one.
-fn tail_sum(s: &[u8], from: usize) -> u32
-    requires from_in_bounds { from ≤ length s.now }
+// The sum of the bytes of `rest`, the digits of s behind whole blocks of 16 bytes: by the last 16 bytes of s, which overlap a block before them. At most one
+// byte is summed by itself.
+fn behind_sum(s: &[u8], rest: &[u8]) -> u32
     requires s_len_bound { length s.now ≤ 514 }
-    ensures value { result ≡ sum_of (unhexed (drop from s.now)) }
-    ensures from_bound { result + 255 * from ≤ 255 * length s.now }
-    ensures digits { Digits s.now → result ≡ sum_of (decoded (drop from s.now)) }
-{
-    let mut sum: u32 = 0;
-    let mut i = from;
-    while i + 1 < s.len() {
-        sum = sum + byte_at(s, i) as u32;
-        i += 2;
-    }
-    sum
-}
-
-// The same, by a block of 8 bytes first where there is one.
-fn rest_sum(s: &[u8], from: usize) -> u32
-    requires from_in_bounds { from ≤ length s.now }
-    requires s_len_bound { length s.now ≤ 514 }
-    ensures value { result ≡ sum_of (unhexed (drop from s.now)) }
-    ensures from_bound { result + 255 * from ≤ 255 * length s.now }
-    ensures digits { Digits s.now → result ≡ sum_of (decoded (drop from s.now)) }
-{
-    if from + 16 <= s.len() {
-        return block_sum(s, from) + tail_sum(s, from + 16);
-    }
-    tail_sum(s, from)
-}
-
-// The same behind whole blocks of 16 bytes, of which none is left: by the last 16 bytes, which overlap a block before them. At most one byte is summed by
-// itself.
-fn behind_sum(s: &[u8], from: usize) -> u32
-    requires from_in_bounds { from ≤ length s.now }
-    requires s_len_bound { length s.now < from + 32 }
-    requires from_value { from % 32 ≡ 0 }
-    requires s_len_bound_2 { length s.now ≤ 514 }
-    ensures { result ≡ sum_of (unhexed (drop from s.now)) }
+    requires rest_value { rest.now ≡ drop (length s.now / 32 * 32) s.now }
+    ensures { result ≡ sum_of (unhexed rest.now) }
 {
     if s.len() < 32 {
-        return rest_sum(s, from);
+        return rest_sum(s);
     }
-    if s.len() < from + 4 {
-        return tail_sum(s, from);
+    if rest.len() < 4 {
+        return tail_sum(rest);
     }
     let n = s.len() / 2;
-    let last = decode_block(s, 2 * (n - 16));
-    let block = &last[..];
-    end_sum(block, 16, n % 16)
+    let last = decode_block(&s[2 * n - 32..2 * n]);
+    end_sum(&last[16 - n % 16..])
 }
 
 // The sum of the bytes that the digits of s stand for: by blocks of 16 bytes, and then the rest. Each block is decoded before it is summed: a loop over sums
@@ -152,31 +111,15 @@ pub(crate) fn pair_sum(s: &[u8]) -> u32
     ensures value { result ≡ sum_of (unhexed s.now) }
     ensures digits { Digits s.now → result ≡ sum_of (decoded s.now) }
 {
+    let (blocks, rest) = s.as_chunks::<32>();
     let mut sum: u32 = 0;
-    let mut i = 0;
-    while i + 32 <= s.len() {
-        let block = decode_block(s, i);
-        sum = sum + byte_sum(&block);
-        i += 32;
+    for block in blocks {
+        sum += byte_sum(&decode_block(block));
     }
-    sum + behind_sum(s, i)
+    sum + behind_sum(s, rest)
 }
 
-// Puts the bytes that the digits of src stand for into the front of dst, one by one.
-fn decode_bytes(src: &[u8], dst: &mut [u8])
-    requires { length src.now / 2 ≤ length dst.old }
-    ensures value { dst.new ≡ in_front (unhexed src.now) dst.old }
-    ensures digits { Digits src.now → dst.new ≡ in_front (decoded src.now) dst.old }
-{
-    let n = src.len() / 2;
-    let mut i = 0;
-    while i < n {
-        dst[i] = byte_at(src, 2 * i);
-        i += 1;
-    }
-}
-
-// The same by blocks of 16 bytes. The last one ends with the last byte and may overlap the one before it.
+// The same as `decode_bytes`, by blocks of 16 bytes. The last one ends with the last byte and may overlap the one before it.
 fn decode_blocks(src: &[u8], dst: &mut [u8])
     requires in_bounds { 32 ≤ length src.now }
     requires src_in_bounds { length src.now / 2 ≤ length dst.old }
@@ -184,15 +127,11 @@ fn decode_blocks(src: &[u8], dst: &mut [u8])
     ensures digits { Digits src.now → dst.new ≡ in_front (decoded src.now) dst.old }
 {
     let n = src.len() / 2;
-    let mut i = 0;
-    while i + 16 < n {
-        let block = decode_block(src, 2 * i);
-        octets::copy(&block, &mut dst[i..]);
-        i += 16;
+    let (blocks, _) = src[..2 * n - 1].as_chunks::<32>();
+    for (i, block) in blocks.iter().enumerate() {
+        octets::copy(&decode_block(block), &mut dst[16 * i..]);
     }
-    let last = n - 16;
-    let block = decode_block(src, 2 * last);
-    octets::copy(&block, &mut dst[last..]);
+    octets::copy(&decode_block(&src[2 * n - 32..2 * n]), &mut dst[n - 16..]);
 }
 
 // Puts the bytes that the digits of src stand for into the front of dst.
@@ -203,9 +142,9 @@ pub(crate) fn decode(src: &[u8], dst: &mut [u8])
 {
     if src.len() < 32 {
         decode_bytes(src, dst);
-        return;
+    } else {
+        decode_blocks(src, dst);
     }
-    decode_blocks(src, dst);
 }
 
 // The 16 bytes whose digits are in the front of s, and the 16 whose digits begin at `last`.
@@ -215,10 +154,8 @@ pub(crate) fn decode_two(s: &[u8], last: usize) -> [u8; 32]
     ensures digits { Digits s.now → result ≡ decoded (take 32 s.now) ++ decoded (take 32 (drop last s.now)) }
 {
     let mut two = [0u8; 32];
-    let block = decode_block(s, 0);
-    octets::copy(&block, &mut two);
-    let block = decode_block(s, last);
-    octets::copy(&block, &mut two[16..]);
+    octets::copy(&decode_block(&s[..32]), &mut two);
+    octets::copy(&decode_block(&s[last..last + 32]), &mut two[16..]);
     two
 }
 
@@ -229,7 +166,7 @@ pub(crate) fn sum_of_two(two: &[u8], from: usize) -> u32
     requires from_bound { from ≤ 32 }
     ensures { result ≡ sum_of (take 16 two.now) + sum_of (drop from two.now) }
 {
-    byte_sum(&two[..16]) + end_sum(two, 32, 32 - from)
+    byte_sum(&two[..16]) + end_sum(&two[from..])
 }
 
 // The two hex digits of b, that of its upper half first.
@@ -259,9 +196,7 @@ pub(crate) fn encode(dst: &mut [u8], at: usize, src: &[u8])
     requires { at + 2 * length src.now ≤ length dst.old }
     ensures { dst.new ≡ paste dst.old at (hex src.now) (2 * length src.now) }
 {
-    let mut i = 0;
-    while i < src.len() {
-        put_hex(dst, at + 2 * i, src[i]);
-        i += 1;
+    for (i, b) in src.iter().enumerate() {
+        put_hex(dst, at + 2 * i, *b);
     }
 }

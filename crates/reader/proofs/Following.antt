@@ -8,12 +8,12 @@ use mathlib.Core.List.{List, [], ◌∷◌}
 use mathlib.Core.Path.{◌≡◌, refl, sym, ap, ap₂, ◌∙◌, subst}
 use lib.ListN.{length, take, drop}
 use lib.Seq.{drop-drop}
-use Rattle.frame.specs.Framing.{absorbed, behind_optional}
-use Rattle.reader.specs.Reader.{holding, Called, called, line_on, took_first, line_behind, judged_to, line_judged, Values, no_frame_values, fed_values_of}
+use Rattle.frame.specs.Framing.{judge, absorbed, behind_optional}
+use Rattle.reader.specs.Reader.{State, holding, state_of, Called, called, line_on, took_first, line_behind, judged_to, line_judged, Values, no_frame_values, fed_values_of}
 use Rattle.reader.specs.Answer.{TookFirst, scan_whole, values_at}
-use Rattle.reader.specs.Feeding.{Leaves, line_over}
+use Rattle.reader.specs.Feeding.{Leaves, LeavesLine, LeavesHeld, past, line_over}
 use Rattle.frame.specs.declared.framing.Format.{Format}
-use Rattle.reader.specs.declared.reader.Left.{Left}
+use Rattle.reader.specs.declared.reader.Reader.{Reader}
 use Rattle.reader.specs.declared.answer.FeedAnswer.{FeedAnswer}
 use Rattle.reader.specs.declared.answer.FeedAnswer.TheVariants.{NeedsMore}
 use Rattle.frame.proofs.Lists.{drop_take}
@@ -21,6 +21,7 @@ use Rattle.frame.proofs.Optional.{absorbed_one, absorbed_front}
 use Rattle.reader.proofs.Promises.{called_taken}
 use Rattle.reader.proofs.Settling.{on_taken}
 use Rattle.reader.proofs.ScanCalls.{scan_chunk}
+use Rattle.reader.proofs.JudgedCalls.{held_behind, next_behind}
 
 -- None taken first is the call itself.
 none_first : (c : Called) → took_first 0 c ≡ c
@@ -46,48 +47,69 @@ unfolding judged_to
 none_judged f true judged = omega arith
 none_judged f false judged = omega arith
 
--- Nothing is held: with an empty chunk the mark stays.
-pub next_empty :
-    (f : Format) (follows : Bool) (chunk buf held : List ℕ) → length chunk ≡ 0 →
-    Leaves (line_behind f follows [] chunk) (line_judged (holding f [] follows 0) chunk) buf
-    (record { answer = NeedsMore 0 0 0; count = 0; follows = follows }) held buf
-next_empty f follows [] buf held e =
-    record {
-      values = ap (no_frame_values 0 0) (sym (none_judged f follows 0));
-      count = refl;
-      bytes = refl;
-      follows = refl;
-      buffer = refl;
-    }
-next_empty f follows (b ∷ chunk) buf held e = absurd (let z : ⊥ = omega arith in z)
+-- A reader that holds nothing.
+module _ (r : Reader) (n : r.count ≡ 0) (j : r.judged ≡ 0) (chunk buf : List ℕ) where
+  none_held : state_of r ≡ holding r.format [] r.follows 0
+  none_held i = holding r.format (take (n i) r.held) r.follows (j i)
 
--- The chunk alone was fed.
-pub next_values :
-    (f : Format) (rest : List ℕ) (total : ℕ) (buf : List ℕ) (left : Left) (held buf' : List ℕ) → Leaves (scan_whole f 0 0 0 rest) total buf left held buf' →
-    Leaves (line_on f [] rest) total buf left held buf'
-next_values f rest total buf left held buf' h = subst (λ (c : Called). Leaves c total buf left held buf') (scan_chunk f rest) h
+  -- With an empty chunk the mark stays.
+  pub next_empty : length chunk ≡ 0 → LeavesLine (state_of r) chunk buf (NeedsMore 0 0 0) r buf
+  next_empty e =
+      subst (λ (s : State). LeavesLine s chunk buf (NeedsMore 0 0 0) r buf) (sym none_held) (by chunk e)
+    where
+      by : (t : List ℕ) → length t ≡ 0 → LeavesLine (holding r.format [] r.follows 0) t buf (NeedsMore 0 0 0) r buf
+      by [] l =
+          record {
+            values = ap (no_frame_values 0 0) (sym (none_judged r.format r.follows 0));
+            next = record { state = none_held; count = n };
+            buffer = refl;
+          }
+      by (b ∷ t) l = absurd (let z : ⊥ = omega arith in z)
 
--- Otherwise an optional byte in front of it is taken first.
-pub next_leaves :
-    (f : Format) (follows : Bool) (chunk rest buf : List ℕ) (n total : ℕ) (left : Left) (answer : FeedAnswer) (held buf' : List ℕ) → 0 < length chunk →
-    n ≡ absorbed f follows chunk → rest ≡ drop n chunk → Leaves (scan_whole f 0 0 0 rest) total buf left held buf' → TookFirst n left.answer answer →
-    Leaves (line_behind f follows [] chunk) total buf
-    (record { answer = answer; count = left.count; follows = left.follows }) held buf'
-next_leaves f follows [] rest buf n total left answer held buf' l e r h t = absurd (not-suc-le-zero l)
-next_leaves f follows (b ∷ chunk) rest buf n total left answer held buf' l e r h t =
-    let k : Leaves (line_on f [] rest) total buf left held buf' = next_values f rest total buf left held buf' h in
-    let same : took_first n (line_on f [] rest) ≡ line_behind f follows [] (b ∷ chunk) =
-    ap (λ (s : List ℕ). took_first n (line_on f [] s)) r ∙ ap (λ (i : ℕ). took_first i (line_on f [] (drop i (b ∷ chunk)))) e in
-    subst
-    (λ (c : Called). Leaves c total buf (record { answer = answer; count = left.count; follows = left.follows }) held buf')
-    same
-    (record {
-      values = t (line_on f [] rest) total k.values;
-      count = k.count;
-      bytes = k.bytes;
-      follows = k.follows;
-      buffer = k.buffer;
-    })
+  -- Otherwise an optional byte in front of it is taken first, and the rest is fed.
+  pub next_leaves :
+      (rest : List ℕ) (k : ℕ) (a a' : FeedAnswer) (r' : Reader) (buf' : List ℕ) → 0 < length chunk →
+      k ≡ absorbed r.format r.follows chunk → rest ≡ drop k chunk →
+      Leaves r.format (scan_whole r.format 0 0 0 rest) (0 + judged_to r.format (judge r.format) rest) buf a r' buf' → TookFirst k a a' →
+      LeavesLine (state_of r) chunk buf a' r' buf'
+  next_leaves rest k a a' r' buf' l e q h took =
+      subst (λ (s : State). LeavesLine s chunk buf a' r' buf') (sym none_held)
+      (subst (λ (m : ℕ). Leaves r.format (line_behind r.format r.follows [] chunk) m buf a' r' buf')
+      (next_behind r.format r.follows chunk rest k e q)
+      (by chunk l e q))
+    where
+      by :
+          (w : List ℕ) → 0 < length w → k ≡ absorbed r.format r.follows w → rest ≡ drop k w →
+          Leaves r.format (line_behind r.format r.follows [] w) (0 + judged_to r.format (judge r.format) rest) buf a' r' buf'
+      by [] l e q = absurd (not-suc-le-zero l)
+      by (b ∷ w) l e q =
+          let f : Format = r.format in
+          let c : Called = line_on f [] rest in
+          let total : ℕ = 0 + judged_to f (judge f) rest in
+          let fed : Leaves f c total buf a r' buf' = subst (λ (x : Called). Leaves f x total buf a r' buf') (scan_chunk f rest) h in
+          let same : took_first k c ≡ line_behind f r.follows [] (b ∷ w) =
+          ap (λ (s : List ℕ). took_first k (line_on f [] s)) q ∙ ap (λ (i : ℕ). took_first i (line_on f [] (drop i (b ∷ w)))) e in
+          subst
+          (λ (x : Called). Leaves f x total buf a' r' buf')
+          same
+          (record { values = took c total fed.values; next = fed.next; buffer = fed.buffer })
+
+-- No more bytes are taken of a chunk than it has.
+pub chunk_taken :
+    (f : Format) (chunk : List ℕ) (total : ℕ) (answer : FeedAnswer) → fed_values_of answer ≡ values_at (scan_whole f 0 0 0 chunk) total →
+    length chunk ≤ 65536 → (fed_values_of answer).taken ≤ 65536
+chunk_taken f chunk total answer e l = few_taken f [] chunk total answer (e ∙ ap (λ (c : Called). values_at c total) (scan_chunk f chunk)) l
+
+-- Behind an optional byte that was dropped, the line call goes on as in the state before.
+pub past_leaves :
+    (s : State) (chunk buf : List ℕ) (a : FeedAnswer) (r : Reader) (buf' : List ℕ) → 1 ≤ length s.held → LeavesHeld (past s) chunk buf a r buf' →
+    LeavesLine s chunk buf a r buf'
+past_leaves s chunk buf a r buf' l h =
+    let n : ℕ = absorbed s.format s.follows s.held in
+    subst (λ (c : Called). Leaves s.format c (line_judged s chunk) buf a r buf') (sym (behind_held s.format s.follows s.held chunk l))
+    (subst (λ (m : ℕ). Leaves s.format (line_on s.format (drop n s.held) chunk) m buf a r buf')
+    (held_behind s.format s.follows s.held (drop n s.held) chunk s.judged n l refl refl)
+    h)
 
 -- A call over w, the first `count` bytes of which are held: an optional byte in front of w is passed over, and taken where it was not held.
 pub split_line :

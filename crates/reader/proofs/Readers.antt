@@ -1,37 +1,34 @@
 -- The answers of the line reader's calls at each of their ways out.
 -- Assumes nothing.
-use Prim.Native.Nat.{ℕ, ◌+◌, ◌-◌, ◌≤◌, ◌<◌}
+use Prim.Native.Nat.{ℕ, ◌+◌, ◌-◌, ◌≤◌}
 use native.Mathlib.Nat.{le_refl, sub_self, sub-zero}
 use native.Mathlib.Omega.{arith}
 use mathlib.Core.Path.{◌≡◌, refl, sym, ap, ap₂, ◌∙◌, subst}
 use mathlib.Core.List.{List, ◌++◌}
-use mathlib.Core.Bool.{Bool, true, false}
-use borrow.Author.Tests.{le-leb, lt-leb}
+use mathlib.Core.Bool.{Bool, false}
+use borrow.Author.Tests.{le-leb}
 use lib.ListN.{length, take, drop, length-append}
 use lib.Seq.{paste, take-length, take-paste, take_at, drop_at}
 use Rattle.frame.specs.Framing.{is_open, limit}
 use Rattle.frame.specs.Judged.{payload_at}
-use Rattle.reader.specs.Reader.{sound, call_refusal}
-use Rattle.reader.specs.Reader.{holding, state_of, Called, line_on, line, line_judged, frame_values, fed_values_of, buffer_at, quiet_refusal, feed_refusal}
-use Rattle.reader.specs.Reader.{Feeds}
+use Rattle.reader.specs.Reader.{call_refusal}
+use Rattle.reader.specs.Reader.{holding, Called, line_on, judged_held, frame_values, fed_values_of, buffer_at}
 use Rattle.reader.specs.Scan.{Stop, found, undecided, passed, stop_of, judging, Scanned, scanned_to, scan_from, stop_buffer}
 use Rattle.reader.specs.View.{part}
-use Rattle.reader.specs.Answer.{HeldSo, before_scan, called_as, called_by, scan_whole, kept_as, kept_end, Usable, Answerable, Keeps}
-use Rattle.reader.specs.Feeding.{joined, Stores, Leaves, KeepsCall, QuietAnswered}
+use Rattle.reader.specs.Answer.{before_scan, called_as, called_by, scan_whole, kept_as, kept_end, Usable, Answerable, Keeps}
+use Rattle.reader.specs.Feeding.{Admitted, joined, Stores, Leaves, KeepsCall, QuietAnswered}
 use Rattle.frame.specs.declared.framing.Format.{Format}
 use Rattle.reader.specs.declared.reader.Reader.{Reader}
-use Rattle.reader.specs.declared.reader.Left.{Left}
+use Rattle.reader.specs.declared.answer.FeedAnswer.{FeedAnswer}
 use Rattle.reader.specs.declared.reader.Quieted.{Quieted}
 use Rattle.reader.specs.declared.answer.Before.{Before}
 use Rattle.reader.specs.declared.answer.Kept.{Kept}
 use Rattle.reader.specs.declared.answer.FeedAnswer.TheVariants.{Frame as FeedFrame, NeedsMore}
-use Rattle.std.proofs.Common.{Ok}
 use Rattle.reader.specs.declared.scan.ScanEnd.{ScanEnd}
 use Rattle.reader.specs.declared.scan.ScanEnd.TheVariants.{Frame, Undecided, Passed}
 use Rattle.frame.proofs.Lists.{take_rest}
 use Rattle.frame.proofs.Framings.{limit_most}
 use Rattle.reader.proofs.Parts.{part_front}
-use Rattle.reader.proofs.Promises.{answers}
 use Rattle.reader.proofs.Scanning.{Ends, scan_facts}
 use Rattle.reader.proofs.ScanCalls.{scan_held, then_chunk, scan_line, scan_whole_lem, scan_line_lem}
 
@@ -105,27 +102,29 @@ call_buffer f passed before w place reach buf = refl
 module _ (f : Format) (before : Before) (w : List ℕ) (x : Scanned) (total : ℕ) (k : Kept) (h : Keeps f before w x total k) (buf buf' : List ℕ)
     (b : buf' ≡ stop_buffer x.stop buf) where
   -- The kept part, put into the front of an array, with the buffer that the scan has left.
-  pub stored_leaves : (held : List ℕ) (left : Left) → Stores (part k.from k.end w) k held left → Leaves (called_by f before w x) total buf left held buf'
-  stored_leaves held left s =
+  pub stored_leaves : (a : FeedAnswer) (r : Reader) → Stores f (part k.from k.end w) k a r → Leaves f (called_by f before w x) total buf a r buf'
+  stored_leaves a r s =
+      let c : Called = called_by f before w x in
+      let count : r.count ≡ length c.held = s.count ∙ ap length h.held in
+      let judged : r.judged ≡ judged_held c.out.frames c.held = s.judged c total h.values count in
       record {
         values = ap fed_values_of s.answer ∙ h.values;
-        count = s.count ∙ ap length h.held;
-        bytes = s.bytes ∙ h.held;
-        follows = s.follows ∙ h.follows;
+        next =
+            record { state = λ i. holding (s.format i) ((s.bytes ∙ h.held) i) ((s.follows ∙ h.follows) i) (judged i); count = count };
         buffer = b ∙ call_buffer f x.stop before w x.place x.reach buf;
       }
 
 -- What leaves one call leaves an equal one.
 pub leaves_same :
-    (c d : Called) (total : ℕ) (buf : List ℕ) (left : Left) (held buf' : List ℕ) → c ≡ d → Leaves c total buf left held buf' →
-    Leaves d total buf left held buf'
-leaves_same c d total buf left held buf' e h = subst (λ (x : Called). Leaves x total buf left held buf') e h
+    (f : Format) (c d : Called) (total : ℕ) (buf : List ℕ) (a : FeedAnswer) (r : Reader) (buf' : List ℕ) → c ≡ d → Leaves f c total buf a r buf' →
+    Leaves f d total buf a r buf'
+leaves_same f c d total buf a r buf' e h = subst (λ (x : Called). Leaves f x total buf a r buf') e h
 
 -- Nor does it matter how the judged bytes are counted.
 pub leaves_total :
-    (c : Called) (total total' : ℕ) (buf : List ℕ) (left : Left) (held buf' : List ℕ) → total ≡ total' → Leaves c total buf left held buf' →
-    Leaves c total' buf left held buf'
-leaves_total c total total' buf left held buf' e h = subst (λ (n : ℕ). Leaves c n buf left held buf') e h
+    (f : Format) (c : Called) (total total' : ℕ) (buf : List ℕ) (a : FeedAnswer) (r : Reader) (buf' : List ℕ) → total ≡ total' →
+    Leaves f c total buf a r buf' → Leaves f c total' buf a r buf'
+leaves_total f c total total' buf a r buf' e h = subst (λ (n : ℕ). Leaves f c n buf a r buf') e h
 
 pub keeps_total :
     (c : Called) (total total' count : ℕ) (w : List ℕ) (k : Kept) (buf buf' : List ℕ) → total ≡ total' → KeepsCall c total count w k buf buf' →
@@ -225,22 +224,23 @@ from_first ended f n reach w x is = is ∙ ap (λ (k : ℕ). scan_from (judging 
 
 -- What is left of a chunk where nothing is held.
 pub chunk_leaves :
-    (f : Format) (chunk : List ℕ) (noise reach : ℕ) (x : Scanned) (total : ℕ) (k : Kept) (buf buf' held : List ℕ) (left : Left) →
+    (f : Format) (chunk : List ℕ) (noise reach : ℕ) (x : Scanned) (total : ℕ) (k : Kept) (buf buf' : List ℕ) (a : FeedAnswer) (r : Reader) →
     x ≡ scan_from (judging false f) (length chunk) 0 reach chunk → Keeps f (before_scan 0 noise (length chunk)) chunk x total k →
-    buf' ≡ stop_buffer x.stop buf → Stores (part k.from k.end chunk) k held left → Leaves (scan_whole f 0 noise reach chunk) total buf left held buf'
-chunk_leaves f chunk noise reach x total k buf buf' held left is h b s =
-    leaves_same _ _ total buf left held buf'
+    buf' ≡ stop_buffer x.stop buf → Stores f (part k.from k.end chunk) k a r → Leaves f (scan_whole f 0 noise reach chunk) total buf a r buf'
+chunk_leaves f chunk noise reach x total k buf buf' a r is h b s =
+    leaves_same f _ _ total buf a r buf'
     (ap₂ (λ (n : ℕ) (y : Scanned). called_by f (before_scan 0 noise n) chunk y) (sym (sub-zero (length chunk))) is)
-    (stored_leaves f (before_scan 0 noise (length chunk)) chunk x total k h buf buf' b held left s)
+    (stored_leaves f (before_scan 0 noise (length chunk)) chunk x total k h buf buf' b a r s)
 
 -- What is left of held bytes with a chunk behind them in one array, all of which were scanned.
 pub short_leaves :
-    (f : Format) (h chunk array : List ℕ) (count : ℕ) (x : Scanned) (total : ℕ) (k : Kept) (buf buf' held : List ℕ) (left : Left) → length h ≡ count →
+    (f : Format) (h chunk array : List ℕ) (count : ℕ) (x : Scanned) (total : ℕ) (k : Kept) (buf buf' : List ℕ) (a : FeedAnswer) (r : Reader) →
+    length h ≡ count →
     let w : List ℕ = take (count + length chunk) array in
     w ≡ h ++ chunk → x ≡ scan_from (judging false f) (count + length chunk) 0 count w →
     Keeps f (before_scan count 0 (length chunk)) w x total k → buf' ≡ stop_buffer x.stop buf →
-    Stores (part k.from k.end array) k held left → Leaves (line_on f h chunk) total buf left held buf'
-short_leaves f h chunk array count x total k buf buf' held left n e is keeps b s =
+    Stores f (part k.from k.end array) k a r → Leaves f (line_on f h chunk) total buf a r buf'
+short_leaves f h chunk array count x total k buf buf' a r n e is keeps b s =
     let w : List ℕ = take (count + length chunk) array in
     let long : length w ≡ count + length chunk = omega (arith, ap length e ∙ length-append h chunk) in
     let rest : length chunk ≡ length w - count = omega arith in
@@ -249,9 +249,9 @@ short_leaves f h chunk array count x total k buf buf' held left n e is keeps b s
     ap₂ (λ (n : ℕ) (y : Scanned). called_by f (before_scan count 0 n) w y) rest (is ∙ ap (λ (n : ℕ). scan_from (judging false f) n 0 count w) (sym long))
     ∙ scan_whole_lem f count w within
     ∙ ap₂ (λ (a c : List ℕ). line_on f a c) (ap (take count) e ∙ take_at h chunk count n) (ap (drop count) e ∙ drop_at h chunk count n) in
-    leaves_same _ _ total buf left held buf' same
-    (stored_leaves f (before_scan count 0 (length chunk)) w x total k keeps buf buf' b held left
-    (subst (λ (l : List ℕ). Stores l k held left) (sym (part_front k.from k.end (count + length chunk) array (rw long at keeps.there))) s))
+    leaves_same f _ _ total buf a r buf' same
+    (stored_leaves f (before_scan count 0 (length chunk)) w x total k keeps buf buf' b a r
+    (subst (λ (l : List ℕ). Stores f l k a r) (sym (part_front k.from k.end (count + length chunk) array (rw long at keeps.there))) s))
 
 -- Held bytes were joined with a chunk's front, and the places of the held ones were scanned.
 module _ (f : Format) (h chunk w : List ℕ) (count : ℕ) (n : length h ≡ count) (j : w ≡ joined f h chunk) (x : Scanned)
@@ -261,31 +261,17 @@ module _ (f : Format) (h chunk w : List ℕ) (count : ℕ) (n : length h ≡ cou
 
   -- One of them does not fail.
   pub long_leaves :
-      (total : ℕ) (k : Kept) (buf buf' held : List ℕ) (left : Left) → (x.stop ≡ passed → ⊥) →
-      Keeps f (before_scan count 0 (length chunk)) w x total k → buf' ≡ stop_buffer x.stop buf → Stores (part k.from k.end w) k held left →
-      Leaves (line_on f h chunk) total buf left held buf'
-  long_leaves total k buf buf' held left p keeps b s =
-      leaves_same _ _ total buf left held buf'
+      (total : ℕ) (k : Kept) (buf buf' : List ℕ) (a : FeedAnswer) (r : Reader) → (x.stop ≡ passed → ⊥) →
+      Keeps f (before_scan count 0 (length chunk)) w x total k → buf' ≡ stop_buffer x.stop buf → Stores f (part k.from k.end w) k a r →
+      Leaves f (line_on f h chunk) total buf a r buf'
+  long_leaves total k buf buf' a r p keeps b s =
+      leaves_same f _ _ total buf a r buf'
       (ap₂ (λ (m : ℕ) (l : List ℕ). called_by f (before_scan m 0 (length chunk)) l x) (sym n) j ∙ held_found f h chunk x scan_is p)
-      (stored_leaves f (before_scan count 0 (length chunk)) w x total k keeps buf buf' b held left s)
+      (stored_leaves f (before_scan count 0 (length chunk)) w x total k keeps buf buf' b a r s)
 
   -- All of them fail.
   pub long_passed : x.stop ≡ passed → scan_whole f 0 count (x.reach - count) chunk ≡ line_on f h chunk
   long_passed p = ap (λ (m : ℕ). scan_whole f 0 m (x.reach - m) chunk) (sym n) ∙ held_passed f h chunk x scan_is p
-
--- What a feed answers is what is left of the call.
-pub leaves_feeds :
-    (r : Reader) (chunk buf : List ℕ) (left : Left) (held buf' : List ℕ) (judged : ℕ) → feed_refusal r (length buf) (length chunk) ≡ 0 →
-    Leaves (line (state_of r) chunk) (line_judged (state_of r) chunk) buf left held buf' → HeldSo left.answer left.count judged →
-    Feeds r chunk buf
-    (record {
-      reader = record { format = r.format; held = held; count = left.count; follows = left.follows; judged = judged };
-      answer = Ok left.answer;
-    })
-    buf'
-leaves_feeds r chunk buf left held buf' judged z h so =
-    let is = so (line (state_of r) chunk) _ h.values h.count in
-    answers z h.values (record { state = λ i. holding r.format (h.bytes i) (h.follows i) (is i); count = h.count }) h.buffer
 
 -- A scan that passed says so.
 pub passed_end : (f : Format) (s : List ℕ) (end : ScanEnd) → stop_of f s end ≡ passed → end ≡ Passed
@@ -293,29 +279,10 @@ passed_end f s (Frame used len) e = cc
 passed_end f s Undecided e = cc
 passed_end f s Passed e = refl
 
-module _ (r : Reader) (room size : ℕ) where
-  -- The refusals of a line call, in their order.
-  pub feed_state : sound r ≡ false → feed_refusal r room size ≡ 16
-  feed_state h = ap (λ (q : Bool). call_refusal q 256 room size) h
-
-  pub feed_buffer : sound r ≡ true → room < 256 → feed_refusal r room size ≡ 13
-  feed_buffer h k = ap (λ (q : Bool). call_refusal q 256 room size) h ∙ simp (lt-leb 256 room k)
-
-  pub feed_chunk : sound r ≡ true → 256 ≤ room → 65536 < size → feed_refusal r room size ≡ 15
-  feed_chunk h k l = ap (λ (q : Bool). call_refusal q 256 room size) h ∙ simp (le-leb 256 room k, lt-leb size 65536 l)
-
-  pub feed_accepted : sound r ≡ true → 256 ≤ room → size ≤ 65536 → feed_refusal r room size ≡ 0
-  feed_accepted h k l = ap (λ (q : Bool). call_refusal q 256 room size) h ∙ simp (le-leb 256 room k, le-leb size 65536 l)
-
-  -- Those of a quiet call.
-  pub quiet_state : sound r ≡ false → quiet_refusal r room ≡ 16
-  quiet_state h = ap (λ (q : Bool). call_refusal q 256 room 0) h
-
-  pub quiet_buffer : sound r ≡ true → room < 256 → quiet_refusal r room ≡ 13
-  quiet_buffer h k = ap (λ (q : Bool). call_refusal q 256 room 0) h ∙ simp (lt-leb 256 room k)
-
-  pub quiet_accepted : sound r ≡ true → 256 ≤ room → quiet_refusal r room ≡ 0
-  quiet_accepted h k = ap (λ (q : Bool). call_refusal q 256 room 0) h ∙ simp (le-leb 256 room k)
+-- A call that is not refused.
+pub admitted_none : (is_sound : Bool) (least given size : ℕ) → Admitted is_sound least given size → call_refusal is_sound least given size ≡ 0
+admitted_none is_sound least given size h =
+    ap (λ (q : Bool). call_refusal q least given size) h.sound ∙ simp (le-leb least given h.room, le-leb size 65536 h.short)
 
 -- A quiet's answer is right where the call gives that.
 pub quiet_right :

@@ -4,8 +4,8 @@ use Prim.Native.Nat.{ℕ, ◌+◌, ◌-◌, ◌≤◌, ◌<◌, max}
 use native.Mathlib.Omega.{arith}
 use mathlib.Core.Path.{◌≡◌, refl, sym, ap, ap₂, ◌∙◌, subst}
 use mathlib.Core.List.{List, []}
-use mathlib.Core.Bool.{Bool, true, false, cond, ◌&&◌, true≢false, false≢true}
-use borrow.Author.Tests.{le-leb, lt-leb, leb-true, eqb-true}
+use mathlib.Core.Bool.{Bool, true, false, cond, ◌&&◌, false≢true}
+use borrow.Author.Tests.{le-leb, leb-true, eqb-true}
 use lib.Dec.{leb, eqb}
 use lib.ListN.{length, take, drop, length-drop}
 use lib.Seq.{drop-length, drop-drop}
@@ -13,7 +13,6 @@ use Rattle.frame.specs.Framing.{limit, absorbed}
 use Rattle.frame.specs.Rule.{nothing}
 use Rattle.reader.specs.Reader.{State, holding, Called, called, took_first, line_behind, line, line_judged, after, state_of, Holds, refusal_values}
 use Rattle.reader.specs.Reader.{call_refusal, buffer_at, sound, feed_refusal, feed_values_of, Feeds}
-use Rattle.frame.specs.Refusal.{number_of}
 use Rattle.reader.specs.View.{inside, part, viewed, view_call, view_judged, NextView, view_refusal, Views, Stands}
 use Rattle.reader.specs.Draining.{ViewReports}
 use Rattle.reader.specs.Answer.{TookFirst, HeldSo, values_at}
@@ -21,11 +20,10 @@ use Rattle.reader.specs.Feeding.{line_over, judged_in, KeepsCall, past_optional}
 use Rattle.reader.specs.Views.{ViewIsFeed, ViewStaysInside}
 use Rattle.frame.specs.declared.framing.Format.{Format}
 use Rattle.reader.specs.declared.reader.Reader.{Reader}
-use Rattle.frame.specs.declared.refusal.Refusal.{Refusal}
 use Rattle.reader.specs.declared.answer.Kept.{Kept}
 use Rattle.reader.specs.declared.answer.FeedAnswer.{FeedAnswer}
 use Rattle.reader.specs.declared.answer.FeedAnswer.TheVariants.{NeedsMore}
-use Rattle.std.proofs.Common.{Ok, Err}
+use Rattle.std.proofs.Common.{Ok}
 use Rattle.reader.specs.declared.view.View.{View}
 use Rattle.reader.specs.declared.view.Viewed.{Viewed}
 use Rattle.reader.proofs.Parts.{part_size, part_rest}
@@ -153,27 +151,8 @@ view_is_feed v chunk buf a buf' r p e h =
 
 module _ (v : View) (room size : ℕ) where
   -- The refusals of a view's call, in their order.
-  pub view_state : inside v size ≡ false → view_refusal v room size ≡ 16
-  view_state e = ap (λ (q : Bool). call_refusal q 256 room size) e
-
-  pub view_buffer : inside v size ≡ true → room < 256 → view_refusal v room size ≡ 13
-  view_buffer e h = ap (λ (q : Bool). call_refusal q 256 room size) e ∙ simp (lt-leb 256 room h)
-
-  pub view_chunk : inside v size ≡ true → 256 ≤ room → 65536 < size → view_refusal v room size ≡ 15
-  view_chunk e h k = ap (λ (q : Bool). call_refusal q 256 room size) e ∙ simp (le-leb 256 room h, lt-leb size 65536 k)
-
   view_accepted : inside v size ≡ true → 256 ≤ room → size ≤ 65536 → view_refusal v room size ≡ 0
   view_accepted e h k = ap (λ (q : Bool). call_refusal q 256 room size) e ∙ simp (le-leb 256 room h, le-leb size 65536 k)
-
--- A refused call.
-pub refused_views :
-    (v : View) (chunk buf : List ℕ) (a : Viewed) (r : Refusal) → view_refusal v (length buf) (length chunk) ≡ number_of r →
-    eqb (number_of r) 0 ≡ false → a.view ≡ v → a.answer ≡ Err r → Views v chunk buf a buf
-refused_views v chunk buf a r n z e f =
-    record {
-      refuses = λ _. (ap feed_values_of f ∙ ap refusal_values (sym n), e, refl);
-      answers = λ t. absurd (true≢false (sym t ∙ ap (λ (k : ℕ). eqb k 0) n ∙ z));
-    }
 
 -- A call with no byte held or offered, where the view is at the chunk's end.
 pub waiting_views :

@@ -1,13 +1,17 @@
 -- Behind the public calls: what the functions of reader.rt and view.rt answer that `feed`, `quiet` and a view's call are made of. proofs/ shows that it is
 -- what `line` and `quiet` give.
-use Rattle.std.specs.Prelude.{ℕ, ◌+◌, ◌*◌, ◌≤◌, max, ◌≡◌, List, ◌++◌, Bool, false, cond, eqb, length, take, drop}
+use Rattle.std.specs.Prelude.{ℕ, ◌+◌, ◌-◌, ◌*◌, ◌≤◌, max, ◌≡◌, List, ◌++◌, Bool, true, false, cond, eqb, length, take, drop, Result, Ok, Err}
 use Rattle.frame.specs.Framing.{limit, absorbed}
-use Rattle.reader.specs.Reader.{holding, Called, line_on, line_behind, line_judged, AfterQuiet, fed_values_of, quiet_values_of, buffer_at}
+use Rattle.frame.specs.Refusal.{number_of}
+use Rattle.reader.specs.Reader.{State, holding, Holds, Called, line, line_on, line_judged, judged_held, sound, AfterQuiet, fed_values_of, quiet_values_of, buffer_at}
 use Rattle.reader.specs.View.{part}
-use Rattle.reader.specs.Answer.{values_at}
+use Rattle.reader.specs.Answer.{HeldSo, values_at}
 use Rattle.frame.specs.declared.framing.Format.{Format}
+use Rattle.frame.specs.declared.refusal.Refusal.{Refusal}
+use Rattle.reader.specs.declared.answer.FeedAnswer.{FeedAnswer}
 use Rattle.reader.specs.declared.answer.Kept.{Kept}
-use Rattle.reader.specs.declared.reader.Left.{Left}
+use Rattle.reader.specs.declared.reader.Reader.{Reader}
+use Rattle.reader.specs.declared.reader.Settled.{Settled}
 use Rattle.reader.specs.declared.reader.Quieted.{Quieted}
 use Rattle.reader.specs.declared.reader.Joined.{Joined}
 use Rattle.reader.specs.declared.view.View.{View}
@@ -21,30 +25,57 @@ pub record Joins (f : Format) (held chunk : List ℕ) (j : Joined) : Type 0 wher
   pub size : j.size ≡ length (joined f held chunk)
   pub bytes : take j.size j.bytes ≡ joined f held chunk
 
--- The bytes of a kept part are the first of an array, and the answer goes on.
-pub record Stores (s : List ℕ) (k : Kept) (held : List ℕ) (left : Left) : Type 0 where
-  pub answer : left.answer ≡ k.answer
-  pub count : left.count ≡ length s
-  pub bytes : take left.count held ≡ s
-  pub follows : left.follows ≡ k.follows
+-- What a call gives back as its refusal's number, 0 for none.
+abbrev pub refusal_in : {A : Type 0} → Result A Refusal → ℕ
+refusal_in (Ok a) = 0
+refusal_in (Err r) = number_of r
 
--- A function behind `feed` answers what c gives, which judged `total` bytes: values, the held bytes in the front of an array, and the buffer.
-pub record Leaves (c : Called) (total : ℕ) (buf : List ℕ) (left : Left) (held buf' : List ℕ) : Type 0 where
-  pub values : fed_values_of left.answer ≡ values_at c total
-  pub count : left.count ≡ length c.held
-  pub bytes : take left.count held ≡ c.held
-  pub follows : left.follows ≡ c.follows
+-- What is known where a call is not refused.
+pub record Admitted (is_sound : Bool) (least given size : ℕ) : Type 0 where
+  pub sound : is_sound ≡ true
+  pub room : least ≤ given
+  pub short : size ≤ 65536
+
+-- What the functions behind `feed` are called with.
+abbrev pub Ready : Reader → List ℕ → List ℕ → Type 0
+Ready r chunk buf = Admitted (sound r) 256 (length buf) (length chunk)
+
+-- The state behind an optional byte that was dropped, where it was the first held.
+abbrev pub past : State → State
+past s =
+    let n : ℕ = absorbed s.format s.follows s.held in
+    holding s.format (drop n s.held) false (cond (eqb n 0) s.judged 0)
+
+-- A reader is set by a kept part, whose bytes stand in its array's front.
+pub record Settles (r : Reader) (k : Kept) (a : FeedAnswer) (r' : Reader) : Type 0 where
+  pub answer : a ≡ k.answer
+  pub format : r'.format ≡ r.format
+  pub held : r'.held ≡ r.held
+  pub count : r'.count ≡ k.end - k.from
+  pub follows : r'.follows ≡ k.follows
+  pub judged : HeldSo k.answer r'.count r'.judged
+
+-- The bytes of a kept part are held, and the answer goes on.
+pub record Stores (f : Format) (s : List ℕ) (k : Kept) (a : FeedAnswer) (r : Reader) : Type 0 where
+  pub answer : a ≡ k.answer
+  pub format : r.format ≡ f
+  pub count : r.count ≡ length s
+  pub bytes : take r.count r.held ≡ s
+  pub follows : r.follows ≡ k.follows
+  pub judged : HeldSo k.answer r.count r.judged
+
+-- A function behind `feed` answers what c gives, which judged `total` bytes: values, the reader that follows, and the buffer.
+pub record Leaves (f : Format) (c : Called) (total : ℕ) (buf : List ℕ) (answer : FeedAnswer) (r : Reader) (buf' : List ℕ) : Type 0 where
+  pub values : fed_values_of answer ≡ values_at c total
+  pub next : Holds (holding f c.held c.follows (judged_held c.out.frames c.held)) r
   pub buffer : buf' ≡ buffer_at c.out.frames buf
 
--- The same of the line call where the first `count` bytes of an array are held, `judged` of them judged at the first, by the mark, and where no optional byte
--- is to come.
-abbrev pub LeavesLine : Format → Bool → List ℕ → ℕ → ℕ → List ℕ → List ℕ → Left → List ℕ → List ℕ → Type 0
-LeavesLine f follows array count judged chunk buf left held buf' =
-    let h : List ℕ = take count array in Leaves (line_behind f follows h chunk) (line_judged (holding f h follows judged) chunk) buf left held buf'
+-- The same of the line call in a state, by the mark, and where no optional byte is to come.
+abbrev pub LeavesLine : State → List ℕ → List ℕ → FeedAnswer → Reader → List ℕ → Type 0
+LeavesLine s chunk = Leaves s.format (line s chunk) (line_judged s chunk)
 
-abbrev pub LeavesHeld : Format → List ℕ → ℕ → ℕ → List ℕ → List ℕ → Left → List ℕ → List ℕ → Type 0
-LeavesHeld f array count judged chunk buf left held buf' =
-    let h : List ℕ = take count array in Leaves (line_on f h chunk) (line_judged (holding f h false judged) chunk) buf left held buf'
+abbrev pub LeavesHeld : State → List ℕ → List ℕ → FeedAnswer → Reader → List ℕ → Type 0
+LeavesHeld s chunk = Leaves s.format (line_on s.format s.held chunk) (line_judged (holding s.format s.held false s.judged) chunk)
 
 -- A function behind `quiet` answers what c gives, which judged `total` bytes, with the reader that follows.
 pub record QuietAnswered (m : Format) (c : Called) (total : ℕ) (buf : List ℕ) (q : Quieted) (buf' : List ℕ) : Type 0 where
@@ -84,19 +115,11 @@ pub record PartFed (f : Format) (w : List ℕ) (count : ℕ) (buf : List ℕ) : 
   pub short : length w ≤ 65536
   pub room : 256 ≤ length buf
 
--- What `feed_chunk` is called with, and what `feed_long`, `feed_short` and `feed_on` are.
-pub record ChunkFed (f : Format) (held chunk : List ℕ) (reach noise judged : ℕ) (buf : List ℕ) : Type 0 where
-  pub long : 517 ≤ length held
+-- What `feed_chunk` is called with.
+pub record ChunkFed (f : Format) (chunk : List ℕ) (settled : Settled) (buf : List ℕ) : Type 0 where
   pub short : length chunk ≤ 65536
-  pub reached : reach ≤ length chunk
-  pub near : reach ≤ limit f
-  pub small : noise ≤ 517
-  pub few : judged ≤ 517 * 517
-  pub room : 256 ≤ length buf
-
-pub record HeldFed (f : Format) (held : List ℕ) (count judged : ℕ) (chunk buf : List ℕ) : Type 0 where
-  pub long : 517 ≤ length held
-  pub fits : count ≤ limit f
-  pub known : judged ≤ count
-  pub short : length chunk ≤ 65536
+  pub reached : settled.reach ≤ length chunk
+  pub near : settled.reach ≤ limit f
+  pub small : settled.noise ≤ 517
+  pub few : settled.judged ≤ 517 * 517
   pub room : 256 ≤ length buf

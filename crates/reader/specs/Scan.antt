@@ -1,7 +1,6 @@
 -- Behind the public calls: how scan.rt finds a frame, by judging whole slices and not byte by byte. proofs/ shows that what is made of a scan is what
 -- `line` gives.
-use Rattle.std.specs.Prelude.{ℕ, zero, suc, ◌+◌, ◌-◌, ◌*◌, ◌≤◌, ◌<◌, max, ◌≡◌, List, [], ◌∷◌, Bool, true, false, not, eqb, length, get_or, take, drop}
-use Rattle.std.specs.Fn.{Shared}
+use Rattle.std.specs.Prelude.{ℕ, zero, suc, ◌+◌, ◌-◌, ◌≤◌, ◌<◌, max, ◌≡◌, List, [], ◌∷◌, Bool, true, false, not, eqb, length, get_or, take, drop}
 use Rattle.frame.specs.Checks.{Verdict, cut, refused, frame}
 use Rattle.frame.specs.Framing.{judge, judged_as, judged_at}
 use Rattle.reader.specs.Reader.{ended, if_fails, buffer_at}
@@ -10,6 +9,7 @@ use Rattle.frame.specs.Judged.{payload_at}
 use Rattle.frame.specs.declared.framing.Format.{Format}
 use Rattle.reader.specs.declared.scan.ScanResult.{ScanResult}
 use Rattle.reader.specs.declared.scan.Step.{Step}
+use Rattle.reader.specs.declared.scan.Places.{Places}
 use Rattle.reader.specs.declared.scan.ScanEnd.{ScanEnd}
 use Rattle.reader.specs.declared.scan.ScanEnd.TheVariants.{Frame, Undecided, Passed}
 use Rattle.frame.specs.Ascii.{colon}
@@ -75,10 +75,6 @@ other b c = not (eqb c b)
 abbrev pub same : ℕ → ℕ → Bool
 same b c = eqb c b
 
--- A closure answers at each byte what a test does.
-abbrev pub Tests : {F : Type 0} → Shared F (ℕ × Unit {0}) Bool → F → (ℕ → Bool) → Type 0
-Tests g f test = (b : ℕ) (r : Bool) → b < 256 → g.post f (b, tt) r → r ≡ test b
-
 -- The bytes of s from one place to another, which is no further than `stop`, all pass a test.
 pub record Skips (test : ℕ → Bool) (s : List ℕ) (from stop to : ℕ) : Type 0 where
   pub onward : from ≤ to
@@ -86,11 +82,18 @@ pub record Skips (test : ℕ → Bool) (s : List ℕ) (from stop to : ℕ) : Typ
   pub others : all_pass test (take (to - from) (drop from s)) ≡ true
 
 -- What `scan` and `find` are called with.
-pub record Scannable (from stop reach : ℕ) (s : List ℕ) : Type 0 where
-  pub onward : from ≤ stop
-  pub inside : stop ≤ length s
-  pub reached : reach ≤ length s
+pub record Scannable (p : Places) (s : List ℕ) : Type 0 where
+  pub onward : p.from ≤ p.stop
+  pub inside : p.stop ≤ length s
+  pub reached : p.reach ≤ length s
   pub short : length s ≤ 65536
+
+-- The scan of s over such places, and the bytes that are judged at them.
+abbrev pub scan_over : Format → Places → List ℕ → Scanned
+scan_over f p s = scan_from (judging p.ended f) (p.stop - p.from) p.from p.reach (drop p.from s)
+
+abbrev pub judged_over : Format → Places → List ℕ → ℕ
+judged_over f p s = scan_judged f (judging p.ended f) (p.stop - p.from) (drop p.from s)
 
 -- The result that an answer of `scan` stands for.
 abbrev pub stop_of : Format → List ℕ → ScanEnd → Stop
@@ -118,18 +121,23 @@ pub record MayStart (s : List ℕ) (start place : ℕ) (may : Bool) : Type 0 whe
   pub starts : (may ≡ true) → get_or s place 0 ≡ start
   pub doubled : (may ≡ false) → get_or s place 0 ≡ start → (place + 1 < length s) × (get_or s (place + 1) 0 ≡ start)
 
--- Places of s from one on were passed at once, up to the next: a scan goes on there, with these bytes judged.
-pub record PassesOver (f : Format) (s : List ℕ) (from stop : ℕ) (step : Step) : Type 0 where
+abbrev pub step_to : ℕ → ℕ → ℕ → Step
+step_to place reach judged = record { place = place; reach = reach; judged = judged }
+
+-- A place failed with so many bytes judged.
+pub record FailsWith (v : Verdict) (judged : ℕ) : Type 0 where
+  pub number : ℕ
+  pub fails : v ≡ refused judged number
+
+-- Places of s from one on were passed, up to the next: a scan goes on there, with these bytes judged.
+pub record PassesOver (ended : Bool) (f : Format) (s : List ℕ) (from stop : ℕ) (step : Step) : Type 0 where
   pub onward : from < step.place
   pub inside : step.place ≤ stop
-  pub there : step.reach ≤ length s
-  pub few : step.judged ≤ 2 * length s
   pub scans :
-      (ended : Bool) (far : ℕ) →
+      (far : ℕ) →
       scan_from (judging ended f) (stop - from) from far (drop from s)
       ≡ scan_from (judging ended f) (stop - step.place) step.place (max far step.reach) (drop step.place s)
   pub counts :
-      (ended : Bool) →
       scan_judged f (judging ended f) (stop - from) (drop from s)
       ≡ step.judged + scan_judged f (judging ended f) (stop - step.place) (drop step.place s)
 

@@ -43,6 +43,50 @@ pub enum QuietAnswer {
     },
 }
 
+impl FeedAnswer {
+    // How many of `count` bytes that are held after an answer were judged at the first: all where more are needed; behind a frame none yet.
+    pub(crate) fn judged_held(self, count: usize) -> usize
+        ensures { HeldSo self count result }
+    {
+        match self {
+            FeedAnswer::Frame { .. } => 0,
+            FeedAnswer::NeedsMore { .. } => count,
+        }
+    }
+
+    // The answer of a call that took `first` bytes more, before the others.
+    pub(crate) fn took_first(self, first: usize) -> FeedAnswer
+        requires answer_bound { (fed_values_of self).taken ≤ 65536 }
+        requires first_bound { first ≤ 1 }
+        ensures { TookFirst first self result }
+    {
+        match self {
+            FeedAnswer::Frame {
+                taken,
+                noise,
+                judged,
+                len,
+                began,
+            } => FeedAnswer::Frame {
+                taken: first + taken,
+                noise,
+                judged,
+                len,
+                began,
+            },
+            FeedAnswer::NeedsMore {
+                taken,
+                noise,
+                judged,
+            } => FeedAnswer::NeedsMore {
+                taken: first + taken,
+                noise,
+                judged,
+            },
+        }
+    }
+}
+
 // What was there before a scan: held bytes at the front of the slice, noise bytes settled, and the chunk's length.
 #[derive(Drop)]
 pub(crate) struct Before {
@@ -61,48 +105,6 @@ pub(crate) struct Kept {
     pub(crate) follows: bool,
 }
 
-// How many of `count` bytes that are held after an answer were judged at the first: all where more are needed; behind a frame none yet.
-pub(crate) fn judged_held(answer: FeedAnswer, count: usize) -> usize
-    ensures { HeldSo answer count result }
-{
-    match answer {
-        FeedAnswer::Frame { .. } => 0,
-        FeedAnswer::NeedsMore { .. } => count,
-    }
-}
-
-// The answer of a call that took `first` bytes more, before the others.
-pub(crate) fn took_first(answer: FeedAnswer, first: usize) -> FeedAnswer
-    requires answer_bound { (fed_values_of answer).taken ≤ 65536 }
-    requires first_bound { first ≤ 1 }
-    ensures { TookFirst first answer result }
-{
-    match answer {
-        FeedAnswer::Frame {
-            taken,
-            noise,
-            judged,
-            len,
-            began,
-        } => FeedAnswer::Frame {
-            taken: first + taken,
-            noise: noise,
-            judged: judged,
-            len: len,
-            began: began,
-        },
-        FeedAnswer::NeedsMore {
-            taken,
-            noise,
-            judged,
-        } => FeedAnswer::NeedsMore {
-            taken: first + taken,
-            noise: noise,
-            judged: judged,
-        },
-    }
-}
-
 // The answer that more bytes are needed, where those from `from` up to `end` are held.
 fn more_needed(taken: usize, noise: usize, judged: usize, from: usize, end: usize) -> Kept
     ensures { result ≡ kept_as (FeedAnswer.NeedsMore taken noise judged) from end false }
@@ -113,8 +115,8 @@ fn more_needed(taken: usize, noise: usize, judged: usize, from: usize, end: usiz
             noise,
             judged,
         },
-        from: from,
-        end: end,
+        from,
+        end,
         follows: false,
     }
 }
@@ -132,10 +134,9 @@ pub(crate) fn answer(
 {
     let place = found.place;
     let far = found.reach;
-    let end = found.end;
     let noise = before.noise + place;
     let taken = before.size;
-    match end {
+    match found.end {
         ScanEnd::Frame { used, len } => {
             let taken = far - before.base;
             let next = place + used;

@@ -1,20 +1,21 @@
 // The line reader: frames out of chunks of a serial line, as they come.
-ghost use Rattle.std.specs.Prelude.{◌≡◌, [], false, cond, ◌+◌, ◌≤◌, eqb, length, take, drop, Ok};
+ghost use Rattle.std.specs.Prelude.{◌≡◌, [], true, false, cond, ◌+◌, ◌-◌, ◌≤◌, eqb, length, take, drop, Ok, OnOk};
 ghost use Rattle.std.proofs.Math.Seq.{paste};
-ghost use Rattle.frame.specs.Framing.{format_of, judge, limit, behind_optional};
-ghost use Rattle.reader.specs.Reader.{holding, line_behind, quiet_held, judged_to, line_judged, quiet_judged, new_reader, Holds, can_hold, Feeds, Quiets};
+ghost use Rattle.frame.specs.Framing.{format_of, judge, limit};
+ghost use Rattle.reader.specs.Reader.{holding, state_of, line_behind, quiet_held, judged_to, line_judged, quiet_judged, new_reader, Holds, can_hold, sound, call_refusal};
+ghost use Rattle.reader.specs.Reader.{Feeds, Quiets};
 ghost use Rattle.reader.specs.View.{part};
 ghost use Rattle.reader.specs.Answer.{scan_whole};
-ghost use Rattle.reader.specs.Feeding.{Joins, Stores, Leaves, LeavesHeld, LeavesLine, QuietAnswered, ChunkFed, HeldFed};
+ghost use Rattle.reader.specs.Feeding.{refusal_in, Admitted, Ready, past, Joins, Settles, Stores, Leaves, LeavesHeld, LeavesLine, QuietAnswered, ChunkFed};
 
-use crate::answer::{Before, FeedAnswer, Kept, QuietAnswer, answer, judged_held, took_first};
-use crate::scan::{ScanEnd, find, left_out};
+use crate::answer::{Before, FeedAnswer, Kept, QuietAnswer, answer};
+use crate::scan::{Places, ScanEnd, find, find_more};
 use frame::{Format, Framing, Refusal, absorbed, may_follow};
 
 // A reader's state, by value: its format; the bytes that it holds, the first `count` of `held`; and `follows`, whether an optional byte, the 04 of a frame that
 // may lack it or the LF behind a CR, may still follow the last frame and belong to it. In formats without such a byte `follows` means nothing. `judged` is how
 // many of the held bytes were judged at the first held place, which later calls don't count again.
-#[derive(Clone, Copy)]
+#[derive(Clone, Copy, PartialEq, Eq)]
 pub struct Reader {
     pub held: [u8; 517],
     pub follows: bool,
@@ -37,6 +38,15 @@ pub struct Quieted {
     pub answer: Result<QuietAnswer, Refusal>,
 }
 
+// What was settled before a chunk in which a call goes on: `noise` bytes, at whose places the call counts `judged` bytes, and for them the chunk's first
+// `reach` bytes were taken.
+#[derive(Clone, Copy)]
+struct Settled {
+    reach: usize,
+    noise: usize,
+    judged: usize,
+}
+
 // The held bytes of a state, and as much of a chunk as a frame that begins in them can have: the first `size` of `bytes`.
 #[derive(Drop)]
 struct Joined {
@@ -44,16 +54,8 @@ struct Joined {
     size: usize,
 }
 
-// An answer, how many bytes are held afterwards, the first of the caller's array, and whether an optional byte may follow.
-#[derive(Drop)]
-struct Left {
-    answer: FeedAnswer,
-    count: usize,
-    follows: bool,
-}
-
 // The longest frame of a format.
-pub(crate) fn limit_of(format: Format) -> usize
+fn limit_of(format: Format) -> usize
     ensures { result ≡ limit format }
 {
     match format {
@@ -62,21 +64,34 @@ pub(crate) fn limit_of(format: Format) -> usize
     }
 }
 
-// A state that holds the bytes of s, `judged` of which were judged at the first.
-pub(crate) fn hold(format: Format, s: &[u8], follows: bool, judged: usize) -> Reader
-    requires { length s.now ≤ 517 }
-    ensures { Holds (holding format s.now follows judged) result }
+// Whether a reader can hold so many bytes, of which so many were judged.
+pub(crate) fn can_hold(format: Format, count: usize, judged: usize) -> bool
+    ensures { result ≡ can_hold format count judged }
 {
-    let mut held = [0u8; 517];
-    octets::copy(s, &mut held);
-    let count = s.len();
-    Reader {
-        format,
-        held,
-        count,
-        follows,
-        judged,
+    count <= limit_of(format) && judged <= count
+}
+
+// Why a call is refused, if it is: with 16 where its state is not sound, 13 where the buffer has under `least` bytes, 15 where more than 65,536 bytes are
+// offered.
+pub(crate) fn admitted(
+    is_sound: bool,
+    least: usize,
+    room: usize,
+    size: usize,
+) -> Result<(), Refusal>
+    ensures number { refusal_in result ≡ call_refusal is_sound least room size }
+    ensures accepted { OnOk result (Admitted is_sound least room size) }
+{
+    if !is_sound {
+        return Err(Refusal::State);
     }
+    if room < least {
+        return Err(Refusal::Buffer);
+    }
+    if 65536 < size {
+        return Err(Refusal::Chunk);
+    }
+    Ok(())
 }
 
 // Joins held bytes and the chunk's front.
@@ -89,104 +104,10 @@ fn join(format: Format, held: &[u8], chunk: &[u8]) -> Joined
     let mut bytes = [0u8; 1034];
     octets::copy(held, &mut bytes);
     octets::copy(&chunk[..more], &mut bytes[count..]);
-    let size = count + more;
-    Joined { bytes, size }
-}
-
-// Puts the kept part of w into the front of held.
-fn keep(held: &mut [u8], w: &[u8], kept: Kept) -> Left
-    requires from_le_end { kept.from ≤ kept.end }
-    requires end_in_bounds { kept.end ≤ length w.now }
-    requires end_bound { kept.end ≤ kept.from + length held.old }
-    ensures { Stores (part kept.from kept.end w.now) kept held.new result }
-{
-    let from = kept.from;
-    let end = kept.end;
-    let answer = kept.answer;
-    octets::copy(&w[from..end], held);
-    Left {
-        answer: answer,
-        count: end - from,
-        follows: kept.follows,
+    Joined {
+        bytes,
+        size: count + more,
     }
-}
-
-// Moves the kept part of held to its front.
-fn shift(held: &mut [u8], kept: Kept) -> Left
-    requires from_le_end { kept.from ≤ kept.end }
-    requires end_in_bounds { kept.end ≤ length held.old }
-    ensures { Stores (part kept.from kept.end held.old) kept held.new result }
-{
-    let from = kept.from;
-    let count = kept.end - from;
-    let answer = kept.answer;
-    let follows = kept.follows;
-    if 0 < from {
-        held.copy_within(from..kept.end, 0);
-    }
-    Left {
-        answer,
-        count,
-        follows,
-    }
-}
-
-// Finds the next frame in a chunk, where none is held, `noise` bytes before the chunk were settled, for whose places the call counts `judged` bytes, and the
-// chunk's first `reach` bytes were taken. Held is what held has in its front afterwards.
-fn feed_chunk(
-    format: Format,
-    held: &mut [u8],
-    chunk: &[u8],
-    reach: usize,
-    noise: usize,
-    judged: usize,
-    buf: &mut [u8],
-) -> Left
-    requires { ChunkFed format held.old chunk.now reach noise judged buf.old }
-    ensures { Leaves (scan_whole format 0 noise reach chunk.now) (judged + judged_to format (judge format) chunk.now)
-        buf.old result held.new buf.new }
-{
-    let size = chunk.len();
-    let found = find(format, chunk, 0, size, reach, false, buf);
-    let before = Before {
-        base: 0,
-        noise: noise,
-        size: size,
-    };
-    let total = judged + found.judged;
-    keep(held, chunk, answer(format, chunk, found, before, total))
-}
-
-// Finds the next frame where the first `count` bytes of held are held and the chunk does not fit behind them.
-fn feed_long(
-    format: Format,
-    held: &mut [u8],
-    count: usize,
-    judged: usize,
-    chunk: &[u8],
-    buf: &mut [u8],
-) -> Left
-    requires { HeldFed format held.old count judged chunk.now buf.old }
-    ensures { LeavesHeld format held.old count judged chunk.now buf.old result held.new buf.new }
-{
-    let joined = join(format, &held[..count], chunk);
-    let size = joined.size;
-    let bytes = joined.bytes;
-    let whole = &bytes[..];
-    let w = &whole[..size];
-    let found = find(format, w, 0, count, count, false, buf);
-    let total = found.judged - left_out(format, w, found, judged, buf);
-    let far = found.reach;
-    let end = found.end;
-    if let ScanEnd::Passed = end {
-        return feed_chunk(format, held, chunk, far - count, count, total, buf);
-    }
-    let before = Before {
-        base: count,
-        noise: 0,
-        size: chunk.len(),
-    };
-    keep(held, w, answer(format, w, found, before, total))
 }
 
 // Puts the bytes of a chunk into held from `at` on, a single one without a call.
@@ -201,91 +122,15 @@ fn put_behind(held: &mut [u8], at: usize, chunk: &[u8])
     octets::copy(chunk, &mut held[at..]);
 }
 
-// Finds the next frame where the first `count` bytes of held are held and the chunk fits behind them: it is put there.
-fn feed_short(
-    format: Format,
-    held: &mut [u8],
-    count: usize,
-    judged: usize,
-    chunk: &[u8],
-    buf: &mut [u8],
-) -> Left
-    requires held_fed { HeldFed format held.old count judged chunk.now buf.old }
-    requires chunk_bound { count + length chunk.now ≤ limit format }
-    ensures { LeavesHeld format held.old count judged chunk.now buf.old result held.new buf.new }
+// Moves the bytes of held from `from` up to `end` to its front, unless they stand there.
+fn move_front(held: &mut [u8], from: usize, end: usize)
+    requires from_le_end { from ≤ end }
+    requires end_in_bounds { end ≤ length held.old }
+    ensures { take (end - from) held.new ≡ part from end held.old }
 {
-    let size = count + chunk.len();
-    put_behind(held, count, chunk);
-    let w = &held[..size];
-    let found = find(format, w, 0, size, count, false, buf);
-    let total = found.judged - left_out(format, w, found, judged, buf);
-    let before = Before {
-        base: count,
-        noise: 0,
-        size: chunk.len(),
-    };
-    let kept = answer(format, w, found, before, total);
-    shift(held, kept)
-}
-
-// The same, whether the chunk fits behind the held bytes or not.
-fn feed_on(
-    format: Format,
-    held: &mut [u8],
-    count: usize,
-    judged: usize,
-    chunk: &[u8],
-    buf: &mut [u8],
-) -> Left
-    requires { HeldFed format held.old count judged chunk.now buf.old }
-    ensures { LeavesHeld format held.old count judged chunk.now buf.old result held.new buf.new }
-{
-    if limit_of(format) - count < chunk.len() {
-        return feed_long(format, held, count, judged, chunk, buf);
+    if 0 < from {
+        held.copy_within(from..end, 0);
     }
-    feed_short(format, held, count, judged, chunk, buf)
-}
-
-// Finds the next frame where nothing is held: an optional byte that may follow the last one is taken first, at the chunk's front; with no byte offered it
-// may still follow.
-fn feed_next(format: Format, held: &mut [u8], follows: bool, chunk: &[u8], buf: &mut [u8]) -> Left
-    requires { ChunkFed format held.old chunk.now 0 0 0 buf.old }
-    ensures { Leaves (line_behind format follows [] chunk.now) (line_judged (holding format [] follows 0) chunk.now)
-        buf.old result held.new buf.new }
-{
-    if chunk.len() == 0 {
-        return Left {
-            answer: FeedAnswer::NeedsMore {
-                taken: 0,
-                noise: 0,
-                judged: 0,
-            },
-            count: 0,
-            follows: follows,
-        };
-    }
-    let first = absorbed(format, follows, chunk);
-    let left = feed_chunk(format, held, &chunk[first..], 0, 0, 0, buf);
-    let answer = left.answer;
-    Left {
-        answer: took_first(answer, first),
-        count: left.count,
-        follows: left.follows,
-    }
-}
-
-// Drops an optional byte that may follow the last frame from the front of the `count` bytes that are held, and gives how many are left.
-fn drop_optional(format: Format, held: &mut [u8], count: usize, follows: bool) -> usize
-    requires { count ≤ length held.old }
-    ensures upper_bound { result ≤ count }
-    ensures held_after { take result held.new ≡ behind_optional format follows (take count held.old) }
-{
-    if absorbed(format, follows, &held[..count]) == 0 {
-        return count;
-    }
-    let rest = count - 1;
-    held.copy_within(1..count, 0);
-    rest
 }
 
 // A state's number of judged bytes, or 0 where an optional byte was absorbed from the front of the held bytes, to whose place it belonged.
@@ -293,45 +138,6 @@ pub(crate) fn judged_behind(absorbed: usize, judged: usize) -> usize
     ensures { result ≡ cond (eqb absorbed 0) judged 0 }
 {
     if absorbed == 0 { judged } else { 0 }
-}
-
-// Finds the next frame where the first `count` bytes of held are held, `judged` of them judged at the first, and has those that are held afterwards in its
-// front.
-fn feed_state(
-    format: Format,
-    held: &mut [u8; 517],
-    count: usize,
-    follows: bool,
-    judged: usize,
-    chunk: &[u8],
-    buf: &mut [u8],
-) -> Left
-    requires { HeldFed format held.old count judged chunk.now buf.old }
-    ensures { LeavesLine format follows held.old count judged chunk.now buf.old
-        result held.new buf.new }
-{
-    if count == 0 {
-        return feed_next(format, held, follows, chunk, buf);
-    }
-    let rest = drop_optional(format, held, count, follows);
-    feed_on(
-        format,
-        held,
-        rest,
-        judged_behind(count - rest, judged),
-        chunk,
-        buf,
-    )
-}
-
-// Whether a reader can hold so many bytes, of which so many were judged.
-fn is_sound(format: Format, count: usize, judged: usize) -> bool
-    ensures { result ≡ can_hold format count judged }
-{
-    if limit_of(format) < count {
-        return false;
-    }
-    judged <= count
 }
 
 // The answer that no frame is left, with a new reader.
@@ -353,27 +159,31 @@ fn quiet_held(format: Format, s: &[u8], known: usize, buf: &mut [u8]) -> Quieted
     ensures { QuietAnswered format (quiet_held format s.now) (quiet_judged (holding format s.now false known))
         buf.old result buf.new }
 {
-    let found = find(format, s, 0, s.len(), 0, true, buf);
-    let judged = found.judged - left_out(format, s, found, known, buf);
-    let place = found.place;
-    let end = found.end;
-    match end {
+    let places = Places {
+        from: 0,
+        stop: s.len(),
+        reach: 0,
+        ended: true,
+    };
+    let found = find_more(format, s, places, known, buf);
+    let noise = found.place;
+    let judged = found.judged;
+    match found.end {
         ScanEnd::Frame { used, len } => {
-            let next = place + used;
-            let reader = hold(format, &s[next..], may_follow(format, s, next), 0);
-            let began = s.len() - place;
+            let next = noise + used;
+            let reader = Reader::hold(format, &s[next..], may_follow(format, s, next), 0);
+            let began = s.len() - noise;
             Quieted {
-                reader: reader,
+                reader,
                 answer: Ok(QuietAnswer::Frame {
-                    noise: place,
-                    judged: judged,
-                    len: len,
-                    began: began,
+                    noise,
+                    judged,
+                    len,
+                    began,
                 }),
             }
         }
-        ScanEnd::Undecided => emptied(format, place, judged),
-        ScanEnd::Passed => emptied(format, place, judged),
+        ScanEnd::Undecided | ScanEnd::Passed => emptied(format, noise, judged),
     }
 }
 
@@ -390,7 +200,7 @@ impl Reader {
         ensures { result ≡ new_reader format }
     {
         Reader {
-            format: format,
+            format,
             held: [0u8; Reader::MAX_ASCII],
             count: 0,
             follows: false,
@@ -405,6 +215,37 @@ impl Reader {
         Reader::open(framing.format())
     }
 
+    // A reader that holds the bytes of s, `judged` of which were judged at the first.
+    pub(crate) fn hold(format: Format, s: &[u8], follows: bool, judged: usize) -> Self
+        requires { length s.now ≤ 517 }
+        ensures { Holds (holding format s.now follows judged) result }
+    {
+        let mut held = [0u8; Reader::MAX_ASCII];
+        octets::copy(s, &mut held);
+        Reader {
+            format,
+            held,
+            count: s.len(),
+            follows,
+            judged,
+        }
+    }
+
+    // Why a call with this state is refused, if it is, that needs a buffer of `least` bytes, is given one of `room` bytes, and is offered `size` bytes: with 16
+    // where the state holds more bytes than a frame can have, or says that more bytes were judged than it holds, 13 where the buffer is too short, 15 where
+    // more than 65,536 bytes are offered.
+    pub fn admits(&self, least: usize, room: usize, size: usize) -> Result<(), Refusal>
+        ensures number { refusal_in result ≡ call_refusal (sound self.now) least room size }
+        ensures accepted { OnOk result (Admitted (sound self.now) least room size) }
+    {
+        admitted(
+            can_hold(self.format, self.count, self.judged),
+            least,
+            room,
+            size,
+        )
+    }
+
     // Takes bytes of a chunk until the next frame is settled, whose payload goes to the front of buf; the rest of buf stays. An optional byte that follows the
     // last frame is taken first, and is no noise; that of the frame which this call hands out is left for the next. Bytes that were taken behind the frame,
     // where an earlier start failed late, are held. Call it again with the chunk's rest, even an empty one, until more bytes are needed. Refused with 16
@@ -413,33 +254,13 @@ impl Reader {
     pub fn feed(mut self, chunk: &[u8], buf: &mut [u8]) -> Fed
         ensures { Feeds self chunk.now buf.old result buf.new }
     {
-        let format = self.format;
-        let count = self.count;
-        let judged = self.judged;
-        if !is_sound(format, count, judged) {
+        if let Err(refusal) = self.admits(Reader::MAX_PAYLOAD, buf.len(), chunk.len()) {
             return Fed {
                 reader: self,
-                answer: Err(Refusal::State),
+                answer: Err(refusal),
             };
         }
-        if buf.len() < Reader::MAX_PAYLOAD {
-            return Fed {
-                reader: self,
-                answer: Err(Refusal::Buffer),
-            };
-        }
-        if 65536 < chunk.len() {
-            return Fed {
-                reader: self,
-                answer: Err(Refusal::Chunk),
-            };
-        }
-        let follows = self.follows;
-        let left = feed_state(format, &mut self.held, count, follows, judged, chunk, buf);
-        let answer = left.answer;
-        self.count = left.count;
-        self.follows = left.follows;
-        self.judged = judged_held(answer, left.count);
+        let answer = self.feed_state(chunk, buf);
         Fed {
             reader: self,
             answer: Ok(answer),
@@ -449,27 +270,183 @@ impl Reader {
     // The line was quiet: the held bytes end their segment. An optional byte in front that follows the last frame is dropped; then it gives the next
     // frame in them, as `feed` does, or answers that they are empty, with a new reader's state, behind which such a byte is noise. Call it again until then.
     // Refused with 16, 13 as `feed` is.
-    pub fn quiet(self, buf: &mut [u8]) -> Quieted
+    pub fn quiet(mut self, buf: &mut [u8]) -> Quieted
         ensures { Quiets self buf.old result buf.new }
+    {
+        if let Err(refusal) = self.admits(Reader::MAX_PAYLOAD, buf.len(), 0) {
+            return Quieted {
+                reader: self,
+                answer: Err(refusal),
+            };
+        }
+        self.drop_optional();
+        quiet_held(self.format, &self.held[..self.count], self.judged, buf)
+    }
+
+    // Finds the next frame in the held bytes and a chunk behind them, and holds those that are left.
+    fn feed_state(&mut self, chunk: &[u8], buf: &mut [u8]) -> FeedAnswer
+        requires { Ready self.old chunk.now buf.old }
+        ensures { LeavesLine (state_of self.old) chunk.now buf.old result self.new buf.new }
+    {
+        if self.count == 0 {
+            return self.feed_next(chunk, buf);
+        }
+        self.drop_optional();
+        if limit_of(self.format) - self.count < chunk.len() {
+            self.feed_long(chunk, buf)
+        } else {
+            self.feed_short(chunk, buf)
+        }
+    }
+
+    // The same where nothing is held: an optional byte that may follow the last frame is taken first, at the chunk's front; with no byte offered it may still
+    // follow.
+    fn feed_next(&mut self, chunk: &[u8], buf: &mut [u8]) -> FeedAnswer
+        requires ready { Ready self.old chunk.now buf.old }
+        requires none_held { self.old.count ≡ 0 }
+        ensures { LeavesLine (state_of self.old) chunk.now buf.old result self.new buf.new }
+    {
+        if chunk.is_empty() {
+            return FeedAnswer::NeedsMore {
+                taken: 0,
+                noise: 0,
+                judged: 0,
+            };
+        }
+        let first = absorbed(self.format, self.follows, chunk);
+        let none = Settled {
+            reach: 0,
+            noise: 0,
+            judged: 0,
+        };
+        self.feed_chunk(&chunk[first..], none, buf)
+            .took_first(first)
+    }
+
+    // Drops an optional byte that may follow the last frame from the front of the held bytes. None may follow it then.
+    fn drop_optional(&mut self)
+        requires { sound self.old ≡ true }
+        ensures { Holds (past (state_of self.old)) self.new }
+    {
+        let first = absorbed(self.format, self.follows, &self.held[..self.count]);
+        move_front(&mut self.held, first, self.count);
+        self.count -= first;
+        self.judged = judged_behind(first, self.judged);
+        self.follows = false;
+    }
+
+    // Finds the next frame where bytes are held, none of them optional, and the chunk does not fit behind them.
+    fn feed_long(&mut self, chunk: &[u8], buf: &mut [u8]) -> FeedAnswer
+        requires { Ready self.old chunk.now buf.old }
+        ensures { LeavesHeld (state_of self.old) chunk.now buf.old result self.new buf.new }
     {
         let format = self.format;
         let count = self.count;
-        if !is_sound(format, count, self.judged) {
-            return Quieted {
-                reader: self,
-                answer: Err(Refusal::State),
+        let joined = join(format, &self.held[..count], chunk);
+        let w = &joined.bytes[..joined.size];
+        let places = Places {
+            from: 0,
+            stop: count,
+            reach: count,
+            ended: false,
+        };
+        let found = find_more(format, w, places, self.judged, buf);
+        if let ScanEnd::Passed = found.end {
+            let settled = Settled {
+                reach: found.reach - count,
+                noise: count,
+                judged: found.judged,
             };
+            return self.feed_chunk(chunk, settled, buf);
         }
-        if buf.len() < Reader::MAX_PAYLOAD {
-            return Quieted {
-                reader: self,
-                answer: Err(Refusal::Buffer),
-            };
-        }
-        let held = self.held;
-        let whole = &held[..];
-        let first = absorbed(format, self.follows, &whole[..count]);
-        let known = judged_behind(first, self.judged);
-        quiet_held(format, &whole[first..count], known, buf)
+        let before = Before {
+            base: count,
+            noise: 0,
+            size: chunk.len(),
+        };
+        self.keep(w, answer(format, w, found, before, found.judged))
+    }
+
+    // The same where the chunk fits behind the held bytes: it is put there.
+    fn feed_short(&mut self, chunk: &[u8], buf: &mut [u8]) -> FeedAnswer
+        requires ready { Ready self.old chunk.now buf.old }
+        requires chunk_bound { self.old.count + length chunk.now ≤ limit self.old.format }
+        ensures { LeavesHeld (state_of self.old) chunk.now buf.old result self.new buf.new }
+    {
+        let format = self.format;
+        let count = self.count;
+        let size = count + chunk.len();
+        put_behind(&mut self.held, count, chunk);
+        let places = Places {
+            from: 0,
+            stop: size,
+            reach: count,
+            ended: false,
+        };
+        let w = &self.held[..size];
+        let found = find_more(format, w, places, self.judged, buf);
+        let before = Before {
+            base: count,
+            noise: 0,
+            size: chunk.len(),
+        };
+        let kept = answer(format, w, found, before, found.judged);
+        self.shift(kept)
+    }
+
+    // Finds the next frame in a chunk, behind what was settled before it. The bytes that were held go.
+    fn feed_chunk(&mut self, chunk: &[u8], settled: Settled, buf: &mut [u8]) -> FeedAnswer
+        requires { ChunkFed self.old.format chunk.now settled buf.old }
+        ensures { Leaves self.old.format (scan_whole self.old.format 0 settled.noise settled.reach chunk.now)
+            (settled.judged + judged_to self.old.format (judge self.old.format) chunk.now) buf.old result self.new buf.new }
+    {
+        let format = self.format;
+        let size = chunk.len();
+        let places = Places {
+            from: 0,
+            stop: size,
+            reach: settled.reach,
+            ended: false,
+        };
+        let found = find(format, chunk, places, buf);
+        let before = Before {
+            base: 0,
+            noise: settled.noise,
+            size,
+        };
+        let judged = settled.judged + found.judged;
+        self.keep(chunk, answer(format, chunk, found, before, judged))
+    }
+
+    // Holds the kept part of w behind an answer.
+    fn keep(&mut self, w: &[u8], kept: Kept) -> FeedAnswer
+        requires from_le_end { kept.from ≤ kept.end }
+        requires end_in_bounds { kept.end ≤ length w.now }
+        requires end_bound { kept.end ≤ kept.from + 517 }
+        ensures { Stores self.old.format (part kept.from kept.end w.now) kept result self.new }
+    {
+        octets::copy(&w[kept.from..kept.end], &mut self.held);
+        self.settle(kept)
+    }
+
+    // Holds the kept part of its own array behind an answer.
+    fn shift(&mut self, kept: Kept) -> FeedAnswer
+        requires from_le_end { kept.from ≤ kept.end }
+        requires end_in_bounds { kept.end ≤ 517 }
+        ensures { Stores self.old.format (part kept.from kept.end self.old.held) kept result self.new }
+    {
+        move_front(&mut self.held, kept.from, kept.end);
+        self.settle(kept)
+    }
+
+    // The state behind an answer, where the kept bytes stand in the array's front.
+    fn settle(&mut self, kept: Kept) -> FeedAnswer
+        requires { kept.from ≤ kept.end }
+        ensures { Settles self.old kept result self.new }
+    {
+        self.count = kept.end - kept.from;
+        self.follows = kept.follows;
+        self.judged = kept.answer.judged_held(self.count);
+        kept.answer
     }
 }

@@ -1,10 +1,7 @@
-use Rattle.std.proofs.Common.{◌≡◌, ◌+◌, ◌-◌, ◌*◌, ◌≤◌, length, drop}
+use Rattle.std.proofs.Common.{◌≡◌, ◌+◌, ◌*◌, ◌≤◌, drop}
 use Rattle.frame.specs.Hex.{sum_of}
 use Rattle.frame.specs.Judged.{unhexed}
 use Rattle.frame.proofs.hex.tail_sum.Given as goal
 
-abbrev pub invariant-loop-i : goal.invariant-loop-i
-invariant-loop-i l = (l.i ≤ length l.s) × (l.sum + 255 * l.from ≤ 255 * l.i) × (l.sum + sum_of (unhexed (drop l.i l.s)) ≡ sum_of (unhexed (drop l.from l.s)))
-
-abbrev pub decreases-loop-i : goal.decreases-loop-i
-decreases-loop-i l = length l.s - l.i
+abbrev pub invariant-loop-pair : goal.invariant-loop-pair
+invariant-loop-pair l = (l.sum ≤ 255 * l.pair-index) × (l.sum + sum_of (unhexed (drop (2 * l.pair-index) l.s)) ≡ sum_of (unhexed l.s))

@@ -23,18 +23,18 @@ no-frame f s buf Passed h = refl
 
 pub slice_bounds-unpack-count : goal.slice_bounds-unpack-count
 slice_bounds-unpack-count c =
-    let at-frame : (let a = c.args in AtFrame a.format a.s.now a.stop c.scan-found.result.place c.scan-found.result.reach c.in-Frame.used (payload_at a.format (drop c.scan-found.result.place a.s.now) c.in-Frame.len)) = let a = c.args in
+    let at-frame : (let a = c.args in AtFrame a.format a.s.now a.places.stop c.scan-found.result.place c.scan-found.result.reach c.in-Frame.used (payload_at a.format (drop c.scan-found.result.place a.s.now) c.in-Frame.len)) = let a = c.args in
     let pre = c.requires.scannable in
-    scan_found_from a.ended a.format a.s.now a.stop a.from a.reach pre.inside pre.reached pre.onward
+    scan_found_from a.places.ended a.format a.s.now a.places.stop a.places.from a.places.reach pre.inside pre.reached pre.onward
     (scanned a.format a.s.now c.scan-found.result)
     c.scan-found.ensures.result_value _ _ (ap (stop_of a.format (drop c.scan-found.result.place a.s.now)) c.in-Frame.is) in
     omega (arith, (at-frame).before)
 
 pub slice_bounds-unpack-start : goal.slice_bounds-unpack-start
 slice_bounds-unpack-start c =
-    let at-frame : (let a = c.args in AtFrame a.format a.s.now a.stop c.scan-found.result.place c.scan-found.result.reach c.in-Frame.used (payload_at a.format (drop c.scan-found.result.place a.s.now) c.in-Frame.len)) = let a = c.args in
+    let at-frame : (let a = c.args in AtFrame a.format a.s.now a.places.stop c.scan-found.result.place c.scan-found.result.reach c.in-Frame.used (payload_at a.format (drop c.scan-found.result.place a.s.now) c.in-Frame.len)) = let a = c.args in
     let pre = c.requires.scannable in
-    scan_found_from a.ended a.format a.s.now a.stop a.from a.reach pre.inside pre.reached pre.onward
+    scan_found_from a.places.ended a.format a.s.now a.places.stop a.places.from a.places.reach pre.inside pre.reached pre.onward
     (scanned a.format a.s.now c.scan-found.result)
     c.scan-found.ensures.result_value _ _ (ap (stop_of a.format (drop c.scan-found.result.place a.s.now)) c.in-Frame.is) in
     omega (arith, (at-frame).before)
@@ -47,9 +47,9 @@ returns-in-Frame-clause-judged_value c = c.scan-found.ensures.judged_value
 
 pub returns-in-Frame-clause-buf_after : goal.returns-in-Frame-clause-buf_after
 returns-in-Frame-clause-buf_after c =
-    let at-frame : (let a = c.args in AtFrame a.format a.s.now a.stop c.scan-found.result.place c.scan-found.result.reach c.in-Frame.used (payload_at a.format (drop c.scan-found.result.place a.s.now) c.in-Frame.len)) = let a = c.args in
+    let at-frame : (let a = c.args in AtFrame a.format a.s.now a.places.stop c.scan-found.result.place c.scan-found.result.reach c.in-Frame.used (payload_at a.format (drop c.scan-found.result.place a.s.now) c.in-Frame.len)) = let a = c.args in
     let pre = c.requires.scannable in
-    scan_found_from a.ended a.format a.s.now a.stop a.from a.reach pre.inside pre.reached pre.onward
+    scan_found_from a.places.ended a.format a.s.now a.places.stop a.places.from a.places.reach pre.inside pre.reached pre.onward
     (scanned a.format a.s.now c.scan-found.result)
     c.scan-found.ensures.result_value _ _ (ap (stop_of a.format (drop c.scan-found.result.place a.s.now)) c.in-Frame.is) in
     let at = drop c.scan-found.result.place c.args.s.now in c.unpack.ensures.buf_after

@@ -1,13 +1,9 @@
-use Prim.Native.Nat.{◌+◌, ◌-◌, ◌≤◌}
-use mathlib.Core.Path.{◌≡◌}
-use lib.ListN.{drop}
-use Rattle.reader.specs.Scan.{judging, scan_from, scan_judged}
+use Prim.Native.Nat.{◌-◌}
+use Rattle.reader.proofs.Passing.{Come}
 use Rattle.reader.proofs.scan.scan.Given as goal
 
-abbrev pub invariant-loop-place : goal.invariant-loop-place
-invariant-loop-place l = (l.place ≤ l.stop)
-    × (scan_from (judging l.ended l.format) (l.stop - l.place) l.place l.far (drop l.place l.s) ≡ scan_from (judging l.ended l.format) (l.stop - l.from) l.from l.reach (drop l.from l.s))
-    × (l.total + scan_judged l.format (judging l.ended l.format) (l.stop - l.place) (drop l.place l.s) ≡ scan_judged l.format (judging l.ended l.format) (l.stop - l.from) (drop l.from l.s))
+abbrev pub invariant-loop-at : goal.invariant-loop-at
+invariant-loop-at l = Come l.format l.places l.s l.at
 
-abbrev pub decreases-loop-place : goal.decreases-loop-place
-decreases-loop-place l = l.stop - l.place
+abbrev pub decreases-loop-at : goal.decreases-loop-at
+decreases-loop-at l = l.places.stop - l.at.place

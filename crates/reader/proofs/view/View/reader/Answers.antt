@@ -17,20 +17,14 @@ returns-then-not-is_inside c =
     subst (λ (q : Bool). Holds (cond q (viewed c.args.self c.args.chunk.now) (holding c.args.self.format [] false 0)) c.«open».result) (sym no)
     (rw c.«open».ensures (record { state = refl; count = refl }))
 
-pub slice_bounds-hold-count : goal.slice_bounds-hold-count
-slice_bounds-hold-count c =
+pub slice_bounds-held-start : goal.slice_bounds-held-start
+slice_bounds-held-start c =
     let yes : inside c.args.self (length c.args.chunk.now) ≡ true = sym c.is_inside.ensures ∙ c.if-not-is_inside.false in
     let lies : Inside c.args.self (length c.args.chunk.now) = is_inside c.args.self (length c.args.chunk.now) (yes) in
     (lies).onward
 
-pub slice_bounds-hold-start : goal.slice_bounds-hold-start
-slice_bounds-hold-start c =
-    let yes : inside c.args.self (length c.args.chunk.now) ≡ true = sym c.is_inside.ensures ∙ c.if-not-is_inside.false in
-    let lies : Inside c.args.self (length c.args.chunk.now) = is_inside c.args.self (length c.args.chunk.now) (yes) in
-    (lies).onward
-
-pub slice_bounds-hold-end : goal.slice_bounds-hold-end
-slice_bounds-hold-end c =
+pub slice_bounds-held-end : goal.slice_bounds-held-end
+slice_bounds-held-end c =
     let yes : inside c.args.self (length c.args.chunk.now) ≡ true = sym c.is_inside.ensures ∙ c.if-not-is_inside.false in
     let lies : Inside c.args.self (length c.args.chunk.now) = is_inside c.args.self (length c.args.chunk.now) (yes) in
     (lies).there

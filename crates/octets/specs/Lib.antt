@@ -1,0 +1,2 @@
+-- What is said of runs of bytes.
+pub mod Runs
