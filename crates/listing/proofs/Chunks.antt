@@ -1,20 +1,19 @@
 -- Laws of the calls over one chunk, and of one quiet: what they list together.
 -- Assumes nothing.
 use Prim.Native.Nat.{ℕ, ◌+◌, ◌-◌, ◌*◌, ◌≤◌, ◌<◌, zero-le}
-use native.Mathlib.Nat.{add-zero, zero-add, le_refl, sub_self}
+use native.Mathlib.Nat.{add-zero, le_refl, sub_self}
 use native.Mathlib.Omega.{arith}
 use mathlib.Core.Path.{◌≡◌, refl, sym, ap, ap₂, ◌∙◌, subst, subst₂}
 use mathlib.Core.List.{List, [], ◌∷◌, ◌++◌, append-nil}
 use mathlib.Core.Bool.{Bool, true, false, cond, ◌&&◌, true≢false}
-use borrow.Author.Tests.{le-leb, lt-leb, leb-true}
+use borrow.Author.Tests.{le-leb, leb-true}
 use lib.Dec.{leb, eqb}
 use lib.ListN.{length, take, drop, length-take, length-drop}
-use lib.Seq.{take-length, drop-length, drop-drop}
+use lib.Seq.{drop-length, drop-drop}
 use Rattle.frame.specs.Framing.{limit, absorbed, in_front, behind_optional}
 use Rattle.frame.specs.Rule.{Output, output, nothing, join, places, out_from, rule}
 use Rattle.reader.specs.Reader.{State, holding, Called, line, quiet, line_judged, quiet_judged, judged_held, after, state_of, Holds, new_reader}
-use Rattle.reader.specs.Reader.{Values, frame_values, no_frame_values, refusal_values, feed_refusal, quiet_refusal, sound, AfterQuiet}
-use Rattle.reader.specs.Calls.{Answered, out_of}
+use Rattle.reader.specs.Reader.{Values, feed_refusal, quiet_refusal, sound, AfterQuiet}
 use Rattle.reader.specs.View.{inside, viewed, view_call, NextView, view_refusal, Stands}
 use Rattle.reader.specs.Draining.{Reports, size_of}
 use Rattle.frame.specs.declared.framing.Format.{Format}
@@ -28,13 +27,21 @@ use Rattle.frame.specs.declared.refusal.Refusal.{Refusal}
 use Rattle.frame.specs.declared.refusal.Refusal.TheVariants.{Start, Cut, Length, Checksum, Footer, Character, Buffer, Payload, Chunk, State as BadState}
 use Rattle.reader.proofs.Theorems.{line_drains, needs_more_is_drained, needs_more_is_true, quiet_follows_rule, empty_is_drained}
 use Rattle.reader.proofs.Theorems.{drain_is_sized, rule_is_sized, line_counts_lem, quiet_counts_lem, drain_counts, state_bound}
-use Rattle.message.specs.Put.{Puts}
 use Rattle.listing.specs.Line.{line_of, lines_of}
-use Rattle.listing.specs.Listing.{text_values, no_text_values, values_of, Lists, chunk_refusal, end_refusal, ListsQuiet}
-use Rattle.listing.specs.Parts.{PartlyPut, Progress, PartlyDrained, Room, ListsRest, judged_most}
+use Rattle.listing.specs.Listing.{text_values, no_text_values, values_of, Lists, chunk_refusal, end_refusal}
+use Rattle.std.specs.Prelude.{Result, Ok, Err}
+use Rattle.std.specs.Borrow.{MutBor}
+use Rattle.reader.specs.Reader.{feed_values_of, quiet_values_of, call_refusal}
+use Rattle.reader.specs.declared.answer.FeedAnswer.{FeedAnswer}
+use Rattle.reader.specs.declared.answer.FeedAnswer.TheVariants.{Frame as FeedFrame, NeedsMore}
+use Rattle.reader.specs.declared.answer.QuietAnswer.{QuietAnswer}
+use Rattle.reader.specs.declared.answer.QuietAnswer.TheVariants.{Frame as QuietFrame, Empty}
+use Rattle.listing.specs.Parts.{HasRoom, Writes, PartlyWritten, Starts, CanCount, CanAdd, Adds, Progress, PartlyDrained, Room, ListsRest, judged_most}
+use Rattle.listing.specs.Parts.{listed_of}
+use Rattle.listing.specs.declared.text.Listing.{Listing}
+use Rattle.listing.specs.declared.text.Lines.{Lines}
 use Rattle.listing.specs.declared.list.Listed.{Listed}
-use Rattle.listing.specs.declared.list.ListAnswer.TheVariants.{Lines, Refused}
-use Rattle.listing.proofs.Texts.{partly_put, partly_put_room, partly_put_next, partly_put_part, partly_put_done, partly_put_last}
+use Rattle.listing.proofs.Texts.{partly_none, partly_next, partly_last, partly_room, part_room, starts_front}
 use Rattle.listing.proofs.Fits.{lines_short}
 
 -- A frame, after noise.
@@ -46,48 +53,46 @@ abbrev pub none : ℕ → Output (List ℕ)
 none n = output [] n
 
 -- All is left.
-pub progress : (whole : Output (List ℕ)) (out : List ℕ) (at base : ℕ) → Progress whole whole out at base at base out
-progress whole out at base = record { text = partly_put out at refl; noises = refl }
+pub progress : (whole : Output (List ℕ)) (g : Listing) → Progress whole whole g g
+progress whole g = record { text = partly_none g refl; noises = refl }
 
-module _ {whole left : Output (List ℕ)} {out₀ out : List ℕ} {at base end noise : ℕ} (g : Progress whole left out₀ at base end noise out) where
-  -- A frame's line is to be put next.
-  text_next : (p : List ℕ) (n : ℕ) (later : Output (List ℕ)) → left ≡ join (one p n) later →
-      PartlyPut out₀ at (lines_of whole.frames) (line_of p ++ lines_of later.frames) end out
+module _ {whole left : Output (List ℕ)} {g₀ g : Listing} (p : Progress whole left g₀ g) where
+  -- A frame's line is to be written next.
+  text_next : (s : List ℕ) (n : ℕ) (later : Output (List ℕ)) → left ≡ join (one s n) later →
+      PartlyWritten g₀ (lines_of whole.frames) (line_of s ++ lines_of later.frames) g
   unfolding join
-  text_next p n later e = rw e at g.text
+  text_next s n later e = rw e at p.text
 
-  module _ (room : at + length (lines_of whole.frames) ≤ length out₀) where
-    -- There is room for it.
-    pub progress_room : (p : List ℕ) (n : ℕ) (later : Output (List ℕ)) → left ≡ join (one p n) later → end + length (line_of p) ≤ length out
-    progress_room p n later e = partly_put_part (line_of p) (lines_of later.frames) room (text_next p n later e)
+  -- There is room for it.
+  pub progress_room : HasRoom g₀ (lines_of whole.frames) → (s : List ℕ) (n : ℕ) (later : Output (List ℕ)) → left ≡ join (one s n) later → HasRoom g (line_of s)
+  progress_room room s n later e = part_room (line_of s) (lines_of later.frames) room (text_next s n later e)
 
-    -- It is put.
-    pub progress_frame :
-        (p : List ℕ) (n : ℕ) (later : Output (List ℕ)) {next : ℕ} {after : List ℕ} → left ≡ join (one p n) later → Puts out end (line_of p) next after →
-        Progress whole later out₀ at base next (noise + n) after
-    unfolding join
-    progress_frame p n later e q =
-        record {
-          text = partly_put_next room (text_next p n later e) q;
-          noises = omega (arith, g.noises, ap (λ (o : Output (List ℕ)). o.noise) e);
-        }
+  -- It is written.
+  pub progress_frame :
+      (s : List ℕ) (n : ℕ) (later : Output (List ℕ)) {j : ℕ} {g' : Listing} → left ≡ join (one s n) later → Adds g (line_of s) n j g' →
+      Progress whole later g₀ g'
+  unfolding join
+  progress_frame s n later e q =
+      record {
+        text = partly_next (text_next s n later e) q.text;
+        noises = omega (arith, p.noises, q.noise, ap (λ (o : Output (List ℕ)). o.noise) e);
+      }
 
-    -- Noise is all that was left.
-    progress_end : (n : ℕ) → left ≡ none n → Puts out₀ at (lines_of whole.frames) end out × (noise + n ≡ base + whole.noise)
-    progress_end n e = (partly_put_done room (rw e at g.text), omega (arith, g.noises, ap (λ (o : Output (List ℕ)). o.noise) e))
+  -- Noise is all that was left.
+  pub progress_end : (n : ℕ) {j : ℕ} {g' : Listing} → left ≡ none n → Adds g [] n j g' →
+      Writes g₀ (lines_of whole.frames) g' × (g'.lines.noise ≡ g₀.lines.noise + whole.noise)
+  progress_end n {g' = g'} e q = (
+    partly_last (rw e at p.text) q.text,
+    omega (arith, p.noises, q.noise, ap (λ (o : Output (List ℕ)). o.noise) e),
+  )
 
   -- The noise so far is no more than all of it.
-  pub progress_noise : (n : ℕ) → n ≤ left.noise → noise + n ≤ base + whole.noise
-  progress_noise n l = omega (arith, g.noises)
-
--- Text in the front of a buffer.
-pub puts_front : (out text after : List ℕ) (end : ℕ) → Puts out 0 text end after → (end ≡ length text) × (after ≡ in_front text out)
-puts_front out text after end p =
-    (p.ends ∙ zero-add (length text), p.bytes ∙ rw (take-length text, zero-add (length text)))
+  pub progress_noise : (n : ℕ) → n ≤ left.noise → g.lines.noise + n ≤ g₀.lines.noise + whole.noise
+  progress_noise n l = omega (arith, p.noises)
 
 -- What is listed fits its buffer.
 pub room_for : (m : Format) (o : Output (List ℕ)) (size most room : ℕ) → size_of m o ≤ size → size ≤ most → 3 * most ≤ room →
-    0 + length (lines_of o.frames) ≤ room
+    length (lines_of o.frames) ≤ room
 room_for m o size most room s l h = omega (arith, lines_short m o.frames)
 
 -- No frame is longer than 517 bytes.
@@ -125,20 +130,26 @@ is_sound r l m =
 pub held_few : (r : Reader) → length (state_of r).held ≤ r.count
 held_few r = omega (arith, length-take r.count r.held)
 
--- What a chunk gives has room, and little noise.
-pub chunk_room : (r : Reader) (chunk out : List ℕ) → r.count ≤ limit r.format → length chunk ≤ 65536 → 198159 ≤ length out →
-    Room (drain (state_of r) chunk) 0 0 out
-chunk_room r chunk out l m h =
+-- What a chunk gives has few bytes of text, and little noise.
+pub drain_is_small : (r : Reader) (chunk : List ℕ) → r.count ≤ limit r.format → length chunk ≤ 65536 →
+    (length (lines_of (drain (state_of r) chunk).out.frames) ≤ 198159) × ((drain (state_of r) chunk).out.noise ≤ 66053)
+drain_is_small r chunk l m =
     let size = drain_is_sized (state_of r) chunk in
-    let few : length (state_of r).held + length chunk ≤ 66053 = omega (arith, held_few r, limit_most r.format) in
-    record {
-      room = room_for r.format (drain (state_of r) chunk).out (length (state_of r).held + length chunk) 66053 (length out) (omega arith) few (omega arith);
-      few = omega arith;
-    }
+    let few : length (state_of r).held + length chunk ≤ 66053 = omega (arith, held_few r, limit_most r.format) in (
+      room_for r.format (drain (state_of r) chunk).out (length (state_of r).held + length chunk) 66053 198159 (omega arith) few (omega arith),
+      omega arith,
+    )
+
+-- So there is room for it.
+pub chunk_room : (r : Reader) (chunk : List ℕ) (out : MutBor (List ℕ)) (g : Listing) → Starts out g → r.count ≤ limit r.format → length chunk ≤ 65536 →
+    198159 ≤ length out.now → Room (drain (state_of r) chunk) g
+chunk_room r chunk out g b l m h =
+    let size = drain_is_small r chunk l m in
+    record { room = omega (arith, b.len, b.size, size.0); few = omega (arith, b.noise, size.1) }
 
 -- So has what the rule gives at a quiet.
 pub quiet_room : (r : Reader) (out : List ℕ) → r.count ≤ limit r.format → 1551 ≤ length out →
-    (0 + length (lines_of (rule_after (state_of r) []).frames) ≤ length out) × ((rule_after (state_of r) []).noise ≤ 517)
+    (length (lines_of (rule_after (state_of r) []).frames) ≤ length out) × ((rule_after (state_of r) []).noise ≤ 517)
 quiet_room r out l h =
     let held : List ℕ = (state_of r).held ++ [] in
     let rest : List ℕ = behind_optional r.format r.follows held in
@@ -159,11 +170,10 @@ chunk_judged r chunk l m =
     omega (arith, state_bound (state_of r) chunk, most_judged_lem r.format (length (state_of r).held + length chunk))
 
 -- The first call is still to come.
-pub partly_drained :
-    (s : State) (chunk out : List ℕ) (at base before : ℕ) {total : ℕ} → before + judged_after s chunk ≡ total → s.judged ≤ length s.held →
-    PartlyDrained (drain s chunk) total s chunk out at base at base before out
-partly_drained s chunk out at base before e known =
-    record { same = refl; mark = refl; progress = progress (drain s chunk).out out at base; counts = e; known = known }
+pub partly_drained : (s : State) (chunk : List ℕ) (g : Listing) → s.judged ≤ length s.held →
+    PartlyDrained (drain s chunk) (g.lines.judged + judged_after s chunk) s chunk g g
+partly_drained s chunk g known =
+    record { same = refl; mark = refl; progress = progress (drain s chunk).out g; counts = refl; known = known }
 
 -- States with equal parts.
 state_is : {m m' : Format} {h h' : List ℕ} {q q' : Bool} → m ≡ m' → h ≡ h' → q ≡ q' → holding m h q (length h) ≡ holding m' h' q' (length h')
@@ -181,9 +191,9 @@ call_counts s rest known =
 
 -- Where n and what is judged of the bytes that stay are all that is judged from a state on, behind `before`, n is what the calls over the chunk judge.
 pub all_judged :
-    (s : State) (chunk : List ℕ) (before : ℕ) {total judged : ℕ} → s.judged ≤ length s.held → before + judged_after s chunk ≡ total →
-    before + drain_judged s chunk ≡ judged → (n : ℕ) → n + judged_after (after_drain s (drain s chunk)) [] ≡ total → n ≡ judged
-all_judged s chunk before known e j n k =
+    (s : State) (chunk : List ℕ) (before : ℕ) → s.judged ≤ length s.held → (n : ℕ) →
+    n + judged_after (after_drain s (drain s chunk)) [] ≡ before + judged_after s chunk → n ≡ before + drain_judged s chunk
+all_judged s chunk before known n k =
     let all : judged_after s chunk ≡ drain_judged s chunk + judged_after (after_drain s (drain s chunk)) [] =
     ap (judged_after s) (sym (append-nil chunk)) ∙ drain_counts s chunk [] known in
     omega (arith, all)
@@ -192,12 +202,8 @@ all_judged s chunk before known e j n k =
 none_judged : (s : State) (c : Called) (p : List ℕ) → c.out.frames ≡ p ∷ [] → (after s c).judged ≡ 0
 none_judged s c p e = ap (λ (fs : List (List ℕ)). judged_held fs c.held) e
 
-module _ {whole : Drained} {total : ℕ} {s : State} {rest out₀ : List ℕ} {at base end noise judged : ℕ} {out : List ℕ}
-    (g : PartlyDrained whole total s rest out₀ at base end noise judged out) (fits : Room whole at base out₀) where
-  -- The bytes judged so far are no more than all of them.
-  pub call_judged : {n : ℕ} → n ≡ line_judged s rest → judged + n ≤ total
-  call_judged e = omega (arith, g.counts, call_counts s rest g.known)
-
+module _ {whole : Drained} {total : ℕ} {s : State} {rest : List ℕ} {g₀ g : Listing}
+    (d : PartlyDrained whole total s rest g₀ g) (fits : Room whole g₀) where
   -- What is left begins with what the call gives.
   left_is : (o : Output (List ℕ)) → (line s rest).out ≡ o →
       (drain s rest).out ≡ join o (drain (after s (line s rest)) (drop (line s rest).taken rest)).out
@@ -205,26 +211,28 @@ module _ {whole : Drained} {total : ℕ} {s : State} {rest out₀ : List ℕ} {a
       ap (λ (st : Drained). st.out) (line_drains s rest)
       ∙ ap (λ (x : Output (List ℕ)). join x (drain (after s (line s rest)) (drop (line s rest).taken rest)).out) e
 
-  -- A frame came out: there is room for its line, the noise so far is small, and behind it the calls go on.
-  module _ (p : List ℕ) (more : ℕ) (e : (line s rest).out ≡ one p more) where
-    pub frame_room : end + length (line_of p) ≤ length out
-    frame_room = progress_room g.progress fits.room p more _ (left_is (one p more) e)
-
-    pub frame_noise : noise + more ≤ 66053
+  -- A frame came out: its line can be added to the listing, and behind it the calls go on.
+  module _ (p : List ℕ) (more : ℕ) (e : (line s rest).out ≡ one p more) (n : ℕ) (j : n ≡ line_judged s rest) where
+    pub frame_can : total ≤ judged_most → CanAdd g (line_of p) more n
     unfolding join
-    frame_noise =
+    frame_can h =
         let l : more ≤ (drain s rest).out.noise = omega (arith, ap (λ (o : Output (List ℕ)). o.noise) (left_is (one p more) e)) in
-        omega (arith, progress_noise g.progress more l, fits.few)
-
-    pub frame_step :
-        {next n : ℕ} {out' : List ℕ} → Puts out end (line_of p) next out' → n ≡ line_judged s rest →
-        PartlyDrained whole total (after s (line s rest)) (drop (line s rest).taken rest) out₀ at base next (noise + more) (judged + n) out'
-    frame_step q j =
         record {
-          same = sym (ap (λ (st : Drained). st.held) (line_drains s rest)) ∙ g.same;
-          mark = sym (ap (λ (st : Drained). st.follows) (line_drains s rest)) ∙ g.mark;
-          progress = progress_frame g.progress fits.room p more _ (left_is (one p more) e) q;
-          counts = omega (arith, g.counts, call_counts s rest g.known);
+          room = progress_room d.progress fits.room p more _ (left_is (one p more) e);
+          counts = record {
+            noise = omega (arith, progress_noise d.progress more l, fits.few);
+            judged = omega (arith, d.counts, call_counts s rest d.known);
+          };
+        }
+
+    pub frame_step : {g' : Listing} → Adds g (line_of p) more n g' →
+        PartlyDrained whole total (after s (line s rest)) (drop (line s rest).taken rest) g₀ g'
+    frame_step q =
+        record {
+          same = sym (ap (λ (st : Drained). st.held) (line_drains s rest)) ∙ d.same;
+          mark = sym (ap (λ (st : Drained). st.follows) (line_drains s rest)) ∙ d.mark;
+          progress = progress_frame d.progress p more _ (left_is (one p more) e) q;
+          counts = omega (arith, d.counts, q.judged, call_counts s rest d.known);
           known = omega (arith, none_judged s (line s rest) p (ap (λ (o : Output (List ℕ)). o.frames) e));
         }
 
@@ -235,7 +243,7 @@ module _ {whole : Drained} {total : ℕ} {s : State} {rest out₀ : List ℕ} {a
     frame_less = omega (arith, ap (λ (o : Output (List ℕ)). length o.frames) (left_is (one p more) e))
 
   -- None did: all is drained.
-  module _ (more : ℕ) (e : (line s rest).out ≡ none more) where
+  module _ (more : ℕ) (e : (line s rest).out ≡ none more) (n : ℕ) (j : n ≡ line_judged s rest) where
     none_frames : (line s rest).out.frames ≡ []
     none_frames = ap (λ (o : Output (List ℕ)). o.frames) e
 
@@ -250,28 +258,30 @@ module _ {whole : Drained} {total : ℕ} {s : State} {rest out₀ : List ℕ} {a
         ∙ ap₂ before e (ap (drain (after s c)) none_rest ∙ needs_more_is_drained s rest none_frames)
         ∙ (λ i. drained (output [] (add-zero more i)) c.held c.follows)
 
-    pub none_noise : noise + more ≤ 66053
-    none_noise =
+    pub none_can : total ≤ judged_most → CanCount g more n
+    none_can h =
         let l : more ≤ (drain s rest).out.noise = omega (arith, ap (λ (st : Drained). st.out.noise) all_drained) in
-        omega (arith, progress_noise g.progress more l, fits.few)
+        record {
+          noise = omega (arith, progress_noise d.progress more l, fits.few);
+          judged = omega (arith, d.counts, call_counts s rest d.known);
+        }
 
     -- All is listed.
     pub none_lists :
-        (s₀ : State) (r : Reader) (a : Listed) {n most : ℕ} → s.format ≡ s₀.format → Holds (after s (line s rest)) r → n ≡ line_judged s rest →
-        ((x : ℕ) → x + judged_after (after_drain s₀ whole) [] ≡ total → x ≡ most) →
-        a.reader ≡ r → a.answer ≡ Lines end (noise + more) (judged + n) → ListsRest s₀ whole most out₀ at base a out
-    none_lists s₀ r a {n} ef h j most er ea =
-        let all = progress_end g.progress fits.room more (ap (λ (st : Drained). st.out) all_drained) in
-        let left : (line s rest).held ≡ whole.held = sym (ap (λ (st : Drained). st.held) all_drained) ∙ g.same in
-        let mark : (line s rest).follows ≡ whole.follows = sym (ap (λ (st : Drained). st.follows) all_drained) ∙ g.mark in
+        (s₀ : State) (r : Reader) {most : ℕ} {g' : Listing} → s.format ≡ s₀.format → Holds (after s (line s rest)) r →
+        ((x : ℕ) → x + judged_after (after_drain s₀ whole) [] ≡ total → x ≡ most) → Adds g [] more n g' → ListsRest s₀ whole most g₀ r g'
+    none_lists s₀ r {g' = g'} ef h most q =
+        let all = progress_end d.progress more (ap (λ (st : Drained). st.out) all_drained) q in
+        let left : (line s rest).held ≡ whole.held = sym (ap (λ (st : Drained). st.held) all_drained) ∙ d.same in
+        let mark : (line s rest).follows ≡ whole.follows = sym (ap (λ (st : Drained). st.follows) all_drained) ∙ d.mark in
         let next : after s (line s rest) ≡ after_drain s₀ whole =
         ap (λ (fs : List (List ℕ)). holding s.format (line s rest).held (line s rest).follows (judged_held fs (line s rest).held)) none_frames
         ∙ state_is ef left mark in
-        let counted = most (judged + n) (omega (arith, g.counts, call_counts s rest g.known, ap₂ judged_after next none_rest)) in
         record {
-          values = ap values_of ea ∙ (λ i. text_values (all.0.ends i) (all.1 i) (counted i));
-          state = subst (Holds (after_drain s₀ whole)) (sym er) (subst (λ (x : State). Holds x r) next h);
-          puts = subst (λ (n : ℕ). Puts out₀ at (lines_of whole.out.frames) n out) all.0.ends all.0;
+          text = all.0;
+          noise = all.1;
+          judges = most g'.lines.judged (omega (arith, d.counts, q.judged, call_counts s rest d.known, ap₂ judged_after next none_rest));
+          state = subst (λ (x : State). Holds x r) next h;
         }
 
 -- No refusal has the number 0.
@@ -287,36 +297,46 @@ number_some Payload e = true≢false (sym e)
 number_some Chunk e = true≢false (sym e)
 number_some BadState e = true≢false (sym e)
 
--- What the values of a call's answer say where its number is 0.
-module _ {S : Type 0} {number : ℕ} (c : Called) {judged : ℕ} {Next : S → Type 0} {s : S} {buf : List ℕ} {v : Values} {s' : S} {buf' : List ℕ}
-    (h : Reports number c judged Next s buf v s' buf') (z : number ≡ 0) where
-  answered : Answered v
-  answered = by (eqb v.number 0) refl
+-- What an answer says of a call that was not refused, which gives c and judges so many bytes: a frame, whose payload is in the buffer's front, or none.
+pub record SaysFrame (c : Called) (judged : ℕ) (buf : List ℕ) (taken noise n len : ℕ) : Type 0 where
+  pub inside : len ≤ length buf
+  pub out : c.out ≡ one (take len buf) noise
+  pub taken_is : taken ≡ c.taken
+  pub judges : n ≡ judged
+
+pub record SaysNone (c : Called) (judged noise n : ℕ) : Type 0 where
+  pub out : c.out ≡ none noise
+  pub judges : n ≡ judged
+
+abbrev pub FeedSays : Called → ℕ → List ℕ → Result FeedAnswer Refusal → Type 0
+FeedSays c judged buf (Ok (FeedFrame taken noise n len began)) = SaysFrame c judged buf taken noise n len
+FeedSays c judged buf (Ok (NeedsMore taken noise n)) = SaysNone c judged noise n
+FeedSays c judged buf (Err r) = ⊥
+
+abbrev pub QuietSays : Called → ℕ → List ℕ → Result QuietAnswer Refusal → Type 0
+QuietSays c judged buf (Ok (QuietFrame noise n len began)) = (len ≤ length buf) × (c.out ≡ one (take len buf) noise) × (n ≡ judged)
+QuietSays c judged buf (Ok (Empty noise n)) = SaysNone c judged noise n
+QuietSays c judged buf (Err r) = ⊥
+
+module _ {S : Type 0} {number : ℕ} (c : Called) {judged : ℕ} {Next : S → Type 0} {s : S} {buf : List ℕ} {s' : S} {buf' : List ℕ} (z : number ≡ 0) where
+  none_refused : {v : Values} (r : Refusal) → v.number ≡ number_of r → Reports number c judged Next s buf v s' buf' → ⊥
+  none_refused {v} r e h = by (eqb v.number 0) refl
     where
-      by : (q : Bool) → eqb v.number 0 ≡ q → eqb v.number 0 ≡ true
-      by true e = e
-      by false e = absurd (true≢false (ap (λ (n : ℕ). eqb n 0) (sym z) ∙ (h.refused e).0))
+      by : (q : Bool) → eqb v.number 0 ≡ q → ⊥
+      by true t = number_some r (ap (λ (n : ℕ). eqb n 0) (sym e) ∙ t)
+      by false t = true≢false (ap (λ (n : ℕ). eqb n 0) (sym z) ∙ (h.refused t).0)
 
-  pub reports_frame : {taken more n len back : ℕ} → v ≡ frame_values taken more n len back → c.out ≡ one (take len buf') more
-  reports_frame e = sym (h.answered answered).1 ∙ ap (λ (x : Values). out_of x buf') e
+  pub feed_says : (a : Result FeedAnswer Refusal) → Reports number c judged Next s buf (feed_values_of a) s' buf' → FeedSays c judged buf' a × Next s'
+  feed_says (Ok (FeedFrame taken noise n len began)) h =
+      let k = h.answered refl in
+      (record { inside = h.inside; out = sym k.1; taken_is = k.2; judges = h.counted refl }, k.3)
+  feed_says (Ok (NeedsMore taken noise n)) h = let k = h.answered refl in (record { out = sym k.1; judges = h.counted refl }, k.3)
+  feed_says (Err r) h = absurd (none_refused r refl h)
 
-  pub reports_none : {taken more n : ℕ} → v ≡ no_frame_values taken more n → c.out ≡ none more
-  reports_none e = sym (h.answered answered).1 ∙ ap (λ (x : Values). out_of x buf') e
-
-  pub reports_inside : {taken more n len back : ℕ} → v ≡ frame_values taken more n len back → len ≤ length buf'
-  reports_inside e = subst (λ (x : Values). x.len ≤ length buf') e h.inside
-
-  pub reports_taken : {taken more n len back : ℕ} → v ≡ frame_values taken more n len back → taken ≡ c.taken
-  reports_taken e = sym (ap (λ (x : Values). x.taken) e) ∙ (h.answered answered).2
-
-  pub reports_judged : v.judged ≡ judged
-  reports_judged = h.counted answered
-
-  pub reports_next : Next s'
-  reports_next = (h.answered answered).3
-
-  pub reports_refused : (r : Refusal) → v ≡ refusal_values (number_of r) → ⊥
-  reports_refused r e = number_some r (ap (λ (x : Values). eqb x.number 0) (sym e) ∙ answered)
+  pub quiet_says : (a : Result QuietAnswer Refusal) → Reports number c judged Next s buf (quiet_values_of a) s' buf' → QuietSays c judged buf' a × Next s'
+  quiet_says (Ok (QuietFrame noise n len began)) h = let k = h.answered refl in ((h.inside, sym k.1, h.counted refl), k.3)
+  quiet_says (Ok (Empty noise n)) h = let k = h.answered refl in (record { out = sym k.1; judges = h.counted refl }, k.3)
+  quiet_says (Err r) h = absurd (none_refused r refl h)
 
 -- A view's call over a chunk that is not too long is not refused.
 pub view_free : (v : View) (chunk buf : List ℕ) → inside v (length chunk) ≡ true → length buf ≡ 256 → length chunk ≤ 65536 →
@@ -334,10 +354,10 @@ inside_known v chunk e =
     (omega (arith, leb-true v.from v.end a.0, leb-true v.end (length chunk) b.0, leb-true v.judged count c.1))
 
 -- Calls that go on from an equal state with an equal rest.
-moved : {whole : Drained} {total : ℕ} {s s' : State} {t t' out₀ : List ℕ} {at base end noise judged : ℕ} {out : List ℕ} → s' ≡ s → t' ≡ t →
-    PartlyDrained whole total s t out₀ at base end noise judged out → PartlyDrained whole total s' t' out₀ at base end noise judged out
-moved {whole} {total} {out₀ = out₀} {at} {base} {end} {noise} {judged} {out} e f m =
-    subst₂ (λ (s : State) (t : List ℕ). PartlyDrained whole total s t out₀ at base end noise judged out) (sym e) (sym f) m
+pub moved : {whole : Drained} {total : ℕ} {s s' : State} {t t' : List ℕ} {g₀ g : Listing} → s' ≡ s → t' ≡ t →
+    PartlyDrained whole total s t g₀ g → PartlyDrained whole total s' t' g₀ g
+moved {whole} {total} {g₀ = g₀} {g} e f m =
+    subst₂ (λ (s : State) (t : List ℕ). PartlyDrained whole total s t g₀ g) (sym e) (sym f) m
 
 -- The bytes after those that a view's call took.
 view_rest : (v : View) (chunk : List ℕ) (v' : View) → NextView v chunk (view_call v chunk) v' →
@@ -346,11 +366,11 @@ view_rest v chunk v' f = ap (λ (n : ℕ). drop n chunk) f.end ∙ sym (drop-dro
 
 -- The view that follows goes on with the chunk's rest.
 pub view_next :
-    {whole : Drained} {total : ℕ} {out₀ : List ℕ} {at base end noise judged : ℕ} {out : List ℕ} (v : View) (chunk : List ℕ) (v' : View) →
+    {whole : Drained} {total : ℕ} {g₀ g : Listing} (v : View) (chunk : List ℕ) (v' : View) →
     NextView v chunk (view_call v chunk) v' →
     let c : Called = view_call v chunk in
-    PartlyDrained whole total (after (viewed v chunk) c) (drop c.taken (drop v.end chunk)) out₀ at base end noise judged out →
-    PartlyDrained whole total (viewed v' chunk) (drop v'.end chunk) out₀ at base end noise judged out
+    PartlyDrained whole total (after (viewed v chunk) c) (drop c.taken (drop v.end chunk)) g₀ g →
+    PartlyDrained whole total (viewed v' chunk) (drop v'.end chunk) g₀ g
 view_next v chunk v' f m = moved f.state (view_rest v chunk v' f) m
 
 -- What is left after it is the same.
@@ -379,10 +399,10 @@ module _ (r : Reader) (chunk : List ℕ) (done taken : ℕ) (r' : Reader) (h : H
   feed_rest = ap (λ (n : ℕ). drop (done + n) chunk) e ∙ sym (drop-drop (line (state_of r) (drop done chunk)).taken done chunk)
 
   pub feed_next :
-      {whole : Drained} {total : ℕ} {out₀ : List ℕ} {at base end noise judged : ℕ} {out : List ℕ} →
+      {whole : Drained} {total : ℕ} {g₀ g : Listing} →
       let c : Called = line (state_of r) (drop done chunk) in
-      PartlyDrained whole total (after (state_of r) c) (drop c.taken (drop done chunk)) out₀ at base end noise judged out →
-      PartlyDrained whole total (state_of r') (drop (done + taken) chunk) out₀ at base end noise judged out
+      PartlyDrained whole total (after (state_of r) c) (drop c.taken (drop done chunk)) g₀ g →
+      PartlyDrained whole total (state_of r') (drop (done + taken) chunk) g₀ g
   feed_next m = moved h.state feed_rest m
 
   pub feed_left :
@@ -446,39 +466,32 @@ quiet_end_judged s more e =
     ∙ nothing_judged s.format c.follows in
     omega (arith, quiet_counts_lem s)
 
--- The refusals of a chunk, in their order.
-module _ (r : Reader) (room size : ℕ) where
-  pub chunk_state : sound r ≡ false → chunk_refusal r room size ≡ 16
-  chunk_state e = rw e
+-- A call that is not refused has passed each test.
+pub call_passed : (ok : Bool) (least room size : ℕ) → call_refusal ok least room size ≡ 0 → (ok ≡ true) × (least ≤ room) × (size ≤ 65536)
+call_passed ok least room size = by ok (leb least room) (leb size 65536) refl refl
+  where
+    by : (q t u : Bool) → leb least room ≡ t → leb size 65536 ≡ u → ◌≡◌ {A = ℕ} (cond q (cond t (cond u 0 15) 13) 16) 0 →
+        (q ≡ true) × (least ≤ room) × (size ≤ 65536)
+    by true true true h k e = (refl, leb-true least room h, leb-true size 65536 k)
+    by true true false h k e = absurd (omega arith)
+    by true false u h k e = absurd (omega arith)
+    by false t u h k e = absurd (omega arith)
 
-  pub chunk_buffer_lem : sound r ≡ true → room < 198159 → chunk_refusal r room size ≡ 13
-  chunk_buffer_lem e h = rw (e, lt-leb 198159 room h)
+-- One that passes them all is not refused.
+pub chunk_free : (r : Reader) (room size : ℕ) → sound r ≡ true → 198159 ≤ room → size ≤ 65536 → chunk_refusal r room size ≡ 0
+chunk_free r room size e h k = rw (e, le-leb 198159 room h, le-leb size 65536 k)
 
-  pub chunk_long : sound r ≡ true → 198159 ≤ room → 65536 < size → chunk_refusal r room size ≡ 15
-  chunk_long e h k = rw (e, le-leb 198159 room h, lt-leb size 65536 k)
-
-  pub chunk_free : sound r ≡ true → 198159 ≤ room → size ≤ 65536 → chunk_refusal r room size ≡ 0
-  chunk_free e h k = rw (e, le-leb 198159 room h, le-leb size 65536 k)
-
--- Those of a quiet.
-module _ (r : Reader) (room : ℕ) where
-  pub end_state : sound r ≡ false → end_refusal r room ≡ 16
-  end_state e = rw e
-
-  pub end_buffer : sound r ≡ true → room < 1551 → end_refusal r room ≡ 13
-  end_buffer e h = rw (e, lt-leb 1551 room h)
-
-  pub end_free : sound r ≡ true → 1551 ≤ room → end_refusal r room ≡ 0
-  end_free e h = rw (e, le-leb 1551 room h)
+pub end_free : (r : Reader) (room : ℕ) → sound r ≡ true → 1551 ≤ room → end_refusal r room ≡ 0
+end_free r room e h = rw (e, le-leb 1551 room h)
 
 -- A refused call.
 pub refused_lists :
-    {number : ℕ} (o : Output (List ℕ)) {judged : ℕ} {Next : Reader → Type 0} (r : Reader) (out : List ℕ) (a : Listed) (refusal : Refusal) →
-    number ≡ number_of refusal → a.reader ≡ r → a.answer ≡ Refused refusal → Lists number o judged Next r out a out
-refused_lists o r out a refusal n er ea =
+    {number : ℕ} (o : Output (List ℕ)) {judged : ℕ} {Next : Reader → Type 0} (r : Reader) (out : List ℕ) (refusal : Refusal) → number_of refusal ≡ number →
+    Lists number o judged Next r out (listed_of r (Err refusal)) out
+refused_lists o r out refusal n =
     record {
-      refuses = λ z. (ap values_of ea ∙ ap no_text_values (sym n), er, refl);
-      answers = λ z. absurd (number_some refusal (ap (λ (k : ℕ). eqb k 0) (sym n) ∙ z));
+      refuses = λ z. (ap no_text_values n, refl, refl);
+      answers = λ z. absurd (number_some refusal (ap (λ (k : ℕ). eqb k 0) n ∙ z));
     }
 
 -- A call that is not refused.
@@ -490,52 +503,41 @@ answered_lists o r out a z values next left =
     record { refuses = λ t. absurd (true≢false (ap (λ (n : ℕ). eqb n 0) (sym z) ∙ t)); answers = λ t. (values, next, left) }
 
 -- What is listed from the front of a buffer on is what the call promises.
-pub rest_lists :
-    {number judged : ℕ} {s : State} (whole : Drained) (r : Reader) (out : List ℕ) (a : Listed) (out' : List ℕ) → number ≡ 0 →
-    ListsRest s whole judged out 0 0 a out' → Lists number whole.out judged (Holds (after_drain s whole)) r out a out'
-rest_lists {judged = judged} whole r out a out' z h =
-    answered_lists whole.out r out a z
-    (h.values ∙ ap₂ (λ (len noise : ℕ). text_values len noise judged) (zero-add (length (lines_of whole.out.frames))) (zero-add whole.out.noise))
-    h.state
-    (puts_front out (lines_of whole.out.frames) out' (0 + length (lines_of whole.out.frames)) h.puts).1
+pub front_lists :
+    {number judged : ℕ} {Next : Reader → Type 0} (o : Output (List ℕ)) {r r' : Reader} {out : MutBor (List ℕ)} {g₀ g : Listing} {l : Lines} {out' : List ℕ} →
+    Starts out g₀ → number ≡ 0 → Writes g₀ (lines_of o.frames) g → g.lines.noise ≡ g₀.lines.noise + o.noise → g.lines.judged ≡ judged → Next r' →
+    l ≡ g.lines → (out.ghost_name ≡ g.out.ghost_name → out' ≡ g.out.now) →
+    Lists number o judged Next r out.now (listed_of r (Ok (r', l))) out'
+front_lists {judged = judged} o {r} {r'} {out} {g₀} {g} {l} b z w n j next el e =
+    let front = starts_front b w in
+    let len : l.len ≡ length (lines_of o.frames) = ap (λ (x : Lines). x.len) el ∙ front.0 in
+    let noise : l.noise ≡ o.noise = omega (arith, b.noise, ap (λ (x : Lines). x.noise) el) in
+    let judges : l.judged ≡ judged = ap (λ (x : Lines). x.judged) el ∙ j in
+    answered_lists o r out.now (listed_of r (Ok (r', l))) z (λ i. text_values (len i) (noise i) (judges i)) next
+    (e (sym (w.same_reference ∙ b.same_reference)) ∙ front.1)
 
 -- Where some of the calls are made, all that is left has room.
-pub partly_drained_room : {whole : Drained} {total : ℕ} {s : State} {rest out₀ : List ℕ} {at base end noise judged : ℕ} {out : List ℕ} →
-    PartlyDrained whole total s rest out₀ at base end noise judged out → Room whole at base out₀ → Room (drain s rest) end noise out
-partly_drained_room g fits =
-    record { room = partly_put_room fits.room g.progress.text; few = omega (arith, g.progress.noises, fits.few) }
+pub partly_drained_room : {whole : Drained} {total : ℕ} {s : State} {rest : List ℕ} {g₀ g : Listing} →
+    PartlyDrained whole total s rest g₀ g → Room whole g₀ → Room (drain s rest) g
+partly_drained_room d fits =
+    record { room = partly_room _ fits.room d.progress.text; few = omega (arith, d.progress.noises, fits.few) }
 
 -- What is left is listed, and so all is.
 pub partly_drained_lists :
-    {whole : Drained} {total : ℕ} {s : State} {rest out₀ : List ℕ} {at base end noise judged most : ℕ} {out : List ℕ} (s₀ : State) (a : Listed)
-    (out' : List ℕ) → PartlyDrained whole total s rest out₀ at base end noise judged out → Room whole at base out₀ → s.format ≡ s₀.format →
+    {whole : Drained} {total : ℕ} {s : State} {rest : List ℕ} {g₀ g g' : Listing} {most : ℕ} (s₀ : State) (r : Reader) →
+    PartlyDrained whole total s rest g₀ g → s.format ≡ s₀.format →
     ((x : ℕ) → x + judged_after (after_drain s₀ whole) [] ≡ total → x ≡ most) →
-    ListsRest s (drain s rest) (judged + drain_judged s rest) out end noise a out' → ListsRest s₀ whole most out₀ at base a out'
-partly_drained_lists {whole} {total} {s} {rest} {out₀} {at} {base} {end} {noise} {judged} {most} {out} s₀ a out' g fits ef counted h =
-    let text : List ℕ = lines_of (drain s rest).out.frames in
-    let all : Puts out₀ at (lines_of whole.out.frames) (end + length text) out' = partly_put_last fits.room g.progress.text h.puts in
-    let next : after_drain s (drain s rest) ≡ after_drain s₀ whole = state_is ef g.same g.mark in
+    ListsRest s (drain s rest) (g.lines.judged + drain_judged s rest) g r g' → ListsRest s₀ whole most g₀ r g'
+partly_drained_lists {whole} {total} {s} {rest} {g₀} {g} {g'} {most} s₀ r d ef counted h =
+    let next : after_drain s (drain s rest) ≡ after_drain s₀ whole = state_is ef d.same d.mark in
     let later : judged_after s rest ≡ drain_judged s rest + judged_after (after_drain s₀ whole) [] =
-    ap (judged_after s) (sym (append-nil rest)) ∙ drain_counts s rest [] g.known ∙ ap (λ (x : State). drain_judged s rest + judged_after x []) next in
-    let judges : judged + drain_judged s rest ≡ most = counted (judged + drain_judged s rest) (omega (arith, g.counts, later)) in
+    ap (judged_after s) (sym (append-nil rest)) ∙ drain_counts s rest [] d.known ∙ ap (λ (x : State). drain_judged s rest + judged_after x []) next in
     record {
-      values = h.values ∙ (λ i. text_values (all.ends i) (g.progress.noises i) (judges i));
-      state = subst (λ (x : State). Holds x a.reader) next h.state;
-      puts = subst (λ (n : ℕ). Puts out₀ at (lines_of whole.out.frames) n out') all.ends all;
+      text = partly_last d.progress.text h.text;
+      noise = omega (arith, h.noise, d.progress.noises);
+      judges = h.judges ∙ counted (g.lines.judged + drain_judged s rest) (omega (arith, d.counts, later));
+      state = subst (λ (x : State). Holds x r) next h.state;
     }
-
--- A quiet is listed.
-pub quiet_lists :
-    (r : Reader) (out₀ : List ℕ) {left : Output (List ℕ)} {end noise judged : ℕ} {out : List ℕ} (a : Listed) (more : ℕ) →
-    Progress (rule_after (state_of r) []) left out₀ 0 0 end noise out → sound r ≡ true → 1551 ≤ length out₀ → left ≡ none more →
-    judged ≡ judged_after (state_of r) [] → a.reader ≡ new_reader r.format → a.answer ≡ Lines end (noise + more) judged → ListsQuiet r out₀ a out
-quiet_lists r out₀ {left} {end} {noise} {judged} {out} a more g l h e j er ea =
-    let all = progress_end g (quiet_room r out₀ (sound_count r l) h).0 more e in
-    let front = puts_front out₀ (lines_of (rule_after (state_of r) []).frames) out end all.0 in
-    answered_lists (rule_after (state_of r) []) r out₀ a (end_free r (length out₀) l h)
-    (ap values_of ea ∙ (λ i. text_values (front.0 i) ((all.1 ∙ zero-add (rule_after (state_of r) []).noise) i) (j i)))
-    er
-    front.1
 
 -- A reader that holds nothing, of which nothing was judged, is a view of no bytes, with its mark.
 abbrev pub view_at : Reader → ℕ → View

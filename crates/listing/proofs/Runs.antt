@@ -20,7 +20,7 @@ use Rattle.reader.specs.Drain.{Drained, drain, after_drain, rule_after, judged_a
 use Rattle.frame.specs.Elements.{All}
 use Rattle.frame.specs.declared.framing.Format.{Format}
 use Rattle.reader.specs.declared.reader.Reader.{Reader}
-use Rattle.frame.specs.declared.single.WriteAnswer.TheVariants.{Written}
+use Rattle.std.specs.Prelude.{Ok}
 use Rattle.reader.proofs.Theorems.{line_drains, needs_more_is_drained, needs_more_is_true, drain_follows_rule, drain_counts}
 use Rattle.frame.proofs.Theorems.{undecided_is_short}
 use Rattle.listing.specs.Line.{lines_of, noise_line, line_of}
@@ -28,7 +28,6 @@ use Rattle.listing.specs.Listing.{ListValues, values_of, Lists, ListsChunk, List
 use Rattle.listing.specs.Claims.{given, NotRefused, Totals, Run, chunk_listed, quiet_listed, HasRun, AnyCutIsListed, RunIsListing, RunExists}
 use Rattle.listing.specs.Claims.{judged_by_run, RunCounts, ChunkStaysSound, printed}
 use Rattle.listing.specs.declared.list.Listed.{Listed}
-use Rattle.listing.specs.declared.list.ListAnswer.TheVariants.{Lines}
 use Rattle.listing.proofs.Chunks.{answered_lists, chunk_free, end_free, is_sound}
 
 -- What the chunks and the quiet give is what the rule gives over all.
@@ -214,7 +213,7 @@ buffer_room n = rw length-replicate (le_refl n)
 
 -- The answer of a call that lists o and judges so many bytes.
 abbrev lines_answer : Output (List ℕ) → ℕ → Reader → Listed
-lines_answer o judged r = record { reader = r; answer = Lines (length (lines_of o.frames)) o.noise judged }
+lines_answer o judged r = record { reader = r; answer = Ok (record { len = length (lines_of o.frames); noise = o.noise; judged = judged }) }
 
 -- From a sound state a chunk can be listed, and a quiet: there are answers that keep the promises.
 module _ (r : Reader) (l : sound r ≡ true) where
@@ -246,7 +245,7 @@ total_listed noise =
     record {
       out = buffer 27;
       out' = in_front (noise_line noise) (buffer 27);
-      answer = Written (length (noise_line noise));
+      answer = Ok (length (noise_line noise));
       lists = record { answers = rw room; leaves = rw room };
       answered = refl;
       shows = take-append_seam (noise_line noise) (drop (length (noise_line noise)) (buffer 27));

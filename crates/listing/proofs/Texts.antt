@@ -1,103 +1,101 @@
--- Laws on text that is put into a buffer part by part, and on the digits of bytes.
--- Assumes nothing.
-use Prim.Native.Nat.{ℕ, ◌+◌, ◌-◌, ◌/◌, ◌%◌, ◌≤◌, ◌<◌}
-use native.Mathlib.Numerals.{add-one}
-use native.Mathlib.Omega.{arith}
-use mathlib.Core.Path.{◌≡◌, refl, sym, ap, ◌∙◌, subst}
-use mathlib.Core.List.{List, [], ◌∷◌, ◌++◌, append_assoc, append-nil}
-use lib.Dec.{eqb}
-use lib.ListN.{length, get_or, take, drop, length-append, length-drop}
-use lib.Seq.{paste, drop-cons, drop-drop, take-length}
-use borrow.Rule.Slice.PartMut.{put_mid}
+use Rattle.std.proofs.Common.{zero, suc, ◌*◌, ◌≡◌, ℕ, ◌+◌, ◌<◌, ◌∙◌, List, [], ◌∷◌, ◌++◌, length, take, drop, get_or, refl, ap, ap₂, subst, sym, append_assoc, append-nil, arith, length-append, length-drop}
+use Rattle.std.proofs.Math.Seq.{drop-drop, take-append_seam, drop-append_seam}
+use lib.ListN.{length-take}
+use Rattle.std.proofs.lemmas.List.{take-append-drop}
+use native.Mathlib.Nat.{zero-add}
 use Rattle.frame.specs.Hex.{hex}
-use Rattle.message.specs.Put.{Puts}
-use Rattle.message.proofs.Putting.{puts_none, puts_append, puts_length}
-use Rattle.listing.specs.Parts.{space_if, fields, PartlyPut}
+use Rattle.std.specs.Borrow.{MutBor}
+use Rattle.frame.specs.Framing.{in_front}
+use Rattle.listing.specs.declared.text.Listing.{Listing}
+use Rattle.listing.specs.Parts.{HasRoom, Writes, Adds, Starts, PartlyWritten}
 
--- Nothing is put yet.
-pub partly_put : (out : List ℕ) (at : ℕ) {whole rest : List ℕ} → rest ≡ whole → PartlyPut out at whole rest at out
-partly_put out at e = record { done = []; puts = puts_none out at; all = e; long = refl }
+-- Text in two parts.
+pub writes_both : {g u v : Listing} {a b : List ℕ} → Writes g a u → Writes u b v → Writes g (a ++ b) v
+writes_both {g} {u} {v} {a} {b} p q =
+    let rest : drop (u.lines.len + length b) u.out.now ≡ drop (g.lines.len + length (a ++ b)) g.out.now =
+    sym (drop-drop (length b) u.lines.len u.out.now)
+    ∙ ap (drop (length b)) p.rest
+    ∙ drop-drop (length b) (g.lines.len + length a) g.out.now
+    ∙ ap (λ (n : ℕ). drop n g.out.now) (omega (arith, length-append a b)) in
+    record {
+      same_reference = cc;
+      size = cc;
+      len = omega (arith, p.len, q.len, length-append a b);
+      text = q.text ∙ ap (λ (l : List ℕ). l ++ b) p.text ∙ append_assoc (take g.lines.len g.out.now) a b;
+      rest = q.rest ∙ rest;
+    }
 
-module _ {out₀ whole out : List ℕ} {at end : ℕ} (room : at + length whole ≤ length out₀) where
-  -- What is put ends where what is left begins, and there is room for it.
-  pub partly_put_room : {rest : List ℕ} → PartlyPut out₀ at whole rest end out → end + length rest ≤ length out
-  partly_put_room {rest} g =
-      omega (arith, g.puts.ends, g.long, simp length-append at (ap length g.all))
+pub puts_both : {g u v : Listing} {a b : List ℕ} → Adds g a 0 0 u → Adds u b 0 0 v → Adds g (a ++ b) 0 0 v
+puts_both p q = record { text = writes_both p.text q.text; noise = omega (arith, p.noise, q.noise); judged = omega (arith, p.judged, q.judged) }
 
-  -- One part more.
-  pub partly_put_next : {part rest : List ℕ} {next : ℕ} {after : List ℕ} → PartlyPut out₀ at whole (part ++ rest) end out → Puts out end part next after →
-      PartlyPut out₀ at whole rest next after
-  partly_put_next {part} {rest} g p =
-      let size = simp length-append at (ap length g.all) in
-      record {
-        done = g.done ++ part;
-        puts = puts_append (omega arith) g.puts p;
-        all = append_assoc g.done part rest ∙ g.all;
-        long = puts_length (omega (arith, g.puts.ends, g.long, size)) p ∙ g.long;
-      }
+-- Text that is copied behind what is written.
+pub puts_copy :
+    {g g' : Listing} {s : List ℕ} → HasRoom g s → g'.out.ghost_name ≡ g.out.ghost_name →
+    g'.out.now ≡ take g.lines.len g.out.now ++ s ++ drop (g.lines.len + length s) g.out.now → g'.lines.len ≡ g.lines.len + length s →
+    g'.lines.noise ≡ g.lines.noise + 0 → g'.lines.judged ≡ g.lines.judged + 0 → Adds g s 0 0 g'
+puts_copy {g} {g'} {s} h same bytes len n j =
+    let front : List ℕ = take g.lines.len g.out.now ++ s in
+    let rest : List ℕ = drop (g.lines.len + length s) g.out.now in
+    let at : g'.lines.len ≡ length front = simp (length-append, length-take) (omega (arith, len)) in
+    record {
+      text = record {
+        same_reference = same;
+        size = ap length bytes ∙ simp (length-append, length-take, length-drop) (omega arith);
+        len = len;
+        text = rw (at, bytes) (take-append_seam front rest);
+        rest = rw (at, bytes) (drop-append_seam front rest);
+      };
+      noise = n;
+      judged = j;
+    }
 
-  -- All is put.
-  pub partly_put_done : PartlyPut out₀ at whole [] end out → Puts out₀ at whole end out
-  partly_put_done g = subst (λ (s : List ℕ). Puts out₀ at s end out) (sym (append-nil g.done) ∙ g.all) g.puts
+-- Nothing is written yet.
+pub writes_none : (g : Listing) → Writes g [] g
+writes_none g = record {
+  same_reference = refl;
+  size = refl;
+  len = omega arith;
+  text = sym (append-nil (take g.lines.len g.out.now));
+  rest = ap (λ (n : ℕ). drop n g.out.now) (omega arith);
+}
 
--- The last part is put.
-pub partly_put_last :
-    {out₀ whole out part after : List ℕ} {at end next : ℕ} → at + length whole ≤ length out₀ → PartlyPut out₀ at whole part end out → Puts out end part next after →
-    Puts out₀ at whole next after
-partly_put_last {out₀} {whole} {out} {part} {after} {at} {end} {next} room g p =
-    let h : PartlyPut out₀ at whole (part ++ []) end out = subst (λ (s : List ℕ). PartlyPut out₀ at whole s end out) (sym (append-nil part)) g in
-    partly_put_done room (partly_put_next room h p)
+-- Text that begins at a buffer's front is in its front.
+pub starts_front : {out : MutBor (List ℕ)} {g g' : Listing} {s : List ℕ} → Starts out g → Writes g s g' →
+    (g'.lines.len ≡ length s) × (g'.out.now ≡ in_front s out.now)
+starts_front {out} {g} {g'} {s} b p =
+    let front : take g'.lines.len g'.out.now ≡ s = p.text ∙ rw b.len in
+    let rest : drop g'.lines.len g'.out.now ≡ drop (length s) out.now = p.rest ∙ rw (b.len, b.bytes, zero-add (length s)) in
+    (omega (arith, b.len, p.len), sym (take-append-drop g'.lines.len g'.out.now) ∙ ap₂ ◌++◌ front rest)
 
--- Behind the last place nothing is left.
-pub drop_all : (s : List ℕ) (i : ℕ) → length s ≤ i → drop i s ≡ []
-drop_all s i h = none (drop i s) (length-drop i s ∙ omega arith)
-  where
-    none : (l : List ℕ) → length l ≡ 0 → l ≡ []
-    none [] e = refl
-    none (x ∷ l) e = absurd (omega arith)
+-- Nothing of a text is written yet.
+pub partly_none : (g : Listing) {whole rest : List ℕ} → rest ≡ whole → PartlyWritten g whole rest g
+partly_none g e = record { done = []; writes = writes_none g; all = e }
 
--- Text copied into the part of a buffer from a place on is put there.
-pub copy_puts :
-    (out text : List ℕ) (at : ℕ) {part : List ℕ} → at + length text ≤ length out →
-    part ≡ take (length text) text ++ drop (length text) (take (length out - at) (drop at out)) →
-    put_mid at (length out - at) out part ≡ paste out at text (length text)
-copy_puts out text at h e =
-    let all : take (length out - at) (drop at out) ≡ drop at out = rw (← length-drop at out) (take-length (drop at out)) in
-    let none : drop (length out - at) (drop at out) ≡ [] = drop_all (drop at out) (length out - at) (omega (arith, length-drop at out)) in
-    let text' : List ℕ = take (length text) text in
-    ap (λ (l : List ℕ). take at out ++ (l ++ drop (length out - at) (drop at out))) (e ∙ ap (λ (l : List ℕ). text' ++ drop (length text) l) all)
-    ∙ ap (λ (l : List ℕ). take at out ++ ((text' ++ drop (length text) (drop at out)) ++ l)) none
-    ∙ ap (λ (l : List ℕ). take at out ++ l) (append-nil (text' ++ drop (length text) (drop at out)))
-    ∙ ap (λ (l : List ℕ). take at out ++ (text' ++ l)) (drop-drop (length text) at out)
-    ∙ sym (append_assoc (take at out) text' (drop (at + length text) out))
+-- One part more is written.
+pub partly_next : {g u v : Listing} {whole part rest : List ℕ} → PartlyWritten g whole (part ++ rest) u → Writes u part v → PartlyWritten g whole rest v
+partly_next {part = part} {rest} p q =
+    record { done = p.done ++ part; writes = writes_both p.writes q; all = append_assoc p.done part rest ∙ p.all }
 
--- The digits from place i on begin with those of the byte there.
-pub hex_next : (s : List ℕ) (i : ℕ) → i < length s → hex (drop i s) ≡ hex (get_or s i 0 ∷ []) ++ hex (drop (i + 1) s)
-hex_next s i h = rw (add-one, drop-cons s i 0)
+-- The last part is.
+pub partly_last : {g u v : Listing} {whole part : List ℕ} → PartlyWritten g whole part u → Writes u part v → Writes g whole v
+partly_last {g} {v = v} p q = subst (λ (s : List ℕ). Writes g s v) p.all (writes_both p.writes q)
 
--- The fields from place i on begin with the byte there.
-pub fields_next :
-    (starts : ℕ) (s : List ℕ) (i : ℕ) → i < length s →
-    fields starts (drop i s) ≡ space_if (eqb (starts % 2) 1) ++ (hex (get_or s i 0 ∷ []) ++ fields (starts / 2) (drop (i + 1) s))
-fields_next starts s i h = rw (add-one, drop-cons s i 0)
+-- There is room for what is left, and for the next part of it.
+pub partly_room : {g u : Listing} {whole : List ℕ} (rest : List ℕ) → HasRoom g whole → PartlyWritten g whole rest u → HasRoom u rest
+partly_room rest h p = omega (arith, p.writes.len, p.writes.size, simp length-append at (ap length p.all))
 
--- There is room for the next part.
-pub partly_put_part :
-    {out₀ whole out : List ℕ} {at end : ℕ} (part rest : List ℕ) → at + length whole ≤ length out₀ → PartlyPut out₀ at whole (part ++ rest) end out →
-    end + length part ≤ length out
-partly_put_part part rest room g = omega (arith, simp length-append at (partly_put_room room g))
+pub part_room : {g u : Listing} {whole : List ℕ} (part rest : List ℕ) → HasRoom g whole → PartlyWritten g whole (part ++ rest) u → HasRoom u part
+part_room part rest h p = omega (arith, p.writes.len, p.writes.size, simp length-append at (ap length p.all))
 
--- Text in two parts: there is room for the first, then for the second, and where both are put, it is put.
-pub first_room :
-    (out : List ℕ) (at : ℕ) (first second : List ℕ) {whole : List ℕ} → first ++ second ≡ whole → at + length whole ≤ length out → at + length first ≤ length out
-first_room out at first second parts room = partly_put_part first second room (partly_put out at parts)
+-- Each byte has two digits.
+pub length_hex : (s : List ℕ) → length (hex s) ≡ 2 * length s
+length_hex [] = refl
+length_hex (b ∷ s) = omega (arith, length_hex s)
 
-pub second_room :
-    {out first mid whole : List ℕ} {at end : ℕ} (second : List ℕ) → first ++ second ≡ whole → at + length whole ≤ length out → Puts out at first end mid →
-    end + length second ≤ length mid
-second_room {out} {at = at} second parts room p = partly_put_room room (partly_put_next room (partly_put out at parts) p)
-
-pub both_put :
-    {out first second mid whole after : List ℕ} {at end next : ℕ} → first ++ second ≡ whole → at + length whole ≤ length out → Puts out at first end mid →
-    Puts mid end second next after → Puts out at whole next after
-both_put {out} {at = at} parts room p q = partly_put_last room (partly_put_next room (partly_put out at parts) p) q
+-- The digits of the first bytes and of one more.
+pub hex_more : (s : List ℕ) (i : ℕ) → i < length s → hex (take (suc i) s) ≡ hex (take i s) ++ hex (get_or s i 0 ∷ [])
+hex_more [] i h = absurd (omega arith)
+hex_more (b ∷ s) zero h = refl
+hex_more (b ∷ s) (suc i) h =
+    let next : i < length s = omega arith in
+    rw (hex_more s i next)

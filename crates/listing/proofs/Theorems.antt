@@ -28,8 +28,8 @@ use Rattle.listing.specs.Listing.{ListValues, values_of, Lists, chunk_refusal, e
 use Rattle.listing.specs.Claims.{RunIsListing, RunExists, RunCounts, ChunkStaysSound, ChunkIsSmall, QuietIsSmall, TotalIsSmall, AnyCutIsListed}
 use Rattle.listing.specs.Examples.{ExampleIsListed, FooterlessIsListed, KindsAreListed}
 use Rattle.listing.specs.declared.list.Listed.{Listed}
-use Rattle.listing.proofs.Lines.{noise_room}
-use Rattle.listing.proofs.Chunks.{sound_count, chunk_room, quiet_room}
+use Rattle.listing.proofs.Decimals.{noise_room}
+use Rattle.listing.proofs.Chunks.{sound_count, drain_is_small, quiet_room, call_passed}
 use Rattle.listing.proofs.Runs as runs
 
 pub any_cut_is_listed : AnyCutIsListed
@@ -70,22 +70,6 @@ module _ {number : ℕ} (o : Output (List ℕ)) {judged : ℕ} {Next : Reader �
         omega (arith, ap (λ (x : ListValues). x.noise) v.0),
       )
 
--- Where no test refuses, each was passed.
-passed : (ok : Bool) (room most n : ℕ) → cond ok (cond (leb most room) n 13) 16 ≡ 0 → (ok ≡ true) × (most ≤ room) × (n ≡ 0)
-passed ok room most n = by ok (leb most room) refl
-  where
-    by : (q t : Bool) → leb most room ≡ t → ◌≡◌ {A = ℕ} (cond q (cond t n 13) 16) 0 → (q ≡ true) × (most ≤ room) × (n ≡ 0)
-    by true true h e = (refl, leb-true most room h, e)
-    by true false h e = absurd (omega arith)
-    by false t h e = absurd (omega arith)
-
-short : (size : ℕ) → ◌≡◌ {A = ℕ} (cond (leb size 65536) 0 15) 0 → size ≤ 65536
-short size = by (leb size 65536) refl
-  where
-    by : (q : Bool) → leb size 65536 ≡ q → ◌≡◌ {A = ℕ} (cond q 0 15) 0 → size ≤ 65536
-    by true h e = leb-true size 65536 h
-    by false h e = absurd (omega arith)
-
 pub chunk_is_small : ChunkIsSmall
 chunk_is_small r chunk out a out' p =
     small (drain (state_of r) chunk).out out a p (eqb (chunk_refusal r (length out) (length chunk)) 0) refl 66053 few
@@ -93,9 +77,9 @@ chunk_is_small r chunk out a out' p =
     few : chunk_refusal r (length out) (length chunk) ≡ 0 →
         (length (lines_of (drain (state_of r) chunk).out.frames) ≤ length out) × ((drain (state_of r) chunk).out.noise ≤ 66053)
     few e =
-        let q = passed (sound r) (length out) 198159 (cond (leb (length chunk) 65536) 0 15) e in
-        let h = chunk_room r chunk out (sound_count r q.0) (short (length chunk) q.2) q.1 in
-        (omega (arith, h.room), omega (arith, h.few))
+        let q = call_passed (sound r) 198159 (length out) (length chunk) e in
+        let size = drain_is_small r chunk (sound_count r q.0) q.2 in
+        (omega (arith, size.0), size.1)
 
 pub quiet_is_small : QuietIsSmall
 quiet_is_small r out a out' p = small (rule_after (state_of r) []) out a p (eqb (end_refusal r (length out)) 0) refl 517 few
@@ -103,9 +87,9 @@ quiet_is_small r out a out' p = small (rule_after (state_of r) []) out a p (eqb 
     few : end_refusal r (length out) ≡ 0 →
         (length (lines_of (rule_after (state_of r) []).frames) ≤ length out) × ((rule_after (state_of r) []).noise ≤ 517)
     few e =
-        let q = passed (sound r) (length out) 1551 0 e in
+        let q = call_passed (sound r) 1551 (length out) 0 e in
         let h = quiet_room r out (sound_count r q.0) q.1 in
-        (omega (arith, h.0), h.1)
+        (h.0, h.1)
 
 pub total_is_small : TotalIsSmall
 total_is_small noise out a out' p = by (leb 27 (length out)) refl p.answers p.leaves
@@ -115,7 +99,8 @@ total_is_small noise out a out' p = by (leb 27 (length out)) refl p.answers p.le
         writing_of a ≡ cond q (length_writing (length (noise_line noise))) (no_writing 13) →
         out' ≡ cond q (in_front (noise_line noise) out) out → ((writing_of a).len ≤ length out) × (length out' ≡ length out)
     by true h e l =
-        let room = noise_room noise out (leb-true 27 (length out) h) in
+        let room = noise_room noise in
+        let least = leb-true 27 (length out) h in
         (omega (arith, ap (λ (w : Writing). w.len) e), ap length l ∙ simp (length-append, length-drop) (omega arith))
     by false h e l = (omega (arith, ap (λ (w : Writing). w.len) e), ap length l)
 

@@ -1,6 +1,6 @@
 -- What follows from the promises: the calls over a segment print its listing, however it is cut into chunks. Document 01, end of "Frames to check
 -- against"; document 02, CR 7, for the bytes judged.
-use Rattle.std.specs.Prelude.{ℕ, ◌+◌, ◌≤◌, ◌≡◌, true, false, eqb, length, take}
+use Rattle.std.specs.Prelude.{ℕ, ◌+◌, ◌≤◌, ◌≡◌, true, false, eqb, length, take, Result}
 use mathlib.Core.List.{List, [], ◌∷◌, ◌++◌, flatten}
 use Rattle.frame.specs.Rule.{Output, join, rule, rule_judged, payloads}
 use Rattle.reader.specs.Reader.{State, holding, new_reader, sound}
@@ -9,7 +9,7 @@ use Rattle.reader.specs.Drain.{Drained, drain, after_drain, rule_after}
 use Rattle.frame.specs.Elements.{All}
 use Rattle.frame.specs.declared.framing.Format.{Format}
 use Rattle.reader.specs.declared.reader.Reader.{Reader}
-use Rattle.frame.specs.declared.single.WriteAnswer.{WriteAnswer}
+use Rattle.frame.specs.declared.refusal.Refusal.{Refusal}
 use Rattle.listing.specs.Listing.{ListValues, values_of, ListsChunk, ListsQuiet, ListsTotal}
 use Rattle.listing.specs.Line.{lines_of, noise_line}
 use Rattle.listing.specs.declared.list.Listed.{Listed}
@@ -27,7 +27,7 @@ QuietIsSmall =
 
 abbrev pub TotalIsSmall : Type 0
 TotalIsSmall =
-    (noise : ℕ) (out : List ℕ) (a : WriteAnswer) (out' : List ℕ) → ListsTotal noise out a out' →
+    (noise : ℕ) (out : List ℕ) (a : Result ℕ Refusal) (out' : List ℕ) → ListsTotal noise out a out' →
     ((writing_of a).len ≤ length out) × (length out' ≡ length out)
 
 -- What the chunks of a segment give from a state on, and then its quiet.
@@ -55,7 +55,7 @@ NotRefused v = eqb v.number 0 ≡ true
 pub record Totals (noise : ℕ) (shown : List ℕ) : Type 0 where
   pub out : List ℕ
   pub out' : List ℕ
-  pub answer : WriteAnswer
+  pub answer : Result ℕ Refusal
   pub lists : ListsTotal noise out answer out'
   pub answered : (writing_of answer).number ≡ 0
   pub shows : take (writing_of answer).len out' ≡ shown

@@ -1,5 +1,5 @@
 -- What the calls behind booth-list promise. Document 01, end of "Frames to check against": the input's end is the quiet.
-use Rattle.std.specs.Prelude.{ℕ, ◌≡◌, List, [], cond, leb, length}
+use Rattle.std.specs.Prelude.{ℕ, ◌≡◌, List, [], cond, leb, length, Result, Ok, Err}
 use Rattle.frame.specs.Framing.{in_front}
 use Rattle.frame.specs.Refusal.{number_of}
 use Rattle.frame.specs.Rule.{Output}
@@ -7,11 +7,10 @@ use Rattle.reader.specs.Reader.{State, state_of, new_reader, Holds, sound, Promi
 use Rattle.frame.specs.Single.{length_writing, no_writing, writing_of}
 use Rattle.reader.specs.Drain.{Drained, drain, after_drain, rule_after, judged_after, drain_judged}
 use Rattle.reader.specs.declared.reader.Reader.{Reader}
-use Rattle.frame.specs.declared.single.WriteAnswer.{WriteAnswer}
+use Rattle.frame.specs.declared.refusal.Refusal.{Refusal}
 use Rattle.listing.specs.Line.{lines_of, noise_line}
 use Rattle.listing.specs.declared.list.Listed.{Listed}
-use Rattle.listing.specs.declared.list.ListAnswer.{ListAnswer}
-use Rattle.listing.specs.declared.list.ListAnswer.TheVariants.{Lines, Refused}
+use Rattle.listing.specs.declared.text.Lines.{Lines}
 
 -- An answer in numbers: the refusal's, 0 for none, the length of the text, the bytes settled as noise, and the bytes judged.
 pub record ListValues : Type 0 where
@@ -26,9 +25,9 @@ text_values len noise judged = record { number = 0; len = len; noise = noise; ju
 abbrev pub no_text_values : ℕ → ListValues
 no_text_values n = record { number = n; len = 0; noise = 0; judged = 0 }
 
-abbrev pub values_of : ListAnswer → ListValues
-values_of (Lines len noise judged) = text_values len noise judged
-values_of (Refused r) = no_text_values (number_of r)
+abbrev pub values_of : Result Lines Refusal → ListValues
+values_of (Ok lines) = text_values lines.len lines.noise lines.judged
+values_of (Err r) = no_text_values (number_of r)
 
 -- The promise of a call that lists o and judges so many bytes, where its refusal is `number`, 0 for none, and the reader that follows has the property Next.
 abbrev pub Lists : ℕ → Output (List ℕ) → ℕ → (Reader → Type 0) → Reader → List ℕ → Listed → List ℕ → Type 0
@@ -60,6 +59,6 @@ ListsQuiet r out a out' =
     let s : State = state_of r in Lists (end_refusal r (length out)) (rule_after s []) (judged_after s []) (λ r'. r' ≡ new_reader r.format) r out a out'
 
 -- The total of noise: 13 for a buffer under 27 bytes, which any 64-bit number's line fits in.
-pub record ListsTotal (noise : ℕ) (out : List ℕ) (a : WriteAnswer) (out' : List ℕ) : Type 0 where
+pub record ListsTotal (noise : ℕ) (out : List ℕ) (a : Result ℕ Refusal) (out' : List ℕ) : Type 0 where
   pub answers : writing_of a ≡ cond (leb 27 (length out)) (length_writing (length (noise_line noise))) (no_writing 13)
   pub leaves : out' ≡ cond (leb 27 (length out)) (in_front (noise_line noise) out) out

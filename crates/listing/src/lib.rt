@@ -3,8 +3,7 @@
 
 mod line;
 mod list;
-mod put;
+mod text;
 
-pub use list::{
-    CHUNK_ROOM, ListAnswer, Listed, QUIET_ROOM, TOTAL_ROOM, list_chunk, list_quiet, list_total,
-};
+pub use list::{CHUNK_ROOM, Listed, QUIET_ROOM, TOTAL_ROOM, list_chunk, list_quiet, list_total};
+pub use text::Lines;

@@ -1,12 +1,11 @@
 // What is listed of a line: chunk by chunk, at a quiet, and at the end.
 ghost use Rattle.std.specs.Prelude.{◌≡◌};
-ghost use Rattle.reader.specs.Reader.{sound};
-ghost use Rattle.listing.specs.Parts.{part_of, CanView, ListsView, CanFeed, HeldListed};
+ghost use Rattle.listing.specs.Line.{line_of};
+ghost use Rattle.listing.specs.Parts.{CanAdd, Adds, CanView, ListsView, CanFeed, ListsAll, CanQuiet, ListsHeld, listed_of};
 ghost use Rattle.listing.specs.Listing.{ListsChunk, ListsQuiet, ListsTotal};
 
-use crate::line::put_line;
-use crate::put::{put_decimal, put_text};
-use frame::{Format, Refusal, WriteAnswer};
+use crate::text::{Lines, Listing};
+use frame::Refusal;
 use reader::{FeedAnswer, QuietAnswer, Reader, View};
 
 // The room that the text of any chunk, of any quiet, and of any total fits in, whatever the reader's format.
@@ -16,138 +15,59 @@ pub const QUIET_ROOM: usize = 1551;
 
 pub const TOTAL_ROOM: usize = 27;
 
-#[derive(Clone, Copy)]
-pub enum ListAnswer {
-    // The lines of the frames are the first `len` bytes of the buffer, `noise` bytes were settled as noise, and the reader's calls judged `judged` bytes.
-    Lines {
-        len: usize,
-        noise: usize,
-        judged: usize,
-    },
-    Refused(Refusal),
-}
-
 // An answer, and the reader's state that follows.
 #[derive(Clone, Copy)]
 pub struct Listed {
     pub reader: Reader,
-    pub answer: ListAnswer,
+    pub answer: Result<Lines, Refusal>,
 }
 
-// A chunk that is listed in part: the reader, the bytes of the chunk that are taken, the end of the text, the bytes of noise, the bytes judged, and whether all
-// is listed.
-#[derive(Drop)]
-struct Part {
-    reader: Reader,
-    done: usize,
-    end: usize,
-    noise: usize,
-    judged: usize,
-    over: bool,
-}
-
-fn lines(reader: Reader, len: usize, noise: usize, judged: usize) -> Listed
-    ensures reader_value { result.reader ≡ reader }
-    ensures answer_value { result.answer ≡ ListAnswer.Lines len noise judged }
-{
-    Listed {
-        reader: reader,
-        answer: ListAnswer::Lines { len, noise, judged },
+impl Listing<'_> {
+    // Lists a frame with this payload, and counts its call.
+    fn frame(&mut self, payload: &[u8], noise: usize, judged: usize)
+        requires { CanAdd self.old (line_of payload.now) noise judged }
+        ensures { Adds self.old (line_of payload.now) noise judged self.new }
+    {
+        self.put_line(payload);
+        self.count(noise, judged);
     }
 }
 
-fn refused(reader: Reader, refusal: Refusal) -> Listed
-    ensures reader_value { result.reader ≡ reader }
-    ensures answer_value { result.answer ≡ ListAnswer.Refused refusal }
+// Lists the frames of a chunk from the view on, and gives the reader that follows. No state is copied between frames.
+fn list_view(mut view: View, chunk: &[u8], listing: &mut Listing) -> Result<Reader, Refusal>
+    requires { CanView view chunk.now listing.old }
+    ensures { ListsView view chunk.now listing.old result listing.new }
 {
-    Listed {
-        reader: reader,
-        answer: ListAnswer::Refused(refusal),
-    }
-}
-
-fn part_at(reader: Reader, done: usize, end: usize, noise: usize, judged: usize, over: bool) -> Part
-    ensures { result ≡ part_of reader done end noise judged over }
-{
-    Part {
-        reader,
-        done,
-        end,
-        noise,
-        judged,
-        over,
-    }
-}
-
-// Whether a reader's state is sound: one that `feed` and `quiet` do not refuse with 16.
-fn is_sound(reader: Reader) -> bool
-    ensures { result ≡ sound reader }
-{
-    let format = reader.format;
-    let most = match format {
-        Format::Binary(_) => Reader::MAX_BINARY,
-        Format::Ascii(_) => Reader::MAX_ASCII,
-    };
-    if most < reader.count {
-        return false;
-    }
-    reader.judged <= reader.count
-}
-
-// Lists the frames of a chunk from the view on, behind the part that is listed already: the text goes on at its end, and the answer's numbers include its
-// bytes of noise and bytes judged. No state is copied between frames.
-fn list_view(first: View, chunk: &[u8], part: Part, out: &mut [u8]) -> Listed
-    requires { CanView first chunk.now part.end part.noise part.judged out.old }
-    ensures { ListsView first chunk.now out.old part.end part.noise part.judged result out.new }
-{
-    let mut buf = [0u8; 256];
-    let mut view = first;
-    let mut end = part.end;
-    let mut noise_total = part.noise;
-    let mut judged_total = part.judged;
+    let mut buf = [0u8; Reader::MAX_PAYLOAD];
     loop {
         let fed = view.feed(chunk, &mut buf);
-        let answer = fed.answer;
         view = fed.view;
-        match answer {
+        match fed.answer? {
             FeedAnswer::Frame {
                 noise,
                 judged,
                 len,
                 ..
-            } => {
-                let whole = &buf[..];
-                end = put_line(&whole[..len], out, end);
-                noise_total += noise;
-                judged_total += judged;
-            }
+            } => listing.frame(&buf[..len], noise, judged),
             FeedAnswer::NeedsMore { noise, judged, .. } => {
-                let state = view.reader(chunk);
-                return lines(state, end, noise_total + noise, judged_total + judged);
-            }
-            FeedAnswer::Refused(refusal) => {
-                return refused(view.reader(chunk), refusal);
+                listing.count(noise, judged);
+                return Ok(view.reader(chunk));
             }
         }
     }
 }
 
-// Feeds the chunk to the reader and lists frames as long as it holds bytes.
-fn list_held(reader: Reader, chunk: &[u8], out: &mut [u8]) -> Part
-    requires { CanFeed reader chunk.now out.old }
-    ensures { HeldListed reader chunk.now out.old result out.new }
+// Feeds the chunk to the reader to its end, lists the frames, and gives the reader that follows. Once the reader holds nothing, a view goes on.
+fn list_all(mut reader: Reader, chunk: &[u8], listing: &mut Listing) -> Result<Reader, Refusal>
+    requires { CanFeed reader chunk.now listing.old }
+    ensures { ListsAll reader chunk.now listing.old result listing.new }
 {
-    let mut buf = [0u8; 256];
-    let mut state = reader;
+    let mut buf = [0u8; Reader::MAX_PAYLOAD];
     let mut done: usize = 0;
-    let mut end: usize = 0;
-    let mut noise_total: usize = 0;
-    let mut judged_total: usize = 0;
-    while 0 < state.count {
-        let fed = state.feed(&chunk[done..], &mut buf);
-        let answer = fed.answer;
-        state = fed.reader;
-        match answer {
+    while 0 < reader.count {
+        let fed = reader.feed(&chunk[done..], &mut buf);
+        reader = fed.reader;
+        match fed.answer? {
             FeedAnswer::Frame {
                 taken,
                 noise,
@@ -155,23 +75,74 @@ fn list_held(reader: Reader, chunk: &[u8], out: &mut [u8]) -> Part
                 len,
                 ..
             } => {
-                let whole = &buf[..];
-                end = put_line(&whole[..len], out, end);
+                listing.frame(&buf[..len], noise, judged);
                 done += taken;
-                noise_total += noise;
-                judged_total += judged;
             }
             FeedAnswer::NeedsMore { noise, judged, .. } => {
-                noise_total += noise;
-                judged_total += judged;
-                return part_at(state, done, end, noise_total, judged_total, true);
-            }
-            FeedAnswer::Refused(_) => {
-                return part_at(state, done, end, noise_total, judged_total, true);
+                listing.count(noise, judged);
+                return Ok(reader);
             }
         }
     }
-    part_at(state, done, end, noise_total, judged_total, false)
+    let view = View {
+        format: reader.format,
+        from: done,
+        end: done,
+        follows: reader.follows,
+        judged: 0,
+    };
+    list_view(view, chunk, listing)
+}
+
+// Lists the frames that a quiet finds in the held bytes, and gives the reader that follows.
+fn list_held(mut reader: Reader, listing: &mut Listing) -> Result<Reader, Refusal>
+    requires { CanQuiet reader listing.old }
+    ensures { ListsHeld reader listing.old result listing.new }
+{
+    let mut buf = [0u8; Reader::MAX_PAYLOAD];
+    loop {
+        let quieted = reader.quiet(&mut buf);
+        reader = quieted.reader;
+        match quieted.answer? {
+            QuietAnswer::Frame {
+                noise,
+                judged,
+                len,
+                ..
+            } => listing.frame(&buf[..len], noise, judged),
+            QuietAnswer::Empty { noise, judged } => {
+                listing.count(noise, judged);
+                return Ok(reader);
+            }
+        }
+    }
+}
+
+impl Listed {
+    // What a call answers with this reader: a refusal leaves it.
+    fn of(reader: Reader, answer: Result<(Reader, Lines), Refusal>) -> Self
+        ensures { result ≡ listed_of reader answer }
+    {
+        match answer {
+            Ok((next, lines)) => Listed {
+                reader: next,
+                answer: Ok(lines),
+            },
+            Err(refusal) => Listed {
+                reader,
+                answer: Err(refusal),
+            },
+        }
+    }
+}
+
+fn chunk_lines(reader: Reader, chunk: &[u8], out: &mut [u8]) -> Result<(Reader, Lines), Refusal>
+    ensures { ListsChunk reader chunk.now out.old (listed_of reader result) out.new }
+{
+    reader.admits(CHUNK_ROOM, out.len(), chunk.len())?;
+    let mut listing = Listing::new(out);
+    let next = list_all(reader, chunk, &mut listing)?;
+    Ok((next, listing.lines()))
 }
 
 // Feeds a chunk to the reader to its end, and puts a line for each frame into the front of out, whose other bytes stay. Refused with 16 as `feed` is, 13
@@ -179,30 +150,16 @@ fn list_held(reader: Reader, chunk: &[u8], out: &mut [u8]) -> Part
 pub fn list_chunk(reader: Reader, chunk: &[u8], out: &mut [u8]) -> Listed
     ensures { ListsChunk reader chunk.now out.old result out.new }
 {
-    if !is_sound(reader) {
-        return refused(reader, Refusal::State);
-    }
-    if out.len() < CHUNK_ROOM {
-        return refused(reader, Refusal::Buffer);
-    }
-    if 65536 < chunk.len() {
-        return refused(reader, Refusal::Chunk);
-    }
-    let part = list_held(reader, chunk, out);
-    let state = part.reader;
-    if part.over {
-        return lines(state, part.end, part.noise, part.judged);
-    }
-    let format = state.format;
-    let done = part.done;
-    let view = View {
-        format: format,
-        from: done,
-        end: done,
-        follows: state.follows,
-        judged: 0,
-    };
-    list_view(view, chunk, part, out)
+    Listed::of(reader, chunk_lines(reader, chunk, out))
+}
+
+fn quiet_lines(reader: Reader, out: &mut [u8]) -> Result<(Reader, Lines), Refusal>
+    ensures { ListsQuiet reader out.old (listed_of reader result) out.new }
+{
+    reader.admits(QUIET_ROOM, out.len(), 0)?;
+    let mut listing = Listing::new(out);
+    let next = list_held(reader, &mut listing)?;
+    Ok((next, listing.lines()))
 }
 
 // The line was quiet: puts a line for each frame that the reader still holds into the front of out, whose other bytes stay. Refused with 16 as `quiet` is,
@@ -210,52 +167,20 @@ pub fn list_chunk(reader: Reader, chunk: &[u8], out: &mut [u8]) -> Listed
 pub fn list_quiet(reader: Reader, out: &mut [u8]) -> Listed
     ensures { ListsQuiet reader out.old result out.new }
 {
-    if !is_sound(reader) {
-        return refused(reader, Refusal::State);
-    }
-    if out.len() < QUIET_ROOM {
-        return refused(reader, Refusal::Buffer);
-    }
-    let mut buf = [0u8; 256];
-    let mut state = reader;
-    let mut end: usize = 0;
-    let mut noise_total: usize = 0;
-    let mut judged_total: usize = 0;
-    loop {
-        let quieted = state.quiet(&mut buf);
-        let answer = quieted.answer;
-        state = quieted.reader;
-        match answer {
-            QuietAnswer::Frame {
-                noise,
-                judged,
-                len,
-                ..
-            } => {
-                let whole = &buf[..];
-                end = put_line(&whole[..len], out, end);
-                noise_total += noise;
-                judged_total += judged;
-            }
-            QuietAnswer::Empty { noise, judged } => {
-                return lines(state, end, noise_total + noise, judged_total + judged);
-            }
-            QuietAnswer::Refused(refusal) => {
-                return refused(state, refusal);
-            }
-        }
-    }
+    Listed::of(reader, quiet_lines(reader, out))
 }
 
-// Puts the line of the total of noise into the front of out, whose other bytes stay. Refused with 13 where out has under TOTAL_ROOM bytes; a refusal
-// leaves all of out.
-pub fn list_total(noise: u64, out: &mut [u8]) -> WriteAnswer
+// Puts the line of the total of noise into the front of out, whose other bytes stay, and gives its length. Refused with 13 where out has under TOTAL_ROOM
+// bytes; a refusal leaves all of out.
+pub fn list_total(noise: u64, out: &mut [u8]) -> Result<usize, Refusal>
     ensures { ListsTotal noise out.old result out.new }
 {
     if out.len() < TOTAL_ROOM {
-        return WriteAnswer::Refused(Refusal::Buffer);
+        return Err(Refusal::Buffer);
     }
-    let end = put_text(out, 0, b"noise ");
-    let end = put_decimal(out, end, noise);
-    WriteAnswer::Written(end)
+    let mut listing = Listing::new(out);
+    listing.put(b"noise ");
+    listing.put_decimal(noise);
+    listing.put(b"\n");
+    Ok(listing.lines().len)
 }

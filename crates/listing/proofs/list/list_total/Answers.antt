@@ -1,33 +1,20 @@
--- `listing::list::list_total` meets its contract: the word and the number, for which there is room.
+-- `listing::list::list_total` meets its contract: a test finds whether there is room, and the line is written in three parts.
 -- Assumes nothing.
-use native.Mathlib.Omega.{arith}
-use mathlib.Core.Path.{refl}
-use borrow.Author.Tests.{le-leb, lt-leb}
-use lib.ListN.{length, length-append}
-use Rattle.frame.specs.Single.{length_writing}
+use Rattle.std.proofs.Common.{arith, rules, ap}
 use Rattle.listing.specs.Line.{noise_line}
-use Rattle.listing.proofs.Texts.{both_put}
-use Rattle.listing.proofs.Lines.{decimal_few, noise_parts, noise_room}
-use Rattle.listing.proofs.Chunks.{puts_front}
+use Rattle.listing.specs.declared.text.Lines.{Lines}
+use Rattle.listing.proofs.Texts.{puts_both}
+use Rattle.listing.proofs.Decimals.{decimal_few, total_lists}
 use Rattle.listing.proofs.list.list_total.Goals as goal
 
-pub returns-then-out-lt-TOTAL_ROOM : goal.returns-then-out-lt-TOTAL_ROOM
-returns-then-out-lt-TOTAL_ROOM c =
-    let short = lt-leb 27 (length c.args.out.now) c.if-out-lt-TOTAL_ROOM.true in
-    record { answers = rw short refl; leaves = rw short refl }
+pub put_decimal-requires : goal.put_decimal-requires
+put_decimal-requires c = omega (arith, decimal_few c.args.noise)
 
-pub put_text-end-requires : goal.put_text-end-requires
-put_text-end-requires c = omega arith
-
-pub put_decimal-end-requires : goal.put_decimal-end-requires
-put_decimal-end-requires c = simp length-append (omega (arith, c.put_text-end.ensures.ends, c.put_text-end.auto.out, decimal_few c.args.noise))
+pub put-requires-2 : goal.put-requires-2
+put-requires-2 c = omega (arith, decimal_few c.args.noise)
 
 pub returns : goal.returns
+unfolding noise_line
 returns c =
-    let long = le-leb 27 (length c.args.out.now) c.if-out-lt-TOTAL_ROOM.false in
-    let room = noise_room c.args.noise c.args.out.now c.if-out-lt-TOTAL_ROOM.false in
-    let front = puts_front c.args.out.now (noise_line c.args.noise) _ _ (both_put (noise_parts _) room c.put_text-end.ensures c.put_decimal-end.ensures) in
-    record {
-      answers = rw long (λ n. length_writing (front.0 n));
-      leaves = rw long front.1;
-    }
+    let all = puts_both c.put.ensures (puts_both c.put_decimal.ensures c.put-2.ensures) in
+    total_lists c.new-listing.ensures all.text c.if-out-lt-TOTAL_ROOM.false (λ e. search rules) (ap (λ (l : Lines). l.len) c.lines.ensures)

@@ -1,0 +1,15 @@
+-- `listing::list::chunk_lines` meets its contract: what is listed from the front of the buffer on is what the call promises.
+-- Assumes nothing.
+use Rattle.std.proofs.Common.{arith, rules, sym}
+use Rattle.listing.proofs.Chunks.{front_lists}
+use Rattle.listing.proofs.Steps.{can_chunk}
+use Rattle.listing.proofs.list.chunk_lines.Goals as goal
+
+pub list_all-requires : goal.list_all-requires
+list_all-requires c = can_chunk (search rules) c.new-listing.ensures c.in_ok-admits.ensures.accepted
+
+pub returns : goal.returns
+returns c =
+    let all = c.in_ok-next.ensures in
+    front_lists _ c.new-listing.ensures (sym c.in_ok-admits.ensures.number) all.text all.noise (omega (arith, all.judges)) all.state c.lines.ensures
+    (λ e. search rules)
