@@ -1,4 +1,5 @@
-// Bytes and numbers as hex digits. The digits are 0-9 and A-F.
+// Bytes as hex digits, which are 0-9 and A-F.
+// Kept: no use of the digits of the crate frame, so that a test program does not read and print with the code that it tests.
 ghost use Rattle.std.specs.Prelude.{◌≡◌, ◌<◌, min, length, Some, [], ◌∷◌};
 ghost use Rattle.std.specs.Fmt.{WritesOnOk};
 ghost use Rattle.std.proofs.Math.Seq.{paste};

@@ -1,5 +1,5 @@
 // The calls of a row and their answers, a line for each.
-use crate::show::{Left, Wrong, kept_word};
+use crate::show::Left;
 use console::{Hex, front, rest};
 use frame::Refusal;
 use reader::{FeedAnswer, QuietAnswer, Reader};
@@ -64,16 +64,12 @@ impl Run {
                 },
             ) => {
                 self.add(0, noise, judged);
-                let wrong = Wrong {
-                    state: false,
-                    buffer: !is_untouched(front(buf, 16)),
-                };
-                println!(rt; "feed {taken} {noise} {judged} more{wrong}")?;
+                let buffer = buffer_end(front(buf, 16));
+                println!(rt; "feed {taken} {noise} {judged} more{buffer}")?;
                 Ok(None)
             }
             Err(refusal) => {
-                print!(rt; "feed")?;
-                print_refusal(rt, refusal, is_same(&before, &self.reader), buf)?;
+                print_refusal(rt, "feed", refusal, before == self.reader, buf)?;
                 Ok(None)
             }
         }
@@ -100,16 +96,14 @@ impl Run {
             }
             Ok(QuietAnswer::Empty { noise, judged }) => {
                 self.add(0, noise, judged);
-                let wrong = Wrong {
-                    state: !is_same(&self.reader, &Reader::open(before.format)),
-                    buffer: !is_untouched(buf),
-                };
-                println!(rt; "quiet {noise} {judged} empty{wrong}")?;
+                let is_new = self.reader == Reader::open(before.format);
+                let state = if is_new { "" } else { " state wrong" };
+                let buffer = buffer_end(buf);
+                println!(rt; "quiet {noise} {judged} empty{state}{buffer}")?;
                 Ok(false)
             }
             Err(refusal) => {
-                print!(rt; "quiet")?;
-                print_refusal(rt, refusal, is_same(&before, &self.reader), buf)?;
+                print_refusal(rt, "quiet", refusal, before == self.reader, buf)?;
                 Ok(false)
             }
         }
@@ -202,33 +196,40 @@ pub fn once_calls(rt: &impl Print, reader: Reader, chunk: &[u8]) -> io::Result<R
 
 // Prints `frame`, how many bytes before the first untaken one or the segment's end it began, and the payload, which is in the front of a buffer of 256 bytes.
 fn print_frame(rt: &impl Print, began: usize, buf: &[u8], len: usize) -> io::Result<()> {
-    let wrong = Wrong {
-        state: false,
-        buffer: !is_untouched(rest(buf, len)),
-    };
-    println!(rt; " frame {began} {}{wrong}", Hex(front(buf, len)))
+    let payload = Hex(front(buf, len));
+    let buffer = buffer_end(rest(buf, len));
+    println!(rt; " frame {began} {payload}{buffer}")
 }
 
-// Prints `refused`, the refusal's number, and whether state and buffer are as before.
-fn print_refusal(rt: &impl Print, refusal: Refusal, is_kept: bool, buf: &[u8]) -> io::Result<()> {
+// Prints the call's name, `refused`, the refusal's number, and whether state and buffer are as before.
+fn print_refusal(
+    rt: &impl Print,
+    call: &str,
+    refusal: Refusal,
+    is_kept: bool,
+    buf: &[u8],
+) -> io::Result<()> {
+    let number = refusal.number();
     let state = kept_word(is_kept);
     let buffer = kept_word(is_untouched(buf));
-    println!(rt;
-        " refused {} state {state} buffer {buffer}",
-        refusal.number()
-    )
+    println!(rt; "{call} refused {number} state {state} buffer {buffer}")
+}
+
+// The end of a line: what is wrong, if anything is, with the part of a buffer that no byte belongs in.
+fn buffer_end(part: &[u8]) -> &'static str {
+    if is_untouched(part) {
+        ""
+    } else {
+        " buffer wrong"
+    }
+}
+
+// `kept` or `changed`.
+fn kept_word(is_kept: bool) -> &'static str {
+    if is_kept { "kept" } else { "changed" }
 }
 
 // Whether no byte of a buffer, or of its part, was written.
 fn is_untouched(buf: &[u8]) -> bool {
     buf.iter().all(|b| *b == UNTOUCHED)
-}
-
-// Whether two states are the same, in every byte.
-fn is_same(a: &Reader, b: &Reader) -> bool {
-    a.format == b.format
-        && a.count == b.count
-        && a.follows == b.follows
-        && a.judged == b.judged
-        && a.held == b.held
 }

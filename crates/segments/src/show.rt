@@ -1,4 +1,4 @@
-// What the program prints of formats, states and buffers.
+// What the program prints of formats and states.
 use console::{HexField, front};
 use frame::{Ending, Footer, Format};
 use reader::Reader;
@@ -48,28 +48,4 @@ impl fmt::Display for Left<'_> {
         let held = front(&reader.held, reader.count);
         write!(f, "{mark} {} {}", reader.judged, HexField(held))
     }
-}
-
-// The end of a call's line: what is wrong, if anything is, with the state or with a byte of the buffer.
-#[derive(Clone, Copy)]
-pub struct Wrong {
-    pub state: bool,
-    pub buffer: bool,
-}
-
-impl fmt::Display for Wrong {
-    fn fmt<W: fmt::Write>(&self, f: &mut fmt::Formatter<W>) -> fmt::Result {
-        if self.state {
-            f.write_str(" state wrong")?;
-        }
-        if self.buffer {
-            f.write_str(" buffer wrong")?;
-        }
-        Ok(())
-    }
-}
-
-// `kept` or `changed`.
-pub fn kept_word(is_kept: bool) -> &'static str {
-    if is_kept { "kept" } else { "changed" }
 }
