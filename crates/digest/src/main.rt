@@ -5,8 +5,8 @@
 
 ghost use Rattle.std.specs.Prelude.{◌<◌};
 
-use console::{front, number, rest};
-use frame::{Ending, Footer, Format, Refusal};
+use console::{format_named, front, number, rest};
+use frame::{Ending, Format, Refusal};
 use reader::{Fed, FeedAnswer, QuietAnswer, Reader, View};
 use std::fmt;
 use std::io::{self, Read, Stdin};
@@ -174,16 +174,6 @@ fn drive_quiet(start: Driven) -> Tally {
     tally
 }
 
-// The format that an argument names by its second letter, in which the names differ.
-fn format_named(word: &[u8]) -> Format {
-    match word.get(1) {
-        Some(b'i') => Format::Binary(Footer::Optional),
-        Some(b'e') => Format::Binary(Footer::Required),
-        Some(b'n') => Format::Ascii(Ending::Any),
-        _ => Format::Ascii(Ending::CrLf),
-    }
-}
-
 // Reads the input to its end. No input comes near to the count of reads.
 fn drive_input(input: &mut Stdin, format: Format, size: usize) -> Tally
     requires { 0 < size }
@@ -207,7 +197,7 @@ fn drive_input(input: &mut Stdin, format: Format, size: usize) -> Tally
 fn main(rt: HostRuntime) -> io::Result<()> {
     let mut word = [0u8; 4096];
     let length = rt.arg(1, &mut word).unwrap_or(0);
-    let format = format_named(&word[..length]);
+    let format = format_named(&word[..length]).unwrap_or(Format::Ascii(Ending::CrLf));
     let length = rt.arg(2, &mut word).unwrap_or(0);
     let size = number(&word[..length]);
     if size == 0 {

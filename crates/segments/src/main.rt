@@ -29,8 +29,11 @@ mod calls;
 mod show;
 
 use crate::calls::{once_calls, refused_calls, run_calls};
-use crate::show::{FormatWord, Made};
-use console::{append, front, hex_bytes, next_word, number, print_line, read_input, rest};
+use crate::show::Made;
+use console::{
+    FormatWord, append, format_named, front, hex_bytes, next_word, number, print_line, read_input,
+    rest,
+};
 use frame::{Ending, Footer, Format, Framing};
 use reader::Reader;
 use std::io;
@@ -64,7 +67,7 @@ fn run_row(rt: &impl Print, line: &[u8], reader: Reader) -> io::Result<Reader> {
 // Runs a row with a new reader.
 fn run_segment(rt: &impl Print, line: &[u8]) -> io::Result<Reader> {
     let size_text = next_word(line);
-    let format = format_named(line);
+    let format = format_of(line);
     let size = number(size_text);
     let mut bytes = [0u8; 1024];
     let n = hex_bytes(next_word(size_text), &mut bytes);
@@ -119,7 +122,7 @@ fn state_of(words: &[u8], bytes: &[u8]) -> Reader {
     Reader {
         held,
         follows: number(mark_text) == 1,
-        format: format_named(words),
+        format: format_of(words),
         count: number(count_text),
         judged: number(next_word(mark_text)),
     }
@@ -134,12 +137,7 @@ fn new_reader(format: Format) -> Reader {
     }
 }
 
-// The format that a word names by its second letter, in which the names differ.
-fn format_named(word: &[u8]) -> Format {
-    match word.get(1) {
-        Some(b's') => Format::Ascii(Ending::CrLf),
-        Some(b'n') => Format::Ascii(Ending::Any),
-        Some(b'e') => Format::Binary(Footer::Required),
-        _ => Format::Binary(Footer::Optional),
-    }
+// The format that a row names; where it names none, that of binary framing.
+fn format_of(words: &[u8]) -> Format {
+    format_named(words).unwrap_or(Format::Binary(Footer::Optional))
 }

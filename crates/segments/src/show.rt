@@ -1,23 +1,7 @@
-// What the program prints of formats and states.
-use console::{HexField, front};
-use frame::{Ending, Footer, Format};
+// What the program prints of states.
+use console::{FormatWord, HexField, front};
 use reader::Reader;
 use std::fmt;
-
-// Prints as the word of a format.
-#[derive(Clone, Copy)]
-pub struct FormatWord(pub Format);
-
-impl fmt::Display for FormatWord {
-    fn fmt<W: fmt::Write>(&self, f: &mut fmt::Formatter<W>) -> fmt::Result {
-        f.write_str(match self.0 {
-            Format::Binary(Footer::Optional) => "binary",
-            Format::Binary(Footer::Required) => "required",
-            Format::Ascii(Ending::CrLf) => "ascii",
-            Format::Ascii(Ending::Any) => "any",
-        })
-    }
-}
 
 // Prints as the format, the count, the mark and the number of judged bytes of a state.
 #[derive(Clone, Copy)]

@@ -22,7 +22,7 @@
 mod meaning;
 mod shown;
 
-use crate::meaning::print_meanings;
+use crate::meaning::ReadFrame;
 use crate::shown::Walk;
 use console::{Hex, append, front, hex_bytes, print_line, read_input, rest};
 use frame::{Ending, Footer, Format, FrameRead, Framing};
@@ -151,7 +151,12 @@ fn run_payload(rt: &impl Print, line: &[u8], payload: &[u8]) -> io::Result<Row> 
     print_line(rt, line)?;
     let mut whole = [0u8; 517];
     let len = frame::write_frame(Framing::Ascii, payload, &mut whole).unwrap_or(0);
-    print_meanings(rt, Framing::Ascii, payload, front(&whole, len))?;
+    let read = ReadFrame {
+        framing: Framing::Ascii,
+        payload,
+        whole: front(&whole, len),
+    };
+    read.print_meanings(rt)?;
     Ok(Row::Uncounted)
 }
 
@@ -204,15 +209,18 @@ fn run_frame(rt: &impl Print, framing: Framing, s: &[u8]) -> io::Result<bool> {
     let mut buf = [0u8; 256];
     match frame::read_frame(framing, s, &mut buf) {
         Ok(FrameRead { used, len }) => {
-            let payload = front(&buf, len);
-            let whole = front(s, used);
-            let ending = if is_written(framing, payload, whole) {
+            let read = ReadFrame {
+                framing,
+                payload: front(&buf, len),
+                whole: front(s, used),
+            };
+            let ending = if read.is_written() {
                 "written back"
             } else {
                 "differs"
             };
-            println!(rt; "frame {used} {} {ending}", Hex(payload))?;
-            print_meanings(rt, framing, payload, whole)?;
+            println!(rt; "frame {used} {} {ending}", Hex(read.payload))?;
+            read.print_meanings(rt)?;
             Ok(true)
         }
         Err(refusal) => {
@@ -220,11 +228,4 @@ fn run_frame(rt: &impl Print, framing: Framing, s: &[u8]) -> io::Result<bool> {
             Ok(false)
         }
     }
-}
-
-// Whether the frame that is written for the payload is this one.
-fn is_written(framing: Framing, payload: &[u8], whole: &[u8]) -> bool {
-    let mut back = [0u8; 517];
-    let len = frame::write_frame(framing, payload, &mut back).unwrap_or(0);
-    front(&back, len) == whole
 }

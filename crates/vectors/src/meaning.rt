@@ -28,76 +28,95 @@ use frame::Framing;
 use message::{FromModule, ToModule};
 use std::{fmt, io};
 
-// Prints both meanings of a frame's payload. `whole` is the frame.
-pub fn print_meanings(
-    rt: &impl Print,
-    framing: Framing,
-    payload: &[u8],
-    whole: &[u8],
-) -> io::Result<()> {
-    print!(rt; "  to ")?;
-    print_to_module(rt, framing, payload, whole)?;
-    print!(rt; "  from ")?;
-    print_from_module(rt, framing, payload, whole)
+// A frame that was read: its payload, and all of its bytes.
+#[derive(Clone, Copy)]
+pub struct ReadFrame<'a> {
+    pub framing: Framing,
+    pub payload: &'a [u8],
+    pub whole: &'a [u8],
 }
 
-// Prints what the payload means to the module, and whether it is written as the frame that was read.
-fn print_to_module(
-    rt: &impl Print,
-    framing: Framing,
-    payload: &[u8],
-    whole: &[u8],
-) -> io::Result<()> {
-    let mut back = [0u8; 517];
-    match message::read_to_module(payload) {
-        Ok(ToModule::Request { request, start }) => {
-            let data = rest(payload, start);
-            let len = message::write_request(framing, request, data, &mut back).unwrap_or(0);
-            let text = Carrying {
-                message: request,
-                data,
-            };
-            print_message(rt, text, front(&back, len) == whole)
+impl ReadFrame<'_> {
+    // Whether the frame that is written for the payload is this one.
+    pub fn is_written(&self) -> bool {
+        let mut back = [0u8; 517];
+        let len = frame::write_frame(self.framing, self.payload, &mut back).unwrap_or(0);
+        self.is_whole(&back, len)
+    }
+
+    // Prints both meanings of the payload.
+    pub fn print_meanings(&self, rt: &impl Print) -> io::Result<()> {
+        print!(rt; "  to ")?;
+        self.print_to_module(rt)?;
+        print!(rt; "  from ")?;
+        self.print_from_module(rt)
+    }
+
+    // Prints what the payload means to the module, and whether that is written as this frame.
+    fn print_to_module(&self, rt: &impl Print) -> io::Result<()> {
+        let mut back = [0u8; 517];
+        match message::read_to_module(self.payload) {
+            Ok(ToModule::Request { request, start }) => {
+                let data = rest(self.payload, start);
+                let written = message::write_request(self.framing, request, data, &mut back);
+                let text = Carrying {
+                    message: request,
+                    data,
+                };
+                print_message(rt, text, self.is_whole(&back, written.unwrap_or(0)))
+            }
+            Ok(ToModule::OutputChange(change)) => {
+                let written = message::write_output_change(self.framing, change, &mut back);
+                print_message(
+                    rt,
+                    Shown(change),
+                    self.is_whole(&back, written.unwrap_or(0)),
+                )
+            }
+            Ok(ToModule::Setup(command)) => {
+                let written = message::write_setup(self.framing, command, &mut back);
+                print_message(
+                    rt,
+                    Shown(command),
+                    self.is_whole(&back, written.unwrap_or(0)),
+                )
+            }
+            Err(refusal) => println!(rt; "refused {}", refusal.number()),
         }
-        Ok(ToModule::OutputChange(change)) => {
-            let len = message::write_output_change(framing, change, &mut back).unwrap_or(0);
-            print_message(rt, Shown(change), front(&back, len) == whole)
+    }
+
+    // The same from the module.
+    fn print_from_module(&self, rt: &impl Print) -> io::Result<()> {
+        let mut back = [0u8; 517];
+        match message::read_from_module(self.payload) {
+            Ok(FromModule::Delivery { delivery, start }) => {
+                let data = rest(self.payload, start);
+                let written = message::write_delivery(self.framing, delivery, data, &mut back);
+                let text = Carrying {
+                    message: delivery,
+                    data,
+                };
+                print_message(rt, text, self.is_whole(&back, written.unwrap_or(0)))
+            }
+            Ok(FromModule::Notice(notice)) => {
+                let written = message::write_notice(self.framing, notice, &mut back);
+                print_message(
+                    rt,
+                    Shown(notice),
+                    self.is_whole(&back, written.unwrap_or(0)),
+                )
+            }
+            Err(refusal) => println!(rt; "refused {}", refusal.number()),
         }
-        Ok(ToModule::Setup(command)) => {
-            let len = message::write_setup(framing, command, &mut back).unwrap_or(0);
-            print_message(rt, Shown(command), front(&back, len) == whole)
-        }
-        Err(refusal) => println!(rt; "refused {}", refusal.number()),
+    }
+
+    // Whether the first bytes of a buffer, as many as were written there, are this frame.
+    fn is_whole(&self, back: &[u8], len: usize) -> bool {
+        front(back, len) == self.whole
     }
 }
 
-// The same from the module.
-fn print_from_module(
-    rt: &impl Print,
-    framing: Framing,
-    payload: &[u8],
-    whole: &[u8],
-) -> io::Result<()> {
-    let mut back = [0u8; 517];
-    match message::read_from_module(payload) {
-        Ok(FromModule::Delivery { delivery, start }) => {
-            let data = rest(payload, start);
-            let len = message::write_delivery(framing, delivery, data, &mut back).unwrap_or(0);
-            let text = Carrying {
-                message: delivery,
-                data,
-            };
-            print_message(rt, text, front(&back, len) == whole)
-        }
-        Ok(FromModule::Notice(notice)) => {
-            let len = message::write_notice(framing, notice, &mut back).unwrap_or(0);
-            print_message(rt, Shown(notice), front(&back, len) == whole)
-        }
-        Err(refusal) => println!(rt; "refused {}", refusal.number()),
-    }
-}
-
-// Prints a message, and whether the frame that is written for it is the one that was read. A write that is refused puts nothing there.
+// Prints a message, and whether it is written as the frame that was read.
 fn print_message<D: fmt::Display + Drop>(
     rt: &impl Print,
     text: D,
