@@ -1,5 +1,5 @@
--- Bytes and numbers as hex digits, which are the characters 0-9 and A-F.
-use Rattle.std.specs.Prelude.{ℕ, zero, suc, ◌+◌, ◌-◌, ◌*◌, ◌/◌, ◌%◌, cond, ◌&&◌, List, [], ◌∷◌, ◌++◌, leb, ltb}
+-- Bytes as hex digits, which are the characters 0-9 and A-F.
+use Rattle.std.specs.Prelude.{ℕ, ◌+◌, ◌-◌, ◌*◌, ◌/◌, ◌%◌, cond, ◌&&◌, List, [], ◌∷◌, leb, ltb}
 
 -- The digit that stands for a value below 16.
 unfoldable pub digit_of : ℕ → ℕ
@@ -13,11 +13,6 @@ digit_value c = cond (leb 0x30 c && leb c 0x39) (c - 0x30) (cond (leb 0x41 c && 
 abbrev pub hex : List ℕ → List ℕ
 hex [] = []
 hex (b ∷ s) = digit_of (b / 16) ∷ digit_of (b % 16) ∷ hex s
-
--- The last k digits of a number, the most significant first.
-unfoldable pub last_digits : ℕ → ℕ → List ℕ
-last_digits zero n = []
-last_digits (suc k) n = last_digits k (n / 16) ++ (digit_of (n % 16) ∷ [])
 
 -- The byte that two digits stand for.
 abbrev pub byte_of : ℕ → ℕ → ℕ

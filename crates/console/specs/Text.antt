@@ -1,14 +1,10 @@
--- Lines, words and numbers of a text.
-use Rattle.std.specs.Prelude.{ℕ, ◌+◌, ◌-◌, ◌*◌, Bool, cond, ◌&&◌, List, [], ◌∷◌, leb, ltb, ◌==◌, take, drop}
+-- Words and numbers of a line.
+use Rattle.std.specs.Prelude.{ℕ, ◌+◌, ◌-◌, ◌*◌, Bool, cond, ◌&&◌, List, [], ◌∷◌, leb, ltb, ◌==◌, drop}
 use Rattle.std.specs.List.{position_or_len}
 
 -- The place of the first such byte of a text, or the text's length where there is none.
 abbrev pub index_of : ℕ → List ℕ → ℕ
 index_of b s = position_or_len (λ (c : ℕ). c == b) s
-
--- The bytes before the first line feed, or all of them where there is none.
-abbrev pub first_line : List ℕ → List ℕ
-first_line s = take (index_of 0x0A s) s
 
 -- The bytes behind the first space, or none where there is none.
 abbrev pub behind_space : List ℕ → List ℕ

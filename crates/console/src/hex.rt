@@ -1,42 +1,48 @@
-// Bytes and numbers as hex digits. The digits are 0-9 and A-F.
-ghost use Rattle.std.specs.Prelude.{◌≡◌, ◌*◌, ◌/◌, ◌<◌, min, length};
+// Bytes as hex digits, which are 0-9 and A-F.
+// Kept: no use of the digits of the crate frame, so that a test program does not read and print with the code that it tests.
+ghost use Rattle.std.specs.Prelude.{◌≡◌, ◌<◌, min, length, Some, [], ◌∷◌};
+ghost use Rattle.std.specs.Fmt.{WritesOnOk};
 ghost use Rattle.std.proofs.Math.Seq.{paste};
 ghost use Rattle.io.specs.Counts.{IsPrefixLen};
-ghost use Rattle.console.specs.Hex.{digit_of, digit_value, hex, last_digits, pair_bytes};
+ghost use Rattle.console.specs.Hex.{digit_value, hex, pair_bytes};
 
-use crate::part::smaller;
+use crate::part::rest;
+use std::fmt;
 
-// The 16 digits of a number.
-#[tactic(auto, unfolding(crate::specs::Hex::last_digits))]
-pub fn hex_u64(x: u64) -> [u8; 16]
-    ensures { result ≡ last_digits 16 x }
-{
-    let mut digits = [0u8; 16];
-    let mut left = x;
-    let mut i: usize = 16;
-    while 0 < i {
-        i -= 1;
-        digits[i] = hex_digit((left % 16) as u8);
-        left = left / 16;
+// Prints as two hex digits for each byte.
+#[derive(Clone, Copy)]
+pub struct Hex<'a>(pub &'a [u8]);
+
+impl fmt::Display for Hex<'_> {
+    ghost output = { λ h. Some (hex h.0.now) };
+
+    fn fmt<W: fmt::Write>(&self, f: &mut fmt::Formatter<W>) -> fmt::Result {
+        for b in self.0 {
+            write_byte(*b, f)?;
+        }
+        Ok(())
     }
-    digits
 }
 
-// Puts the digits of the bytes of s into the front of text, as many whole pairs as fit, and gives how many digits there are.
-#[tactic(auto, using(crate::proofs::HexLaws::hex_next))]
-pub fn put_hex(s: &[u8], text: &mut [u8]) -> usize
-    ensures prefix_len { IsPrefixLen result text.new }
-    ensures value { result ≡ 2 * min (length s.now) (length text.old / 2) }
-    ensures text_after { text.new ≡ paste text.old 0 (hex s.now) result }
+// Writes the two digits of a byte.
+#[tactic(auto, using(std::proofs::lemmas::Fmt::hex_byte), unfolding(crate::specs::Hex::digit_of))]
+fn write_byte<W: fmt::Write>(b: u8, f: &mut fmt::Formatter<W>) -> fmt::Result
+    ensures { WritesOnOk W.write_str_gives f.old result (hex (b ∷ [])) f.new }
 {
-    let count = smaller(s.len(), text.len() / 2);
-    let mut i: usize = 0;
-    while i < count {
-        text[2 * i] = hex_digit(s[i] / 16);
-        text[2 * i + 1] = hex_digit(s[i] % 16);
-        i += 1;
+    write!(f, "{b:02X}")
+}
+
+// Prints as the same digits, or as `-` where there are no bytes.
+#[derive(Clone, Copy)]
+pub struct HexField<'a>(pub &'a [u8]);
+
+impl fmt::Display for HexField<'_> {
+    fn fmt<W: fmt::Write>(&self, f: &mut fmt::Formatter<W>) -> fmt::Result {
+        if self.0.is_empty() {
+            return f.write_str("-");
+        }
+        write!(f, "{}", Hex(self.0))
     }
-    2 * count
 }
 
 // Puts the bytes that hex pairs with a character between stand for into the front of bytes, as many as fit, and gives how many there are.
@@ -45,29 +51,15 @@ pub fn hex_bytes(pairs: &[u8], bytes: &mut [u8]) -> usize
     ensures value { result ≡ min (length (pair_bytes pairs.now)) (length bytes.old) }
     ensures bytes_after { bytes.new ≡ paste bytes.old 0 (pair_bytes pairs.now) result }
 {
-    let mut n: usize = 0;
-    let mut at: usize = 0;
-    while n < bytes.len() {
-        if pairs.len() <= at + 1 {
-            break;
-        }
-        bytes[n] = 16 * digit_value(pairs[at]) + digit_value(pairs[at + 1]);
-        n += 1;
-        at += 3;
+    let mut left = pairs;
+    for n in 0..bytes.len() {
+        let [high, low, ..] = left else {
+            return n;
+        };
+        bytes[n] = 16 * digit_value(*high) + digit_value(*low);
+        left = rest(left, 3);
     }
-    n
-}
-
-// The digit of a number below 16.
-#[tactic(auto, unfolding(crate::specs::Hex::digit_of))]
-fn hex_digit(x: u8) -> u8
-    requires { x < 16 }
-    ensures { result ≡ digit_of x }
-{
-    if x < 10 {
-        return b'0' + x;
-    }
-    b'A' + (x - 10)
+    bytes.len()
 }
 
 // What a hex digit stands for; 0 for any other character.

@@ -27,95 +27,85 @@
 
 mod calls;
 mod show;
-mod state;
 
 use crate::calls::{once_calls, refused_calls, run_calls};
-use crate::show::{print_line, show_held, show_once, show_segment, show_then};
-use console::{append, front, hex_bytes, line_at, next_word, number, rest};
+use crate::show::Made;
+use console::{
+    FormatWord, append, format_named, front, hex_bytes, next_word, number, print_line, read_input,
+    rest,
+};
 use frame::{Ending, Footer, Format, Framing};
 use reader::Reader;
-
-// The number of standard input.
-const STDIN_FILENO: i32 = 0;
+use std::io;
 
 // Runs the rows of standard input.
-fn main() {
+fn main(rt: HostRuntime) -> io::Result<()> {
     let mut text = [0u8; 131072];
-    let n = io::read_full(STDIN_FILENO, &mut text);
-    run_rows(&text[..n]);
-}
-
-// Runs every line of the text.
-fn run_rows(text: &[u8]) {
+    let n = read_input(&mut text);
     let mut reader = Reader::new(Framing::Binary);
-    let mut at: usize = 0;
-    while at < text.len() {
-        let line = line_at(text, at);
-        reader = run_row(line, reader);
-        at += line.len() + 1;
+    for line in text[..n].split(|b| *b == b'\n') {
+        reader = run_row(&rt, line, reader)?;
     }
+    Ok(())
 }
 
 // Runs one line behind a row that left this reader, and gives the reader that it leaves.
-fn run_row(line: &[u8], reader: Reader) -> Reader {
-    if line.len() == 0 {
-        return reader;
-    }
-    let first = line[0];
-    match first {
-        b'#' => {
-            print_line(line);
-            reader
+fn run_row(rt: &impl Print, line: &[u8], reader: Reader) -> io::Result<Reader> {
+    match line.first() {
+        None => Ok(reader),
+        Some(b'#') => {
+            print_line(rt, line)?;
+            Ok(reader)
         }
-        b't' => run_then(line, reader),
-        b'h' => run_held(line),
-        b'q' => run_once(line),
-        _ => run_segment(line),
+        Some(b't') => run_then(rt, line, reader),
+        Some(b'h') => run_held(rt, line),
+        Some(b'q') => run_once(rt, line),
+        _ => run_segment(rt, line),
     }
 }
 
 // Runs a row with a new reader.
-fn run_segment(line: &[u8]) -> Reader {
+fn run_segment(rt: &impl Print, line: &[u8]) -> io::Result<Reader> {
     let size_text = next_word(line);
-    let format = format_named(line);
+    let format = format_of(line);
     let size = number(size_text);
     let mut bytes = [0u8; 1024];
     let n = hex_bytes(next_word(size_text), &mut bytes);
-    show_segment(format, size, n);
-    run_calls(new_reader(format), &bytes[..n], size)
+    println!(rt; "{} {size} {n}", FormatWord(format))?;
+    run_calls(rt, new_reader(format), &bytes[..n], size)
 }
 
 // Runs a row with the reader that the one before it left.
-fn run_then(line: &[u8], reader: Reader) -> Reader {
+fn run_then(rt: &impl Print, line: &[u8], reader: Reader) -> io::Result<Reader> {
     let size_text = next_word(line);
     let size = number(size_text);
     let mut bytes = [0u8; 1024];
     let n = hex_bytes(next_word(size_text), &mut bytes);
-    show_then(size, n);
-    run_calls(reader, &bytes[..n], size)
+    println!(rt; "then {size} {n}")?;
+    run_calls(rt, reader, &bytes[..n], size)
 }
 
 // Runs a row with a state made by hand.
-fn run_held(line: &[u8]) -> Reader {
+fn run_held(rt: &impl Print, line: &[u8]) -> io::Result<Reader> {
     let words = next_word(line);
     let size_text = behind_state(words);
     let size = number(size_text);
     let mut bytes = [0u8; 1024];
     let n = hex_bytes(next_word(size_text), &mut bytes);
     let reader = state_of(words, &bytes);
-    show_held(reader, size, n);
-    refused_calls(reader);
-    run_calls(reader, rest(front(&bytes, n), reader.count), size)
+    println!(rt; "held {} {size} {n}", Made(&reader))?;
+    refused_calls(rt, reader)?;
+    run_calls(rt, reader, rest(front(&bytes, n), reader.count), size)
 }
 
 // Runs a row with a state made by hand and the quiet at once.
-fn run_once(line: &[u8]) -> Reader {
+fn run_once(rt: &impl Print, line: &[u8]) -> io::Result<Reader> {
     let words = next_word(line);
     let mut bytes = [0u8; 1024];
     let n = hex_bytes(behind_state(words), &mut bytes);
     let reader = state_of(words, &bytes);
-    show_once(reader, n);
-    once_calls(reader, rest(front(&bytes, n), reader.count))
+    println!(rt; "quiet {} {n}", Made(&reader))?;
+    once_calls(rt, reader, rest(front(&bytes, n), reader.count))
 }
 
 // What stands behind the four words of a state: its format, count, mark and number of judged bytes.
@@ -127,45 +117,27 @@ fn behind_state(words: &[u8]) -> &[u8] {
 fn state_of(words: &[u8], bytes: &[u8]) -> Reader {
     let count_text = next_word(words);
     let mark_text = next_word(count_text);
-    let format = format_named(words);
-    let count = number(count_text);
-    let follows = number(mark_text) == 1;
-    let judged = number(next_word(mark_text));
     let mut held = [0u8; 517];
     append(&mut held, 0, bytes);
     Reader {
-        format,
         held,
-        count,
-        follows,
-        judged,
+        follows: number(mark_text) == 1,
+        format: format_of(words),
+        count: number(count_text),
+        judged: number(next_word(mark_text)),
     }
 }
 
 // A new reader: where the format is the default of its framing, the one that the framing gives.
 fn new_reader(format: Format) -> Reader {
     match format {
-        Format::Binary(footer) => match footer {
-            Footer::Optional => Reader::new(Framing::Binary),
-            Footer::Required => Reader::open(format),
-        },
-        Format::Ascii(ending) => match ending {
-            Ending::CrLf => Reader::new(Framing::Ascii),
-            Ending::Any => Reader::open(format),
-        },
+        Format::Binary(Footer::Optional) => Reader::new(Framing::Binary),
+        Format::Ascii(Ending::CrLf) => Reader::new(Framing::Ascii),
+        _ => Reader::open(format),
     }
 }
 
-// The format that a word names by its second letter, in which the names differ.
-fn format_named(word: &[u8]) -> Format {
-    if word.len() < 2 {
-        return Format::Binary(Footer::Optional);
-    }
-    let second = word[1];
-    match second {
-        b's' => Format::Ascii(Ending::CrLf),
-        b'n' => Format::Ascii(Ending::Any),
-        b'e' => Format::Binary(Footer::Required),
-        _ => Format::Binary(Footer::Optional),
-    }
+// The format that a row names; where it names none, that of binary framing.
+fn format_of(words: &[u8]) -> Format {
+    format_named(words).unwrap_or(Format::Binary(Footer::Optional))
 }

@@ -20,22 +20,16 @@
 #![tactic(auto)]
 
 mod meaning;
-mod show;
+mod shown;
 
-ghost use Rattle.io.specs.Counts.{IsPrefixLen};
-
-use crate::meaning::{show_meanings, show_walk};
-use crate::show::{
-    STDOUT_FILENO, print_bytes, print_either, print_field, print_line, show_refusal,
-};
-use console::{append, front, hex_bytes, line_at, rest};
-use frame::{Ending, Footer, Format, Framing, ReadAnswer, WriteAnswer};
-
-// The number of standard input.
-const STDIN_FILENO: i32 = 0;
+use crate::meaning::ReadFrame;
+use crate::shown::Walk;
+use console::{Hex, append, front, hex_bytes, print_line, read_input, rest};
+use frame::{Ending, Footer, Format, FrameRead, Framing};
+use std::{fmt, io};
 
 // What became of a line.
-#[derive(Drop)]
+#[derive(Clone, Copy)]
 enum Row {
     // An empty line, a payload, a list or bytes that are read with any ending.
     Uncounted,
@@ -45,10 +39,27 @@ enum Row {
 }
 
 // How many rows were read as a frame, and how many were refused.
-#[derive(Clone, Copy)]
+#[derive(Clone, Copy, Default)]
 struct Count {
     frames: u64,
     refused: u64,
+}
+
+impl Count {
+    // Adds one more reading, of a frame or refused. No text has so many lines that it wraps.
+    fn add(&mut self, is_frame: bool) {
+        if is_frame {
+            self.frames = self.frames.wrapping_add(1);
+        } else {
+            self.refused = self.refused.wrapping_add(1);
+        }
+    }
+}
+
+impl fmt::Display for Count {
+    fn fmt<W: fmt::Write>(&self, f: &mut fmt::Formatter<W>) -> fmt::Result {
+        write!(f, "{} frames, {} refused", self.frames, self.refused)
+    }
 }
 
 // The totals so far by default and with the footer required, and whether the rows that follow count.
@@ -59,255 +70,162 @@ struct Totals {
     counted: bool,
 }
 
+impl Totals {
+    // Adds one more line.
+    fn add(&mut self, row: Row) {
+        match row {
+            Row::Heading { counted } => self.counted = counted,
+            Row::Read { optional, required } if self.counted => {
+                self.optional.add(optional);
+                self.required.add(required);
+            }
+            _ => {}
+        }
+    }
+}
+
 // Runs the rows of standard input, then prints the totals.
-fn main() {
-    let mut text = io::large_buffer();
-    let n = io::read_full(STDIN_FILENO, &mut text);
-    let totals = run_rows(&text[..n]);
-    show_count(totals.optional);
-    io::write_all(STDOUT_FILENO, b"required ");
-    show_count(totals.required);
-}
-
-// Prints a count.
-fn show_count(count: Count) {
-    io::print_decimal(STDOUT_FILENO, count.frames);
-    io::write_all(STDOUT_FILENO, b" frames, ");
-    io::print_decimal(STDOUT_FILENO, count.refused);
-    io::write_all(STDOUT_FILENO, b" refused\n");
-}
-
-// Runs every line of the text.
-fn run_rows(text: &[u8]) -> Totals {
-    let none = Count {
-        frames: 0,
-        refused: 0,
-    };
+fn main(rt: HostRuntime) -> io::Result<()> {
+    let mut text = [0u8; 65536];
+    let n = read_input(&mut text);
     let mut totals = Totals {
-        optional: none,
-        required: none,
+        optional: Count::default(),
+        required: Count::default(),
         counted: true,
     };
-    let mut at: usize = 0;
-    while at < text.len() {
-        let line = line_at(text, at);
-        let row = run_row(line);
-        totals = with_row(totals, row);
-        at += line.len() + 1;
+    for line in text[..n].split(|b| *b == b'\n') {
+        totals.add(run_row(&rt, line)?);
     }
-    totals
-}
-
-// The totals after one more line.
-fn with_row(totals: Totals, row: Row) -> Totals {
-    match row {
-        Row::Uncounted => totals,
-        Row::Heading { counted } => {
-            let mut after = totals;
-            after.counted = counted;
-            after
-        }
-        Row::Read { optional, required } => {
-            if !totals.counted {
-                return totals;
-            }
-            let by_default = totals.optional;
-            let by_choice = totals.required;
-            Totals {
-                optional: with_reading(by_default, optional),
-                required: with_reading(by_choice, required),
-                counted: true,
-            }
-        }
-    }
-}
-
-// The count after one more reading, of a frame or refused. No text has so many lines that it wraps.
-fn with_reading(count: Count, is_frame: bool) -> Count {
-    if is_frame {
-        return Count {
-            frames: count.frames.wrapping_add(1),
-            refused: count.refused,
-        };
-    }
-    Count {
-        frames: count.frames,
-        refused: count.refused.wrapping_add(1),
-    }
+    println!(rt; "{}\nrequired {}", totals.optional, totals.required)
 }
 
 // Runs one line.
-fn run_row(line: &[u8]) -> Row {
-    if line.len() == 0 {
-        return Row::Uncounted;
-    }
-    let first = line[0];
-    if first == b'#' {
-        return run_heading(line);
-    }
+fn run_row(rt: &impl Print, line: &[u8]) -> io::Result<Row> {
+    let Some(first) = line.first() else {
+        return Ok(Row::Uncounted);
+    };
     let mut bytes = [0u8; 1024];
-    if first == b':' {
-        let n = text_bytes(line, &mut bytes);
-        return run_ascii(&bytes[..n]);
+    let n = match first {
+        b'#' => return run_heading(rt, line),
+        b':' => text_bytes(line, &mut bytes),
+        _ => hex_bytes(rest(line, pairs_from(line)), &mut bytes),
+    };
+    let bytes = front(&bytes, n);
+    match first {
+        b'p' => run_payload(rt, line, bytes),
+        b'l' => run_list(rt, line, bytes),
+        b'a' if line.starts_with(b"any") => run_any(rt, bytes),
+        b'a' | b':' => run_ascii(rt, bytes),
+        _ => run_binary(rt, bytes),
     }
-    if check::same(front(line, 3), b"any") {
-        let n = hex_bytes(rest(line, 4), &mut bytes);
-        return run_any(&bytes[..n]);
-    }
-    let n = hex_bytes(rest(line, pairs_from(first)), &mut bytes);
-    if first == b'p' {
-        return run_payload(line, &bytes[..n]);
-    }
-    if first == b'l' {
-        return run_list(line, &bytes[..n]);
-    }
-    if first == b'a' {
-        return run_ascii(&bytes[..n]);
-    }
-    run_binary(&bytes[..n])
 }
 
 // Prints a heading.
-fn run_heading(line: &[u8]) -> Row {
-    print_line(line);
-    let uncounted = ends(line, b"not counted");
-    Row::Heading {
-        counted: !uncounted,
-    }
-}
-
-// Whether s ends with these bytes.
-fn ends(s: &[u8], tail: &[u8]) -> bool {
-    if s.len() < tail.len() {
-        return false;
-    }
-    check::same(rest(s, s.len() - tail.len()), tail)
+fn run_heading(rt: &impl Print, line: &[u8]) -> io::Result<Row> {
+    print_line(rt, line)?;
+    Ok(Row::Heading {
+        counted: !line.ends_with(b"not counted"),
+    })
 }
 
 // Puts a line and CR LF into the front of bytes and gives how many bytes that makes. What stands behind a line's first 1,022 bytes is left out.
-fn text_bytes(line: &[u8], bytes: &mut [u8]) -> usize
-    ensures { IsPrefixLen result bytes.new }
-{
+fn text_bytes(line: &[u8], bytes: &mut [u8]) -> usize {
     let n = append(bytes, 0, front(line, 1022));
     append(bytes, n, b"\r\n")
 }
 
-// Where the hex pairs of a line with this first character begin: behind the word `ascii`, `binary`, `list` or `payload`, or at once.
-fn pairs_from(first: u8) -> usize {
-    match first {
-        b'a' => 6,
-        b'b' => 7,
-        b'l' => 5,
-        b'p' => 8,
+// Where the hex pairs of a line begin: behind the word `any`, `ascii`, `binary`, `list` or `payload`, or at once.
+fn pairs_from(line: &[u8]) -> usize {
+    match line.first() {
+        Some(b'a') if line.starts_with(b"any") => 4,
+        Some(b'a') => 6,
+        Some(b'b') => 7,
+        Some(b'l') => 5,
+        Some(b'p') => 8,
         _ => 0,
     }
 }
 
 // Prints the row of a payload and what the payload means. It counts as the payload of an ASCII frame.
-fn run_payload(line: &[u8], payload: &[u8]) -> Row {
-    print_line(line);
+fn run_payload(rt: &impl Print, line: &[u8], payload: &[u8]) -> io::Result<Row> {
+    print_line(rt, line)?;
     let mut whole = [0u8; 517];
-    let answer = frame::write_frame(Framing::Ascii, payload, &mut whole);
-    show_meanings(
-        Framing::Ascii,
+    let len = frame::write_frame(Framing::Ascii, payload, &mut whole).unwrap_or(0);
+    let read = ReadFrame {
+        framing: Framing::Ascii,
         payload,
-        front(&whole, written_length(answer)),
-    );
-    Row::Uncounted
+        whole: front(&whole, len),
+    };
+    read.print_meanings(rt)?;
+    Ok(Row::Uncounted)
 }
 
 // Prints the row of a settings list and its settings.
-fn run_list(line: &[u8], list: &[u8]) -> Row {
-    print_line(line);
-    io::write_all(STDOUT_FILENO, b"  walk");
-    show_walk(list);
-    io::write_all(STDOUT_FILENO, b"\n");
-    Row::Uncounted
+fn run_list(rt: &impl Print, line: &[u8], list: &[u8]) -> io::Result<Row> {
+    print_line(rt, line)?;
+    println!(rt; "  walk{}", Walk(list))?;
+    Ok(Row::Uncounted)
 }
 
 // Runs bytes in ASCII framing.
-fn run_ascii(s: &[u8]) -> Row {
-    let is_frame = run_frame(Framing::Ascii, s);
-    Row::Read {
+fn run_ascii(rt: &impl Print, s: &[u8]) -> io::Result<Row> {
+    let is_frame = run_frame(rt, Framing::Ascii, s)?;
+    Ok(Row::Read {
         optional: is_frame,
         required: is_frame,
-    }
+    })
 }
 
 // Runs bytes in binary framing, by default and with the footer required.
-fn run_binary(s: &[u8]) -> Row {
-    let optional = run_frame(Framing::Binary, s);
-    let required = run_as(Format::Binary(Footer::Required), b"  required ", s);
-    Row::Read { optional, required }
+fn run_binary(rt: &impl Print, s: &[u8]) -> io::Result<Row> {
+    let optional = run_frame(rt, Framing::Binary, s)?;
+    let required = run_as(rt, Format::Binary(Footer::Required), "  required", s)?;
+    Ok(Row::Read { optional, required })
 }
 
 // Runs bytes in ASCII framing with any ending.
-fn run_any(s: &[u8]) -> Row {
-    run_as(Format::Ascii(Ending::Any), b"any ", s);
-    Row::Uncounted
+fn run_any(rt: &impl Print, s: &[u8]) -> io::Result<Row> {
+    run_as(rt, Format::Ascii(Ending::Any), "any", s)?;
+    Ok(Row::Uncounted)
 }
 
 // Reads a frame from the front of s in a format and prints what that gave, behind the format's name; answers whether it is one.
-fn run_as(format: Format, name: &[u8], s: &[u8]) -> bool {
+fn run_as(rt: &impl Print, format: Format, name: &str, s: &[u8]) -> io::Result<bool> {
     let mut buf = [0u8; 256];
-    let answer = frame::read_frame_as(format, s, &mut buf);
-    io::write_all(STDOUT_FILENO, name);
-    match answer {
-        ReadAnswer::Frame { used, len } => {
-            show_frame(used, front(&buf, len));
-            print_line(b"");
-            true
+    match frame::read_frame_as(format, s, &mut buf) {
+        Ok(FrameRead { used, len }) => {
+            println!(rt; "{name} frame {used} {}", Hex(front(&buf, len)))?;
+            Ok(true)
         }
-        ReadAnswer::Refused(refusal) => {
-            show_refusal(refusal.number());
-            false
+        Err(refusal) => {
+            println!(rt; "{name} refused {}", refusal.number())?;
+            Ok(false)
         }
     }
 }
 
 // Reads a frame from the front of s, writes its payload again and prints what both gave; answers whether it is one.
-fn run_frame(framing: Framing, s: &[u8]) -> bool {
+fn run_frame(rt: &impl Print, framing: Framing, s: &[u8]) -> io::Result<bool> {
     let mut buf = [0u8; 256];
-    let answer = frame::read_frame(framing, s, &mut buf);
-    match answer {
-        ReadAnswer::Frame { used, len } => {
-            let payload = front(&buf, len);
-            let whole = front(s, used);
-            show_frame(used, payload);
-            print_either(
-                is_written(framing, payload, whole),
-                b" written back\n",
-                b" differs\n",
-            );
-            show_meanings(framing, payload, whole);
-            true
+    match frame::read_frame(framing, s, &mut buf) {
+        Ok(FrameRead { used, len }) => {
+            let read = ReadFrame {
+                framing,
+                payload: front(&buf, len),
+                whole: front(s, used),
+            };
+            let ending = if read.is_written() {
+                "written back"
+            } else {
+                "differs"
+            };
+            println!(rt; "frame {used} {} {ending}", Hex(read.payload))?;
+            read.print_meanings(rt)?;
+            Ok(true)
         }
-        ReadAnswer::Refused(refusal) => {
-            show_refusal(refusal.number());
-            false
+        Err(refusal) => {
+            println!(rt; "refused {}", refusal.number())?;
+            Ok(false)
         }
-    }
-}
-
-// Prints `frame`, the count of bytes used and the payload.
-fn show_frame(used: usize, payload: &[u8]) {
-    io::write_all(STDOUT_FILENO, b"frame");
-    print_field(used);
-    io::write_all(STDOUT_FILENO, b" ");
-    print_bytes(payload);
-}
-
-// Whether the frame that is written for the payload is this one.
-fn is_written(framing: Framing, payload: &[u8], whole: &[u8]) -> bool {
-    let mut back = [0u8; 517];
-    let answer = frame::write_frame(framing, payload, &mut back);
-    check::same(front(&back, written_length(answer)), whole)
-}
-
-// The length of a written frame, or 0 where none was written.
-fn written_length(answer: WriteAnswer) -> usize {
-    match answer {
-        WriteAnswer::Written(n) => n,
-        WriteAnswer::Refused(_) => 0,
     }
 }
