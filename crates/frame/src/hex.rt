@@ -1,5 +1,5 @@
 // Bytes as two digits each, the upper half first.
-ghost use Rattle.std.specs.Prelude.{◌≡◌, ◌+◌, ◌-◌, ◌*◌, ◌/◌, ◌%◌, ◌<◌, ◌≤◌, [], ◌∷◌, ◌++◌, length, take, drop, slice_index, slice_range, slice_set};
+ghost use Rattle.std.specs.Prelude.{◌≡◌, ◌+◌, ◌-◌, ◌*◌, ◌/◌, ◌%◌, ◌<◌, ◌≤◌, [], ◌∷◌, ◌++◌, length, nat_le, cond, take, drop, slice_index, slice_range, slice_set};
 ghost use Rattle.std.proofs.Math.Seq.{paste};
 ghost use Rattle.frame.specs.Digit.{digit_value, digit_of};
 ghost use Rattle.frame.specs.Hex.{hex, sum_of};
@@ -193,11 +193,24 @@ pub(crate) fn put_hex(dst: &mut [u8], at: usize, b: u8)
 }
 
 // Puts the digits of src into dst from `at` on.
-pub fn encode(dst: &mut [u8], at: usize, src: &[u8])
+pub(crate) fn encode(dst: &mut [u8], at: usize, src: &[u8])
     requires { at + 2 * length src.now ≤ length dst.old }
     ensures { dst.new ≡ paste dst.old at (hex src.now) (2 * length src.now) }
 {
     for (i, b) in src.iter().enumerate() {
         put_hex(dst, at + 2 * i, *b);
     }
+}
+
+// Puts the digits of src into the front of dst, whose other bytes stay, and says whether it did. It does not where dst has no room for them, and then stays as
+// it is.
+pub fn encode_hex(src: &[u8], dst: &mut [u8]) -> bool
+    ensures value { result ≡ nat_le (length (hex src.now)) (length dst.old) }
+    ensures dst_after { dst.new ≡ cond (nat_le (length (hex src.now)) (length dst.old)) (in_front (hex src.now) dst.old) dst.old }
+{
+    if dst.len() / 2 < src.len() {
+        return false;
+    }
+    encode(dst, 0, src);
+    true
 }

@@ -8,7 +8,7 @@ use crate::framing::{
 use crate::refusal::Refusal;
 
 // A frame of `used` bytes, with a payload of `len` bytes in the front of the buffer.
-#[derive(Clone, Copy)]
+#[derive(Clone, Copy, Debug, PartialEq, Eq)]
 pub struct FrameRead {
     pub used: usize,
     pub len: usize,
