@@ -38,6 +38,7 @@ impl Options {
 }
 
 // Whether the option is given already.
+// Kept: an option is known here by its number in the string; an enum of the eight would only be made to be matched once more.
 #[tactic(auto, unfolding(crate::specs::Options::has_option))]
 fn has(options: Options, id: u8) -> bool
     ensures { result ≡ has_option options id }
