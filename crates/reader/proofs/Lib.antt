@@ -31,7 +31,7 @@ pub mod MarkExamples
 -- How the code scans, and that what it makes of a scan is the call.
 pub mod Scanning
 pub mod Skipping
-pub mod Blocks
+pub mod Runs
 pub mod Passing
 pub mod Joining
 pub mod Counting

@@ -5,13 +5,13 @@ use native.Mathlib.Nat.{add-zero, sub_self, le_refl}
 use native.Mathlib.Numerals.{add-one}
 use native.Mathlib.Omega.{arith}
 use mathlib.Core.Path.{◌≡◌, refl, sym, ap, ◌∙◌, subst}
-use mathlib.Core.List.{List, [], ◌∷◌, ◌++◌}
+use mathlib.Core.List.{List, [], ◌∷◌}
 use mathlib.Core.Logic.{◌⊎◌, inl, inr}
-use mathlib.Core.Bool.{Bool, true, cond, not, ◌&&◌, and_assoc}
+use mathlib.Core.Bool.{Bool, true, cond, not}
 use borrow.Author.Tests.{eq-eqb, ne_eqb, eqb-true, eqb-false, not-true}
 use lib.Dec.{eqb}
 use lib.ListN.{length, get_or, take, drop}
-use lib.Seq.{take-add, take-take, drop-drop}
+use lib.Seq.{take-take}
 use Rattle.frame.specs.Checks.{Checks, next, fails, whole, test, Verdict, cut, refused, frame, behind, run}
 use Rattle.frame.specs.Binary.{binary}
 use Rattle.frame.specs.Digit.{is_digit, digit_value}
@@ -30,11 +30,6 @@ use Rattle.frame.proofs.Shapes.{Fails, Bars, bars_line, cut_behind}
 use Rattle.reader.proofs.Prefixes.{refused_sized}
 use Rattle.reader.proofs.Scanning.{step_refused}
 
--- The elements of two lists in a row.
-pub all_pass_append : (test : ℕ → Bool) (s t : List ℕ) → all_pass test (s ++ t) ≡ all_pass test s && all_pass test t
-all_pass_append test [] t = refl
-all_pass_append test (c ∷ s) t = rw (all_pass_append test s t, ← and_assoc (test c) (all_pass test s) (all_pass test t))
-
 -- What holds of every element holds of every one in front.
 all_pass_take : (test : ℕ → Bool) (n : ℕ) (s : List ℕ) → all_pass test s ≡ true → all_pass test (take n s) ≡ true
 all_pass_take test zero s h = refl
@@ -51,23 +46,6 @@ module _ (test : ℕ → Bool) (s : List ℕ) (from stop : ℕ) where
   -- Nothing is skipped yet.
   pub skips_none : from ≤ stop → Skips test s from stop from
   skips_none h = record { onward = le_refl from; inside = h; others = rw sub_self }
-
-  -- n bytes more are skipped.
-  pub skips_more : (at n : ℕ) → Skips test s from stop at → at + n ≤ stop → all_pass test (take n (drop at s)) ≡ true → Skips test s from stop (at + n)
-  skips_more at n h l e =
-      let size : at + n - from ≡ at - from + n = omega (arith, h.onward) in
-      let there : from + (at - from) ≡ at = omega (arith, h.onward) in
-      record {
-        onward = omega (arith, h.onward);
-        inside = l;
-        others =
-            rw (size, take-add (at - from) n (drop from s), drop-drop, there, all_pass_append)
-            (and_true (all_pass test (take (at - from) (drop from s))) (all_pass test (take n (drop at s))) h.others e);
-      }
-
-  -- One byte more is skipped.
-  pub skips_one : (at : ℕ) → Skips test s from stop at → at < stop → stop ≤ length s → test (get_or s at 0) ≡ true → Skips test s from stop (at + 1)
-  skips_one at h l m e = skips_more at 1 h (omega arith) (rw (drop_next s at (omega arith), e))
 
 -- A byte that starts no frame fails as the first.
 pub start_fails : (f : Format) (s : List ℕ) (place : ℕ) → place < length s → (get_or s place 0 ≡ start_of f → ⊥) → judge f (drop place s) ≡ refused 1 1

@@ -1,7 +1,6 @@
 -- Behind the public calls: how scan.rt finds a frame, by judging whole slices and not byte by byte. proofs/ shows that what is made of a scan is what
 -- `line` gives.
 use Rattle.std.specs.Prelude.{ℕ, zero, suc, ◌+◌, ◌-◌, ◌≤◌, ◌<◌, max, ◌≡◌, List, [], ◌∷◌, Bool, true, false, not, eqb, length, get_or, take, drop}
-use Rattle.std.specs.Fn.{Shared}
 use Rattle.frame.specs.Checks.{Verdict, cut, refused, frame}
 use Rattle.frame.specs.Framing.{judge, judged_as, judged_at}
 use Rattle.reader.specs.Reader.{ended, if_fails, buffer_at}
@@ -75,10 +74,6 @@ other b c = not (eqb c b)
 
 abbrev pub same : ℕ → ℕ → Bool
 same b c = eqb c b
-
--- A closure answers at each byte what a test does.
-abbrev pub Tests : {F : Type 0} → Shared F (ℕ × Unit {0}) Bool → F → (ℕ → Bool) → Type 0
-Tests g f test = (b : ℕ) (r : Bool) → b < 256 → g.post f (b, tt) r → r ≡ test b
 
 -- The bytes of s from one place to another, which is no further than `stop`, all pass a test.
 pub record Skips (test : ℕ → Bool) (s : List ℕ) (from stop to : ℕ) : Type 0 where

@@ -1,10 +1,9 @@
 // Finding the first frame of a slice by the leftmost rule.
-ghost use Rattle.std.specs.Prelude.{◌≡◌, ℕ, Bool, true, false, ◌+◌, ◌-◌, ◌≤◌, ◌<◌, max, min, length, get_or, take, drop};
+ghost use Rattle.std.specs.Prelude.{◌≡◌, Bool, true, false, ◌+◌, ◌-◌, ◌≤◌, ◌<◌, max, min, length, get_or, take, drop};
 ghost use Rattle.frame.specs.Framing.{judge, judged_at};
 ghost use Rattle.reader.specs.Reader.{judged_to};
-ghost use Rattle.frame.specs.DigitRuns.{all_pass};
-ghost use Rattle.reader.specs.Scan.{start_of, passed_by, judging, scan_from, scan_over, judged_over, scanned, step_to, stopped_at, stop_buffer};
-ghost use Rattle.reader.specs.Scan.{Tests, Skips, Scannable, MayStart, FailsWith, PassesOver, LeavesOut};
+ghost use Rattle.reader.specs.Scan.{start_of, passed_by, judging, scan_from, scan_over, judged_over, scanned, other, step_to, stopped_at, stop_buffer};
+ghost use Rattle.reader.specs.Scan.{Skips, Scannable, MayStart, FailsWith, PassesOver, LeavesOut};
 
 use frame::{Format, Judged, extract, judge, unpack};
 
@@ -31,6 +30,7 @@ pub(crate) struct ScanResult {
 
 // The places of a slice that are to be judged: those from `from` up to `stop`, which is behind them. The bytes up to `reach` were taken before. Where `ended`,
 // the bytes end the segment, and an undecided place fails too.
+// Kept: `ended` is a flag that one line of `scan` asks; a judge passed in its place would be asked at each place of a line that goes on, too.
 #[derive(Clone, Copy)]
 pub(crate) struct Places {
     pub(crate) from: usize,
@@ -95,47 +95,16 @@ fn passed_by(format: Format, judged: usize) -> usize
     }
 }
 
-// Whether the 16 bytes all pass a test. All are looked at, in a loop of fixed length, which is vectorised.
-fn block_passes<F: Fn(u8) -> bool>(block: &[u8; 16], passes: &F) -> bool
-    requires { F.IsAlwaysCallable passes.now }
-    ensures { (test : ℕ → Bool) → Tests F.Fn passes.now test → result ≡ all_pass test block.now }
-{
-    let mut all = true;
-    for b in block {
-        all &= passes(*b);
-    }
-    all
-}
-
-// How many bytes the blocks of 16 at the front of s have that pass a test.
-fn blocks_passing<F: Fn(u8) -> bool>(s: &[u8], passes: &F) -> usize
-    requires { F.IsAlwaysCallable passes.now }
-    ensures in_bounds { result ≤ length s.now }
-    ensures all { (test : ℕ → Bool) → Tests F.Fn passes.now test → all_pass test (take result s.now) ≡ true }
-{
-    let (blocks, _) = s.as_chunks::<16>();
-    let mut count = 0;
-    for block in blocks {
-        if !block_passes(block, passes) {
-            return count;
-        }
-        count += 16;
-    }
-    count
-}
-
-// The first place from `from` on whose byte fails a test, or `stop` where all before it pass.
-fn skip<F: Fn(u8) -> bool>(s: &[u8], from: usize, stop: usize, passes: F) -> usize
+// The first place from `from` on that has b, or `stop` where none before it has. Whole blocks of bytes without one are passed first.
+// Kept: the rest is searched by index, since a search of a slice by `run_len` takes up to 2 % more instructions where starts stand close together.
+fn skip_to(s: &[u8], b: u8, from: usize, stop: usize) -> usize
     requires from_le_stop { from ≤ stop }
     requires stop_in_bounds { stop ≤ length s.now }
-    requires callable { F.IsAlwaysCallable passes }
-    ensures onward { from ≤ result }
-    ensures inside { result ≤ stop }
-    ensures passed { (test : ℕ → Bool) → Tests F.Fn passes test → Skips test s.now from stop result }
+    ensures { Skips (other b) s.now from stop result }
 {
-    let first = from + blocks_passing(&s[from..stop], &passes);
-    for place in first..stop {
-        if !passes(s[place]) {
+    let blocks = octets::block_run_len(&s[from..stop], |c| c != b);
+    for place in from + blocks..stop {
+        if s[place] == b {
             return place;
         }
     }
@@ -161,7 +130,7 @@ fn pass_over(format: Format, s: &[u8], start: u8, from: usize, stop: usize) -> S
     ensures { (ended : Bool) → PassesOver ended format s.now from stop result }
 {
     if s[from] != start {
-        let place = skip(s, from + 1, stop, |b| b != start);
+        let place = skip_to(s, start, from + 1, stop);
         let judged = place - from;
         return Step {
             place,
@@ -169,7 +138,8 @@ fn pass_over(format: Format, s: &[u8], start: u8, from: usize, stop: usize) -> S
             judged,
         };
     }
-    let place = (skip(s, from + 1, stop, |b| b == start) - 1).max(from + 1);
+    let more = octets::run_len(&s[from + 1..stop], |b| b == start);
+    let place = from + more.max(1);
     Step {
         place,
         reach: place + 1,
@@ -340,12 +310,6 @@ pub(crate) fn find_first(
     ensures buf_after { buf.new ≡ stop_buffer (scanned format s.now result).stop buf.old }
 {
     let size = s.len();
-    let all = Places {
-        from: 0,
-        stop: size,
-        reach,
-        ended: false,
-    };
     if size == 0 {
         return ScanResult {
             place: 0,
@@ -355,6 +319,12 @@ pub(crate) fn find_first(
         };
     }
     if s[0] != start_of(format) {
+        let all = Places {
+            from: 0,
+            stop: size,
+            reach,
+            ended: false,
+        };
         let found = find(format, s, all, buf);
         return counted(found, 0, known.min(1));
     }
@@ -369,8 +339,9 @@ pub(crate) fn find_first(
             let first = pass_failed(format, s, 0, size, judged);
             let behind = Places {
                 from: first.place,
+                stop: size,
                 reach: reach.max(first.reach),
-                ..all
+                ended: false,
             };
             let found = find(format, s, behind, buf);
             counted(found, first.judged, known.min(judged))
