@@ -1,7 +1,7 @@
 -- Laws on lists of bytes, and on a payload taken apart byte by byte.
 -- Assumes nothing.
-use Prim.Native.Nat.{ℕ, zero, suc, ◌+◌, ◌≤◌, ◌<◌}
-use mathlib.Core.Path.{◌≡◌, ap, ◌∙◌}
+use Prim.Native.Nat.{ℕ, zero, suc, ◌+◌, ◌*◌, ◌≤◌, ◌<◌}
+use mathlib.Core.Path.{◌≡◌, refl, ap, ◌∙◌}
 use mathlib.Core.List.{List, [], ◌∷◌, ◌++◌}
 use native.Mathlib.Nat.{zero-add, add-zero}
 use native.Mathlib.Omega.{arith}
@@ -9,13 +9,22 @@ use lib.ListN.{length, drop, drop_of_length-le}
 use lib.Seq.{drop-cons}
 use Rattle.frame.specs.Elements.{Bytes}
 use Rattle.message.specs.Number.{byte_at, word_at, long_at, bytes2, bytes4}
-use Rattle.message.proofs.Numbers.{word_bytes_lem, long_bytes}
+use Rattle.std.proofs.lemmas.Nat.{be_bytes_2, be_bytes_4}
 
 -- Every place of a list of bytes has a byte.
 pub byte_at_lem : (p : List ℕ) → Bytes p → (i : ℕ) → byte_at p i < 256
 byte_at_lem [] h i = omega arith
 byte_at_lem (b ∷ p) h zero = h.0
 byte_at_lem (b ∷ p) h (suc i) = byte_at_lem p h.1 i
+
+-- The number of bytes gives them back.
+pub word_bytes_lem : (a b : ℕ) → a < 256 → b < 256 → bytes2 (a * 256 + b) ≡ a ∷ b ∷ []
+word_bytes_lem a b ha hb = be_bytes_2 (a ∷ b ∷ []) (a * 256 + b) refl (byte_at_lem (a ∷ b ∷ []) (ha, (hb, tt))) refl
+
+long_bytes : (a b c d : ℕ) → a < 256 → b < 256 → c < 256 → d < 256
+    → bytes4 (a * 16777216 + b * 65536 + c * 256 + d) ≡ a ∷ b ∷ c ∷ d ∷ []
+long_bytes a b c d ha hb hc hd =
+    be_bytes_4 (a ∷ b ∷ c ∷ d ∷ []) (a * 16777216 + b * 65536 + c * 256 + d) refl (byte_at_lem (a ∷ b ∷ c ∷ d ∷ []) (ha, (hb, (hc, (hd, tt))))) refl
 
 -- A part of a list of bytes is one.
 pub bytes_drop : (n : ℕ) (p : List ℕ) → Bytes p → Bytes (drop n p)

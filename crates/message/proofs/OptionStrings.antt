@@ -2,6 +2,7 @@
 -- Assumes nothing.
 use Rattle.std.specs.Prelude.{Option, Some, None, is_some}
 use Prim.Native.Nat.{ℕ, zero, suc, ◌+◌, ◌-◌, ◌*◌, ◌≤◌}
+use mathlib.Core.Bool.{and-eq-true_iff}
 use mathlib.Core.Path.{◌≡◌, refl, sym, ap, subst, ◌∙◌}
 use mathlib.Core.List.Permᴰ
 use mathlib.Core.List.Permᴰ.{trans}
@@ -18,7 +19,8 @@ use Rattle.message.specs.Options.{no_options, has_option, give_flag, give_retrie
 use Rattle.message.specs.Options.{bad, opted, Expected, option, retry_byte, first_of, second_of, expected_after, given_after, options_from}
 use Rattle.message.specs.Options.{flag_bytes, retry_bytes, word_bytes, option_bytes, option_groups, option_string}
 use Rattle.message.specs.declared.options.Options.{Options}
-use Rattle.message.proofs.Numbers.{both_true, choose, word_bytes_lem}
+use Rattle.message.proofs.Numbers.{choose}
+use Rattle.message.proofs.Lists.{word_bytes_lem}
 use Rattle.message.proofs.OptionGroups.{full, empty, completed, with_empty, filled, one_more_lem, as_long}
 
 -- The group of an option that is not given is empty.
@@ -130,7 +132,7 @@ one_to_eight P a b c d e f g h (suc (suc (suc (suc (suc (suc (suc (suc (suc n)))
 follows : (o : Options) (id : ℕ) → is_option id ≡ true → has_option o id ≡ false → Follows o id (expected_after id) (given_after o id)
 unfolding is_option has_option expected_after given_after give_flag word_or
 follows o id known =
-    let both = both_true (leb 0x01 id) (leb id 0x08) known in
+    let both = (and-eq-true_iff (leb 0x01 id) (leb id 0x08)).0 known in
     let gs : List (List ℕ) = option_groups o in
     one_to_eight
     (λ id. has_option o id ≡ false → Follows o id (expected_after id) (given_after o id))
@@ -157,7 +159,7 @@ at_end given k s = refl
 
 -- What is bad gives no options.
 pub never : {A : Type 0} {o : Options} {end : ℕ} → bad ≡ opted o end → A
-never e = let z : ◌≡◌ {A = ℕ} 0 1 = cc in absurd (omega arith)
+never e = absurd (cc)
 
 -- A string of just FF.
 ended : (given : Options) (at id : ℕ) (s : List ℕ) (o : Options) (end : ℕ) → retry_allowed given.retries ≡ true → id ≡ 0xFF →

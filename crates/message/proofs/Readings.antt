@@ -2,6 +2,7 @@
 -- Assumes nothing.
 use Rattle.std.specs.Prelude.{Option, Some, None}
 use Prim.Native.Nat.{ℕ, ◌-◌, ◌≤◌}
+use mathlib.Core.Bool.{and-eq-true_iff}
 use mathlib.Core.Path.{◌≡◌, refl, sym, subst}
 use mathlib.Core.List.{List, [], ◌∷◌}
 use mathlib.Core.Bool.{Bool, true, false, cond, ◌&&◌}
@@ -30,7 +31,7 @@ use Rattle.message.specs.declared.from_module.Delivery.TheVariants.{Simple as Si
 use Rattle.message.specs.declared.from_module.Outcome.TheVariants.{Failure, Success}
 use Rattle.message.specs.declared.from_module.Notice.{Notice}
 use Rattle.message.specs.declared.from_module.Notice.TheVariants.{Response as IsResponse, Standard, Remote, Setup}
-use Rattle.message.proofs.Numbers.{both_true, choose}
+use Rattle.message.proofs.Numbers.{choose}
 use Rattle.message.proofs.OptionStrings.{Encoded, encoded}
 
 module _ {A B : Type 0} where
@@ -50,7 +51,7 @@ in_range : {A B : Type 0} (n : ℕ) {x r : Meaning A B} → cond (leb 2 n && leb
     (2 ≤ n) × (n ≤ 256) × (x ≡ r)
 in_range n e i =
     let on = read_on (leb 2 n && leb n 256) 7 e i in
-    let both = both_true (leb 2 n) (leb n 256) on.0 in
+    let both = (and-eq-true_iff (leb 2 n) (leb n 256)).0 on.0 in
     (leb-true 2 n both.0, leb-true n 256 both.1, on.1)
 
 -- The options and the data behind an address of `at` bytes.
@@ -101,8 +102,8 @@ module _ (p : List ℕ) {r : Meaning Request Order} (is : IsMessage r) where
   change_way plain command e =
       let fits = read_on (eqb (length p) 15) 7 e is in
       let fixed = read_on (eqb (byte_at p 2) 0x01 && (eqb (long_at p 7) 0 && eqb (long_at p 11) 0)) 11 fits.1 is in
-      let first = both_true (eqb (byte_at p 2) 0x01) (eqb (long_at p 7) 0 && eqb (long_at p 11) 0) fixed.0 in
-      let others = both_true (eqb (long_at p 7) 0) (eqb (long_at p 11) 0) first.1 in
+      let first = (and-eq-true_iff (eqb (byte_at p 2) 0x01) (eqb (long_at p 7) 0 && eqb (long_at p 11) 0)).0 fixed.0 in
+      let others = (and-eq-true_iff (eqb (long_at p 7) 0) (eqb (long_at p 11) 0)).0 first.1 in
       changed
       plain
       command
@@ -219,7 +220,7 @@ module _ (p : List ℕ) {r : Meaning Delivery Notice} (is : IsMessage r) where
   settings_way two place command e =
       choose (eqb (length p) 3 && eqb (byte_at p 2) 0xFF) e
       (λ fails.
-      let both = both_true (eqb (length p) 3) (eqb (byte_at p 2) 0xFF) fails in
+      let both = (and-eq-true_iff (eqb (length p) 3) (eqb (byte_at p 2) 0xFF)).0 fails in
       failed place command (eqb-true (length p) 3 both.0) (eqb-true (byte_at p 2) 0xFF both.1))
       (λ other on.
       let listed = read_on (is_list (drop 2 p)) 17 on is in
@@ -230,7 +231,7 @@ module _ (p : List ℕ) {r : Meaning Delivery Notice} (is : IsMessage r) where
   control_way place command e =
       let long = read_on (eqb (length p) 4) 7 e is in
       let fixed = read_on (eqb (byte_at p 2) 0x11 && leb (byte_at p 3) 1) 11 long.1 is in
-      let both = both_true (eqb (byte_at p 2) 0x11) (leb (byte_at p 3) 1) fixed.0 in
+      let both = (and-eq-true_iff (eqb (byte_at p 2) 0x11) (leb (byte_at p 3) 1)).0 fixed.0 in
       control
       place
       command
@@ -263,7 +264,7 @@ module _ (p : List ℕ) {r : Meaning Delivery Notice} (is : IsMessage r) where
       (λ other on.
       let long = read_on (eqb (length p) 20) 7 on is in
       let fixed = read_on (eqb (byte_at p 2) 0x0F && eqb (byte_at p 3) 0x01) 11 long.1 is in
-      let both = both_true (eqb (byte_at p 2) 0x0F) (eqb (byte_at p 3) 0x01) fixed.0 in
+      let both = (and-eq-true_iff (eqb (byte_at p 2) 0x0F) (eqb (byte_at p 3) 0x01)).0 fixed.0 in
       remote
       plain
       command

@@ -2,6 +2,7 @@
 -- Assumes nothing.
 use Rattle.std.specs.Prelude.{Ok}
 use Prim.Native.Nat.{ℕ, ◌≤◌}
+use mathlib.Core.Bool.{and-eq-true_iff}
 use mathlib.Core.Path.{◌≡◌, refl, sym, ap, ◌∙◌}
 use mathlib.Core.List.{List}
 use mathlib.Core.Bool.{Bool, true, false, cond, true≢false}
@@ -14,7 +15,6 @@ use Rattle.frame.specs.Framing.{layout, in_front}
 use Rattle.frame.specs.Single.{Writing, length_writing, no_writing, writable}
 use Rattle.frame.specs.declared.framing.Framing.{Framing}
 use Rattle.message.specs.Write.{Writes}
-use Rattle.message.proofs.Numbers.{both_true}
 
 -- A write that answers with a length was not refused.
 went_on : (t : Bool) (n : ℕ) {x : Writing} {len : ℕ} → (t ≡ false → n ≡ 0 → ⊥) → length_writing len ≡ cond t x (no_writing n) →
@@ -36,7 +36,7 @@ wrote f refusal p buf len after h =
     let none = went_on (eqb refusal 0) refusal (λ other e. true≢false (sym (eq-eqb refusal 0 e) ∙ other)) h.answers in
     let fits = went_on (writable p) 14 (λ t e. omega arith) none.1 in
     let room = went_on (leb (length out) (length buf)) 13 (λ t e. omega arith) fits.1 in
-    let both = both_true (leb 1 (length p)) (leb (length p) 256) fits.0 in
+    let both = (and-eq-true_iff (leb 1 (length p)) (leb (length p) 256)).0 fits.0 in
     let put : after ≡ in_front out buf = h.leaves ∙ rw (none.0, fits.0, room.0) in
     let count : len ≡ length out = ap (λ (w : Writing). w.len) room.1 in
     record {

@@ -17,6 +17,5 @@ pub mod Text
 pub mod Claims
 pub mod AnyOrder
 pub mod Examples
--- What only functions behind the public calls cite, here and in crates above this one. Nothing in it has to be believed.
-pub mod Put
+-- What only functions behind the public calls cite. Nothing in it has to be believed.
 pub mod Parts

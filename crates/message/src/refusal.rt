@@ -4,7 +4,7 @@ ghost use Rattle.message.specs.Refusal.{number_of};
 
 use thiserror::Error;
 
-// Each refusal has a number in documents 01 and 02.
+// Each refusal has a fixed number.
 #[derive(Clone, Copy, Debug, PartialEq, Eq, Error)]
 pub enum Refusal {
     #[error("the payload is too short, over 256 bytes, or of no length that its layout has")]
@@ -29,7 +29,7 @@ pub enum Refusal {
 }
 
 impl Refusal {
-    // The refusal's number in documents 01 and 02.
+    // The refusal's number.
     pub fn number(self) -> u8
         ensures { result ≡ number_of self }
     {

@@ -1,6 +1,6 @@
--- Laws of `marked_from`, one for each way out of the two functions that call each other; and that marks say the same as a list of identifiers.
+-- Laws of `marked_from`: data that are cut and data that are whole; and that marks say the same as a list of identifiers.
 -- Assumes nothing.
-use mathlib.Core.Path.{◌≡◌, refl, sym, ◌∙◌}
+use mathlib.Core.Path.{◌≡◌, refl, ◌∙◌}
 use mathlib.Core.Bool.{Bool, true, false, not, ◌&&◌, ◌||◌}
 use mathlib.Core.List.{List, [], ◌∷◌}
 use Prim.Native.Nat.{ℕ, zero, suc, ◌-◌, ◌<◌, ◌≤◌}
@@ -9,42 +9,14 @@ use native.Mathlib.Nat.{le_of_suc-le-suc, not-suc-le-zero}
 use lib.Dec.{eqb}
 use lib.ListN.{length, get_or, set, take, drop, replicate, length-drop, length-set, get_or-replicate}
 use lib.Seq.{take_all, get_or-set_same, get_or-set_other}
-use borrow.Author.Tests.{eq-eqb, ne_eqb, eqb-true, eqb-false}
+use borrow.Author.Tests.{eqb-true, eqb-false}
 use Rattle.settings.specs.List.{width_of, among, list_from, is_list}
 use Rattle.settings.specs.Parts.{place_of, marked_from}
 use Rattle.settings.proofs.Table.{place_below, same_place}
 
 module _ (marks : List Bool) where
-  -- The end.
-  pub ended : (s : List ℕ) → length s ≡ 0 → true ≡ marked_from 0 marks s
-  unfolding marked_from
-  ended [] h = refl
-  ended (id ∷ s) h = absurd (omega arith)
-
-  -- An unknown identifier.
-  pub unknown : (s : List ℕ) (w : ℕ) → (length s ≡ 0 → ⊥) → w ≡ width_of (get_or s 0 0) → w ≡ 0 → false ≡ marked_from 0 marks s
-  unfolding marked_from
-  unknown [] w ne e z = absurd (ne refl)
-  unknown (id ∷ s) w ne e z = simp (eq-eqb _ _ (sym e ∙ z))
-
-  -- A known one that came before.
-  pub repeated :
-      (s : List ℕ) (w p : ℕ) → (length s ≡ 0 → ⊥) → w ≡ width_of (get_or s 0 0) → (w ≡ 0 → ⊥) → p ≡ place_of (get_or s 0 0) → get_or marks p false ≡ true
-      → false ≡ marked_from 0 marks s
-  unfolding marked_from
-  repeated [] w p ne e nz at h = absurd (ne refl)
-  repeated (id ∷ s) w p ne e nz at h = simp (← e, ← at, ne_eqb _ _ nz, h)
-
   all_of : (s : List ℕ) (k : ℕ) → take (length s - k) (drop k s) ≡ drop k s
   all_of s k = take_all (length s - k) (drop k s) (simp length-drop (omega arith))
-
-  -- A known one that did not: its data are expected.
-  pub fresh :
-      (s : List ℕ) (w p : ℕ) → (length s ≡ 0 → ⊥) → w ≡ width_of (get_or s 0 0) → (w ≡ 0 → ⊥) → p ≡ place_of (get_or s 0 0) → get_or marks p false ≡ false
-      → marked_from w (set marks p true) (take (length s - 1) (drop 1 s)) ≡ marked_from 0 marks s
-  unfolding marked_from
-  fresh [] w p ne e nz at h = absurd (ne refl)
-  fresh (id ∷ s) w p ne e nz at h = rw (all_of (id ∷ s) 1) (simp (← e, ← at, ne_eqb _ _ nz, h))
 
   -- Data cut at the end.
   pub cut : (w : ℕ) (s : List ℕ) → length s < w → false ≡ marked_from w marks s

@@ -43,11 +43,6 @@ pub width_at : (id : ℕ) → id < 256 → get_or table (place_of id) 0 ≡ widt
 unfolding place_of width_of
 width_at id h = eqb-true _ _ (at_each (λ k. eqb (get_or table (place_of k) 0) (width_of k)) 256 refl id h)
 
--- And a width is small.
-pub width_small : (id : ℕ) → id < 256 → width_of id < 256
-unfolding width_of
-width_small id h = ltb-true _ _ (at_each (λ k. ltb (width_of k) 256) 256 refl id h)
-
 -- The known identifier that has a place: so they have different places.
 abbrev id_at : ℕ → ℕ
 id_at place = cond (eqb place 13) 0xFF place

@@ -1,7 +1,7 @@
 -- Laws of a walk over a list, one for each way out of a turn.
 -- Assumes nothing.
 use mathlib.Core.Path.{◌≡◌, refl, sym, ◌∙◌}
-use mathlib.Core.Bool.{true, false, not, and-eq-true_iff}
+use mathlib.Core.Bool.{true, not, and-eq-true_iff}
 use mathlib.Core.List.{List, [], ◌∷◌}
 use Prim.Native.Nat.{ℕ, zero, suc, ◌+◌, ◌-◌, ◌<◌, ◌≤◌}
 use native.Mathlib.Omega.{arith}
@@ -20,7 +20,7 @@ use Rattle.settings.specs.declared.walk.Setting.{Setting}
 data_whole : (w : ℕ) (seen s : List ℕ) → list_from w seen s ≡ true → (w ≤ length s) × (list_from 0 seen (drop w s) ≡ true)
 unfolding list_from
 data_whole zero seen s e = (omega arith, e)
-data_whole (suc w) seen [] e = absurd (let z : ◌≡◌ {A = ℕ} 0 1 = cc in omega arith)
+data_whole (suc w) seen [] e = absurd (cc)
 data_whole (suc w) seen (b ∷ s) e = let h = data_whole w seen s e in (omega arith, h.1)
 
 -- Bytes that are passed over.
@@ -50,10 +50,7 @@ pub record Walking (s : List ℕ) (index at passed : ℕ) : Type 0 where
   pub whole : Whole (drop at s)
   pub same : (left : ℕ) → passed + left ≡ index → finding s index ≡ nth (settings_from 0 at (drop at s)) left
 
--- Bytes that are no list are refused; a list is walked from its start.
-pub no_list : (s : List ℕ) (index : ℕ) → is_list s ≡ false → nothing 17 ≡ finding s index
-no_list s index e = rw e
-
+-- A list is walked from its start.
 pub start : (s : List ℕ) (index : ℕ) → is_list s ≡ true → Walking s index 0 0
 unfolding is_list settings_of
 start s index e = record { inside = omega arith; whole = ([], e); same = λ left p. let same : left ≡ index = omega arith in rw (e, same) }

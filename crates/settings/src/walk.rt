@@ -19,6 +19,7 @@ pub struct Setting {
 pub struct NotAList;
 
 // The setting whose identifier stands at index `at` of a list; none at the list's end.
+#[tactic(auto, using(crate::proofs::WalkLaws::ended, crate::proofs::WalkLaws::split))]
 fn setting_from(list: &[u8], at: usize) -> Option<Setting>
     ensures { result ≡ slice_get (settings_from 0 at (drop at list.now)) 0 }
 {
@@ -31,6 +32,7 @@ fn setting_from(list: &[u8], at: usize) -> Option<Setting>
 }
 
 // The setting with this index, counted from 0, of the settings of a list in their order; none where the index is past the last.
+#[tactic(auto, using(crate::proofs::WalkLaws::first_is))]
 pub fn setting_at(list: &[u8], index: usize) -> Result<Option<Setting>, NotAList>
     ensures { finding_of result ≡ finding list.now index }
 {

@@ -1,7 +1,7 @@
 -- `settings::walk::setting_at` meets its contract.
 -- Assumes nothing.
-use Rattle.std.proofs.Common.{sym, arith, rules, ◌∙◌, ◌≡◌}
-use Rattle.settings.proofs.WalkLaws.{start, none_is, first_is, onward}
+use Rattle.std.proofs.Common.{sym, rules, ◌∙◌}
+use Rattle.settings.proofs.WalkLaws.{start, none_is, onward}
 use Rattle.settings.proofs.walk.setting_at.Goals as goal
 
 pub loop-init : goal.loop-init
@@ -15,9 +15,3 @@ loop-preserved c = onward _ _ _ _ _ c.loop.invariant (sym c.in-Some.is ∙ c.set
 
 pub overflow_add-at : goal.overflow_add-at
 overflow_add-at c = search (rules, (loop-preserved c).inside)
-
-pub returns : goal.returns
-returns c =
-    let same : c.loop.counter ≡ c.args.index = omega arith in
-    let walking = rw same at c.loop.invariant in
-    rw c.setting_from-2.ensures (first_is _ _ _ walking)
