@@ -8,41 +8,34 @@ ghost use Rattle.listing.specs.Listing.{values_of};
 use frame::{Framing, Refusal};
 use listing::{CHUNK_ROOM, Lines, list_chunk, list_quiet, list_total};
 use reader::Reader;
-use std::io::Read;
-
-// The number of standard output.
-const STDOUT_FILENO: i32 = 1;
+use std::io::{Read, Write};
 
 // How many reads are made at most, since every loop ends. At one byte a read, at 115,200 baud, they last for 190 years; behind them the segment ends as at
 // the input's end.
 const READS: u64 = 0x400000000000;
 
 // Writes the lines of an answer, which are in the front of out, and gives their noise: none where the answer is refused, or not all was written.
-fn write_lines(answer: Result<Lines, Refusal>, out: &[u8]) -> Option<u64>
+fn write_lines<W: Write>(answer: Result<Lines, Refusal>, out: &[u8], output: &mut W) -> Option<u64>
     requires { (values_of answer).len ≤ length out.now }
     ensures { IfSome result (λ noise. noise ≡ (values_of answer).noise) }
 {
     let lines = answer.ok()?;
-    let written = io::write_all(STDOUT_FILENO, &out[..lines.len]);
-    written.then_some(lines.noise as u64)
+    output.write_all(&out[..lines.len]).ok()?;
+    Some(lines.noise as u64)
 }
 
 // The input has ended after `noise` bytes of noise: lists what the reader still holds, and the total.
-fn finish(reader: Reader, noise: u64, out: &mut [u8])
+fn finish<W: Write>(reader: Reader, noise: u64, out: &mut [u8], output: &mut W) -> Option<()>
     requires { noise ≤ 0x8000000000000000 }
 {
     let listed = list_quiet(reader, out);
-    let Some(more) = write_lines(listed.answer, out) else {
-        return;
-    };
-    if let Ok(len) = list_total(noise + more, out) {
-        io::write_all(STDOUT_FILENO, &out[..len]);
-    }
+    let noise = noise + write_lines(listed.answer, out, output)?;
+    let len = list_total(noise, out).ok()?;
+    output.write_all(&out[..len]).ok()
 }
 
-// Lists each chunk as it comes, so that on a live line a frame shows at once. A failed read ends the input; an output that takes no more ends the program.
-fn main(rt: HostRuntime) {
-    let mut input = rt.stdin();
+// Lists each chunk as it comes, so that on a live line a frame shows at once. A failed read ends the input.
+fn list_input<R: Read, W: Write>(input: &mut R, output: &mut W) -> Option<()> {
     let mut chunk = io::large_buffer();
     let mut out = [0u8; CHUNK_ROOM];
     let mut reader = Reader::new(Framing::Ascii);
@@ -53,11 +46,15 @@ fn main(rt: HostRuntime) {
             break;
         }
         let listed = list_chunk(reader, &chunk[..n], &mut out);
-        let Some(more) = write_lines(listed.answer, &out) else {
-            return;
-        };
-        noise += more;
+        noise += write_lines(listed.answer, &out, output)?;
         reader = listed.reader;
     }
-    finish(reader, noise, &mut out);
+    finish(reader, noise, &mut out, output)
+}
+
+// An output that takes no more ends the program.
+fn main(rt: HostRuntime) {
+    let mut input = rt.stdin();
+    let mut output = rt.stdout();
+    let _ = list_input(&mut input, &mut output);
 }
