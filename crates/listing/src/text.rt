@@ -62,7 +62,7 @@ impl<'a> Listing<'a> {
         ensures { Adds self.old (hex bytes.now) 0 0 self.new }
     {
         let out = &mut *self.out;
-        frame::encode_hex(out, self.lines.len, bytes);
+        frame::encode_hex(bytes, &mut out[self.lines.len..]);
         self.lines.len += 2 * bytes.len();
     }
 
