@@ -1,5 +1,5 @@
 // Finding the first frame of a slice by the leftmost rule.
-ghost use Rattle.std.specs.Prelude.{◌≡◌, Bool, true, false, ◌+◌, ◌-◌, ◌≤◌, ◌<◌, max, min, length, get_or, take, drop};
+ghost use Rattle.std.specs.Prelude.{◌≡◌, Bool, true, false, ◌+◌, ◌-◌, ◌*◌, ◌≤◌, ◌<◌, max, min, length, get_or, take, drop};
 ghost use Rattle.frame.specs.Framing.{judge, judged_at};
 ghost use Rattle.reader.specs.Reader.{judged_to};
 ghost use Rattle.reader.specs.Scan.{start_of, passed_by, judging, scan_from, scan_over, judged_over, scanned, other, step_to, stopped_at, stop_buffer};
@@ -127,7 +127,9 @@ fn pass_over(format: Format, s: &[u8], start: u8, from: usize, stop: usize) -> S
     requires stop_in_bounds { stop ≤ length s.now }
     requires s_len_bound { length s.now ≤ 65536 }
     requires may_start { MayStart s.now start from false }
-    ensures { (ended : Bool) → PassesOver ended format s.now from stop result }
+    ensures in_bounds { result.reach ≤ length s.now }
+    ensures few { result.judged ≤ 2 * length s.now }
+    ensures passes { (ended : Bool) → PassesOver ended format s.now from stop result }
 {
     if s[from] != start {
         let place = skip_to(s, start, from + 1, stop);
@@ -295,6 +297,7 @@ pub(crate) fn find_more(
 
 // As `find_more`, over all places of a segment that goes on. On a clean line each frame stands at the front, so that place is judged before the loop, whose
 // set-up then costs nothing, and judged and handed out at once.
+// Kept: one function for the front and what follows it; with the judging in a function of its own a binary line takes 1 % more instructions.
 pub(crate) fn find_first(
     format: Format,
     s: &[u8],

@@ -15,8 +15,8 @@ use Rattle.std.specs.List.{prefix_len}
 use Rattle.reader.proofs.Runs.{run_skips}
 use Rattle.reader.proofs.scan.pass_over.Goals as goal
 
-pub returns-then-s-from : goal.returns-then-s-from
-returns-then-s-from c =
+pub returns-then-s-from-clause-passes : goal.returns-then-s-from-clause-passes
+returns-then-s-from-clause-passes c =
     λ ended.
     let h : Skips (other (start_of c.args.format)) c.args.s.now (c.args.from + 1) c.args.stop c.skip_to-place.result =
     rw c.requires.start_value at c.skip_to-place.ensures in
@@ -28,8 +28,8 @@ returns-then-s-from c =
       counts = count_skips ended c.args.format c.args.s.now c.args.stop c.requires.stop_in_bounds c.args.from c.skip_to-place.result c.requires.from_lt_stop none h;
     }
 
-pub returns : goal.returns
-returns c =
+pub returns-clause-passes : goal.returns-clause-passes
+returns-clause-passes c =
     λ ended.
     let more : c.run_len-more.result ≡ prefix_len (same (start_of c.args.format)) (take (c.args.stop - (c.args.from + 1)) (drop (c.args.from + 1) c.args.s.now)) =
     c.run_len-more.ensures.value (same c.args.start) (λ b r l h. search rules)

@@ -15,7 +15,7 @@ use Rattle.reader.proofs.scan.scan.Goals as goal
 
 pub then-at-requires : goal.then-at-requires
 then-at-requires c =
-    come_few c.args.format c.args.places c.args.s.now c.requires c.loop-at.at c.loop-at.invariant c.pass_over.result (c.pass_over.ensures c.args.places.ended)
+    come_few c.args.format c.args.places c.args.s.now c.requires c.loop-at.at c.loop-at.invariant c.pass_over.result (c.pass_over.ensures.passes c.args.places.ended)
 
 pub then-at-requires-in-Failed : goal.then-at-requires-in-Failed
 then-at-requires-in-Failed c =
