@@ -1,9 +1,10 @@
 -- Laws on eight characters in one number, each in its own byte, and on the count of digits among them.
 -- Assumes nothing.
-use Rattle.std.proofs.Common.{◌≡◌, ℕ, zero, suc, ◌+◌, ◌-◌, ◌*◌, ◌/◌, ◌%◌, ◌<◌, ◌≤◌, min, Bool, true, false, cond, ◌&&◌, eqb, ◌⊎◌, List, [], ◌∷◌, length, get_or, take, drop, sym, refl, ap, ◌∙◌, ap₂, inl, inr, mul-le-mul, eq-or-lt_of_le, one-mul, zero-add, zero-mul, arith, length-drop, take-append-drop, length-take-le, eqb-true}
+use Rattle.std.proofs.Common.{◌≡◌, ℕ, zero, suc, ◌+◌, ◌-◌, ◌*◌, ◌/◌, ◌%◌, ◌<◌, ◌≤◌, min, Bool, true, false, cond, ◌&&◌, eqb, ◌⊎◌, List, [], ◌∷◌, length, get_or, take, drop, sym, refl, ap, ◌∙◌, ap₂, inl, inr, mul-le-mul, eq-or-lt_of_le, one-mul, zero-add, zero-mul, arith, take-append-drop, take_all, eqb-true}
 use native.Mathlib.Nat.{sub-zero, suc-sub-suc}
 use mathlib.Core.Bool.{false≢true}
 use lib.Bits.{bit_and, bit_or, bit_xor, and_block, or_block, xor_block, and_lt, or_lt, xor_lt, and_le_r}
+use Rattle.std.specs.Int.{from_le_bytes, w64}
 use lib.Count.{count_trailing_zeros, under, trailing_le}
 use Rattle.frame.specs.Digit.{is_digit}
 use Rattle.frame.specs.Elements.{Bytes}
@@ -67,11 +68,11 @@ run_two s =
     by_size x y r full part (inl e) = let one : x / 8 ≡ 1 = omega arith in rw (one, one-mul) (omega (arith, full e))
     by_size x y r full part (inr l) = let none : x / 8 ≡ 0 = omega arith in rw (none, zero-mul) (omega (arith, part l))
 
--- The first of those counts is at most 8, and so is what the second adds.
-pub run_two_small : (s : List ℕ) (at x y : ℕ) → x ≡ digit_run 8 (drop at s) → y ≡ digit_run 8 (drop (at + 8) s) → (x ≤ 8) × (x / 8 * y ≤ 8)
-run_two_small s at x y e k =
-    let first : x ≤ 8 = omega (arith, (counted 8 (drop at s)).room) in
-    let second : y ≤ 8 = omega (arith, (counted 8 (drop (at + 8) s)).room) in
+-- The first of two counts is at most 8, and so is what the second adds.
+pub run_two_small : (s t : List ℕ) (x y : ℕ) → x ≡ digit_run 8 s → y ≡ digit_run 8 t → (x ≤ 8) × (x / 8 * y ≤ 8)
+run_two_small s t x y e k =
+    let first : x ≤ 8 = omega (arith, (counted 8 s).room) in
+    let second : y ≤ 8 = omega (arith, (counted 8 t).room) in
     let one : x / 8 ≤ 1 = omega arith in
     (first, mul-le-mul one second)
 
@@ -80,22 +81,20 @@ little_endian_next :
     (n i j : ℕ) (s : List ℕ) → i + 1 ≡ j → i < length s → little_endian (take (suc n) (drop i s)) ≡ get_or s i 0 + 256 * little_endian (take n (drop j s))
 little_endian_next n i j s e h = rw (drop_next s i h, e)
 
--- Eight characters, each counting 256 times as much as the one before.
-pub word_little_endian : (s : List ℕ) (at : ℕ) → at + 8 ≤ length s
-    → get_or s at 0 + get_or s (at + 1) 0 * 0x100 + get_or s (at + 2) 0 * 0x10000 + get_or s (at + 3) 0 * 0x1000000 + get_or s (at + 4) 0 * 0x100000000
-    + get_or s (at + 5) 0 * 0x10000000000 + get_or s (at + 6) 0 * 0x1000000000000 + get_or s (at + 7) 0 * 0x100000000000000
-    ≡ little_endian (take 8 (drop at s))
-word_little_endian s at h =
+-- The library's word for the number of eight bytes.
+pub word_little_endian : (s : List ℕ) → length s ≡ 8 → from_le_bytes w64 s ≡ little_endian s
+word_little_endian s h =
     omega (
       arith,
-      little_endian_next 7 at (at + 1) s (omega arith) (omega arith),
-      little_endian_next 6 (at + 1) (at + 2) s (omega arith) (omega arith),
-      little_endian_next 5 (at + 2) (at + 3) s (omega arith) (omega arith),
-      little_endian_next 4 (at + 3) (at + 4) s (omega arith) (omega arith),
-      little_endian_next 3 (at + 4) (at + 5) s (omega arith) (omega arith),
-      little_endian_next 2 (at + 5) (at + 6) s (omega arith) (omega arith),
-      little_endian_next 1 (at + 6) (at + 7) s (omega arith) (omega arith),
-      little_endian_next 0 (at + 7) (at + 8) s (omega arith) (omega arith),
+      little_endian_next 7 0 1 s refl (omega arith),
+      little_endian_next 6 1 2 s refl (omega arith),
+      little_endian_next 5 2 3 s refl (omega arith),
+      little_endian_next 4 3 4 s refl (omega arith),
+      little_endian_next 3 4 5 s refl (omega arith),
+      little_endian_next 2 5 6 s refl (omega arith),
+      little_endian_next 1 6 7 s refl (omega arith),
+      little_endian_next 0 7 8 s refl (omega arith),
+      ap little_endian (take_all 8 s (omega arith)),
     )
 
 -- Where each element is a byte, all are.
@@ -272,13 +271,10 @@ others_run n s h e =
     rw (← e) (ap (λ (w : ℕ). count_trailing_zeros (bits (length s)) w / 8) ((others_lanes s h).is ∙ lanes_same other mark other_mark s h) ∙ zeros_run s)
 
 -- What the program computes of the 8 characters from `at` on.
-pub word_digits : (s : List ℕ) (at w : ℕ) → at + 8 ≤ length s → Bytes s → w ≡ little_endian (take 8 (drop at s))
-    → count_trailing_zeros 64 (others (λ (m : ℕ). repeated m 8) w) / 8 ≡ digit_run 8 (drop at s)
-word_digits s at w h b e =
-    let eight : length (take 8 (drop at s)) ≡ 8 = length-take-le 8 (drop at s) (simp length-drop (omega arith)) in
-    ap (λ (v : ℕ). count_trailing_zeros 64 (others (λ (m : ℕ). repeated m 8) v) / 8) e
-    ∙ others_run 8 (take 8 (drop at s)) (bytes_from 8 at s b) eight
-    ∙ run_front 8 (drop at s)
+pub word_digits : (s : List ℕ) (w : ℕ) → length s ≡ 8 → Bytes s → w ≡ little_endian s
+    → count_trailing_zeros 64 (others (λ (m : ℕ). repeated m 8) w) / 8 ≡ digit_run 8 s
+word_digits s w h b e =
+    ap (λ (v : ℕ). count_trailing_zeros 64 (others (λ (m : ℕ). repeated m 8) v) / 8) e ∙ others_run 8 s b h
 
 -- That is at most 8.
 pub word_digits_small : (w : ℕ) → count_trailing_zeros 64 (others (λ (m : ℕ). repeated m 8) w) / 8 ≤ 8

@@ -4,6 +4,7 @@ use Rattle.std.proofs.Common.{◌≡◌, ℕ, zero, suc, ◌+◌, ◌*◌, ◌/�
 use native.Mathlib.Nat.{div-div-eq-div-mul}
 use lib.Arith.{bin_ind}
 use lib.Bits.{bit_xor, differ, xor_step, xor_comm, xor_shr, xor_mod, xor_zero_r}
+use Rattle.std.specs.List.{fold}
 use Rattle.frame.specs.Binary.{xor_from, xor_of}
 use Rattle.frame.specs.DigitRuns.{little_endian, bytes_xor}
 use Rattle.frame.proofs.Lists.{drop_next}
@@ -119,3 +120,8 @@ xor_folded w =
     let half : ℕ = bit_xor w (w / 0x100000000) in
     let quarter : ℕ = bit_xor half (half / 0x10000) in
     sym (bytes_half 4 w ∙ bytes_half 2 half ∙ bytes_half 1 quarter ∙ xor_zero_r (bit_xor quarter (quarter / 0x100) % 256))
+
+-- The XOR in the library's word.
+pub xor_fold : (a : ℕ) (s : List ℕ) → fold (λ (x b : ℕ). bit_xor x b) a s ≡ xor_from a s
+xor_fold a [] = refl
+xor_fold a (b ∷ s) = xor_fold (bit_xor a b) s

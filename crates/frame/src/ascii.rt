@@ -11,7 +11,7 @@ ghost use Rattle.frame.specs.DigitRuns.{Digits, digit_run};
 ghost use Rattle.frame.specs.Judged.{decoded, unhexed, verdict_of};
 ghost use Rattle.frame.specs.Parts.{Short};
 
-use crate::framing::{Ending, Judged, judge_complete, judge_ending};
+use crate::framing::{Ending, Judged, judge_ending};
 use crate::refusal::Refusal;
 use crate::{digit, hex};
 
@@ -19,166 +19,131 @@ use crate::{digit, hex};
 fn ends_digits(ending: Ending, c: u8) -> bool
     ensures { result ≡ ends_digits ending c }
 {
-    if c == 0x0D {
-        return true;
-    }
     match ending {
-        Ending::CrLf => false,
-        Ending::Any => c == 0x0A,
+        Ending::CrLf => c == 0x0D,
+        Ending::Any => c == 0x0D || c == 0x0A,
     }
 }
 
-// Judges the sum of the bytes that the `count` digits behind the colon stand for; under the ending CR LF also the character behind the one that ends them.
-fn judge_end(ending: Ending, s: &[u8], count: usize, total: u32) -> Judged
-    requires count_value { count ≡ digit_run 515 (drop 1 s.now) }
-    requires le_count { 4 ≤ count }
-    requires count_bound { count ≤ 514 }
-    requires count_value_2 { count % 2 ≡ 0 }
-    requires count_in_bounds { 1 + count < length s.now }
-    requires count_value_3 { ends_digits ending (slice_index s.now (1 + count)) ≡ true }
-    requires total_value { total ≡ sum_of (decoded (take count (drop 1 s.now))) }
-    ensures { behind 1 (run (hex_digits 514 (line_ending ending)) (drop 1 s.now)) ≡ verdict_of (Ascii ending) s.now result }
-{
-    let end = 1 + count;
-    let right = total % 256 == 0;
-    let len = count / 2 - 1;
-    match ending {
-        Ending::CrLf => judge_ending(s, end, right, 0x0A, len),
-        Ending::Any => judge_complete(end, right, len),
-    }
+// The characters at the front of which a frame is judged, with the count of the digits behind the first of them, up to one more than the most that a frame has.
+#[derive(Clone, Copy)]
+struct Line<'a> {
+    s: &'a [u8],
+    count: usize,
+    ghost counted: { count ≡ digit_run 515 (drop 1 s.now) },
 }
 
-// Judges the sum of the bytes that the `count` digits behind the colon stand for, as `judge_end` does. It is called from two places, so that it stays a
-// function, and the tests before it are inlined where they are made.
-fn judge_sum(ending: Ending, s: &[u8], count: usize) -> Judged
-    requires count_value { count ≡ digit_run 515 (drop 1 s.now) }
-    requires le_count { 4 ≤ count }
-    requires count_bound { count ≤ 514 }
-    requires count_value_2 { count % 2 ≡ 0 }
-    requires count_in_bounds { 1 + count < length s.now }
-    requires count_value_3 { ends_digits ending (slice_index s.now (1 + count)) ≡ true }
-    ensures { behind 1 (run (hex_digits 514 (line_ending ending)) (drop 1 s.now)) ≡ verdict_of (Ascii ending) s.now result }
-{
-    judge_end(ending, s, count, hex::pair_sum(&s[1..1 + count]))
-}
+impl<'a> Line<'a> {
+    fn new(s: &'a [u8]) -> Line<'a>
+        ensures { result.s.now ≡ s.now }
+    {
+        let count = match s.split_first() {
+            Some((_, rest)) => digit::digit_run(rest),
+            None => 0,
+        };
+        Line { s, count }
+    }
 
-// Judges what stands behind the colon, where `count` digits do.
-fn judge_digits(ending: Ending, s: &[u8], count: usize) -> Judged
-    requires in_bounds { 1 ≤ length s.now }
-    requires count_value { count ≡ digit_run 515 (drop 1 s.now) }
-    ensures { behind 1 (run (hex_digits 514 (line_ending ending)) (drop 1 s.now)) ≡ verdict_of (Ascii ending) s.now result }
-{
-    let n = s.len();
-    let end = 1 + count;
-    if 514 < count {
-        return Judged::Failed {
-            refusal: Refusal::Length,
-            judged: 516,
-        };
+    // Judges the sum of the bytes that the `count` digits behind the colon stand for; under the ending CR LF also the character behind the one that ends them.
+    fn judge_end(self, ending: Ending, total: u32) -> Judged
+        requires le_count { 4 ≤ self.count }
+        requires count_bound { self.count ≤ 514 }
+        requires count_value_2 { self.count % 2 ≡ 0 }
+        requires count_in_bounds { 1 + self.count < length self.s.now }
+        requires count_value_3 { ends_digits ending (slice_index self.s.now (1 + self.count)) ≡ true }
+        requires total_value { total ≡ sum_of (decoded (take self.count (drop 1 self.s.now))) }
+        ensures { behind 1 (run (hex_digits 514 (line_ending ending)) (drop 1 self.entry.s.now)) ≡ verdict_of (Ascii ending) self.entry.s.now result }
+    {
+        let Line { s, count } = self;
+        let end = 1 + count;
+        let len = count / 2 - 1;
+        if total % 256 != 0 {
+            return Judged::failed(Refusal::Checksum, end + 1);
+        }
+        match ending {
+            Ending::CrLf => judge_ending(s, end, 0x0A, len),
+            Ending::Any => Judged::Frame { used: end + 1, len },
+        }
     }
-    if n <= end {
-        return Judged::Undecided;
-    }
-    if !ends_digits(ending, s[end]) {
-        return Judged::Failed {
-            refusal: Refusal::Character,
-            judged: end + 1,
-        };
-    }
-    if count < 4 {
-        return Judged::Failed {
-            refusal: Refusal::Length,
-            judged: end + 1,
-        };
-    }
-    if count % 2 != 0 {
-        return Judged::Failed {
-            refusal: Refusal::Length,
-            judged: end + 1,
-        };
-    }
-    match ending {
-        Ending::CrLf => judge_sum(Ending::CrLf, s, count),
-        Ending::Any => judge_sum(Ending::Any, s, count),
-    }
-}
 
-// How many digits stand behind the first character, up to one more than the most that a frame has.
-fn run_behind(s: &[u8]) -> usize
-    ensures { result ≡ digit_run 515 (drop 1 s.now) }
-{
-    if s.len() == 0 {
-        return 0;
+    // Judges what stands behind the colon, where `count` digits do.
+    fn judge_digits(self, ending: Ending) -> Judged
+        requires in_bounds { 1 ≤ length self.s.now }
+        ensures { behind 1 (run (hex_digits 514 (line_ending ending)) (drop 1 self.entry.s.now)) ≡ verdict_of (Ascii ending) self.entry.s.now result }
+    {
+        let Line { s, count } = self;
+        let n = s.len();
+        let end = 1 + count;
+        if 514 < count {
+            return Judged::failed(Refusal::Length, 516);
+        }
+        if n <= end {
+            return Judged::Undecided;
+        }
+        if !ends_digits(ending, s[end]) {
+            return Judged::failed(Refusal::Character, end + 1);
+        }
+        if count < 4 || count % 2 != 0 {
+            return Judged::failed(Refusal::Length, end + 1);
+        }
+        self.judge_end(ending, hex::pair_sum(&s[1..end]))
     }
-    digit::digit_run(&s[1..])
-}
 
-// Judges the front of s, where `count` digits stand behind the first character.
-fn judge_run(ending: Ending, s: &[u8], count: usize) -> Judged
-    requires { count ≡ digit_run 515 (drop 1 s.now) }
-    ensures { judge (Ascii ending) s.now ≡ verdict_of (Ascii ending) s.now result }
-{
-    if s.len() == 0 {
-        return Judged::Undecided;
+    // Judges the front of s, where `count` digits stand behind the first character.
+    fn judge(self, ending: Ending) -> Judged
+        ensures { judge (Ascii ending) self.entry.s.now ≡ verdict_of (Ascii ending) self.entry.s.now result }
+    {
+        let Line { s, count } = self;
+        if s.is_empty() {
+            return Judged::Undecided;
+        }
+        if s[0] != 0x3A {
+            return Judged::failed(Refusal::Start, 1);
+        }
+        self.judge_digits(ending)
     }
-    if s[0] != 0x3A {
-        return Judged::Failed {
-            refusal: Refusal::Start,
-            judged: 1,
-        };
+
+    // Whether s begins with a colon, has room for an even count of digits, for a payload of 16 to 31 bytes and its checksum, and a CR behind them, which ends
+    // digits under either ending. A frame that ends with LF alone is judged like a longer one.
+    fn is_short(self) -> bool
+        ensures { (result ≡ true) → (ending : Ending) → Short ending self.entry.s.now self.entry.count }
+    {
+        let Line { s, count } = self;
+        34 <= count
+            && count <= 64
+            && count % 2 == 0
+            && 1 + count < s.len()
+            && s[0] == 0x3A
+            && s[1 + count] == 0x0D
     }
-    judge_digits(ending, s, count)
+
+    // Judges a short frame, and puts its payload into the front of buf. It is decoded once, before its sum is known: the first 16 bytes and the last
+    // 16, which may overlap them; the very last is the checksum.
+    fn extract_short(self, ending: Ending, buf: &mut [u8]) -> Judged
+        requires short { Short ending self.s.now self.count }
+        requires in_bounds { 256 ≤ length buf.old }
+        ensures s_value { judge (Ascii ending) self.entry.s.now ≡ verdict_of (Ascii ending) self.entry.s.now result }
+        ensures buf_after { buf.new ≡ in_front (payload_in (judge (Ascii ending) self.entry.s.now)) buf.old }
+    {
+        let Line { s, count } = self;
+        let n = count / 2;
+        let end = 1 + count;
+        let two = hex::decode_two(&s[1..end], count - 32);
+        let whole = &two[..];
+        let verdict = self.judge_end(ending, hex::sum_of_two(whole, 48 - n));
+        if let Judged::Frame { used: _, len: _ } = verdict {
+            octets::copy(&whole[..16], buf);
+            octets::copy(&whole[16..31], &mut buf[n - 16..]);
+        }
+        verdict
+    }
 }
 
 // Judges the front of s.
 pub(crate) fn judge(ending: Ending, s: &[u8]) -> Judged
     ensures { judge (Ascii ending) s.now ≡ verdict_of (Ascii ending) s.now result }
 {
-    judge_run(ending, s, run_behind(s))
-}
-
-// Whether s begins with a colon, has room for an even count of digits, for a payload of 16 to 31 bytes and its checksum, and a CR behind them, which ends
-// digits under either ending. A frame that ends with LF alone is judged like a longer one.
-fn is_short(s: &[u8], count: usize) -> bool
-    ensures { (result ≡ true) → (ending : Ending) → Short ending s.now count }
-{
-    if count < 34 {
-        return false;
-    }
-    if 64 < count {
-        return false;
-    }
-    if count % 2 != 0 {
-        return false;
-    }
-    if s.len() <= 1 + count {
-        return false;
-    }
-    if s[0] != 0x3A {
-        return false;
-    }
-    s[1 + count] == 0x0D
-}
-
-// Judges a short frame, and puts its payload into the front of buf. It is decoded once, before its sum is known: the first 16 bytes and the last
-// 16, which may overlap them; the very last is the checksum.
-fn extract_short(ending: Ending, s: &[u8], count: usize, buf: &mut [u8]) -> Judged
-    requires count_value { count ≡ digit_run 515 (drop 1 s.now) }
-    requires short { Short ending s.now count }
-    requires in_bounds { 256 ≤ length buf.old }
-    ensures s_value { judge (Ascii ending) s.now ≡ verdict_of (Ascii ending) s.now result }
-    ensures buf_after { buf.new ≡ in_front (payload_in (judge (Ascii ending) s.now)) buf.old }
-{
-    let n = count / 2;
-    let end = 1 + count;
-    let two = hex::decode_two(&s[1..end], count - 32);
-    let whole = &two[..];
-    let verdict = judge_end(ending, s, count, hex::sum_of_two(whole, 48 - n));
-    if let Judged::Frame { used: _, len: _ } = verdict {
-        octets::copy(&whole[..16], buf);
-        octets::copy(&whole[16..31], &mut buf[n - 16..]);
-    }
-    verdict
+    Line::new(s).judge(ending)
 }
 
 // Puts the bytes that the `len` pairs of characters behind the first stand for into the front of buf.
@@ -197,11 +162,11 @@ pub(crate) fn extract(ending: Ending, s: &[u8], buf: &mut [u8]) -> Judged
     ensures s_value { judge (Ascii ending) s.now ≡ verdict_of (Ascii ending) s.now result }
     ensures buf_after { buf.new ≡ in_front (payload_in (judge (Ascii ending) s.now)) buf.old }
 {
-    let count = run_behind(s);
-    if is_short(s, count) {
-        return extract_short(ending, s, count, buf);
+    let line = Line::new(s);
+    if line.is_short() {
+        return line.extract_short(ending, buf);
     }
-    let verdict = judge_run(ending, s, count);
+    let verdict = line.judge(ending);
     if let Judged::Frame { used: _, len } = verdict {
         unpack(s, len, buf);
     }

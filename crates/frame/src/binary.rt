@@ -8,20 +8,17 @@ ghost use Rattle.frame.specs.DigitRuns.{bytes_xor};
 ghost use Rattle.frame.specs.Framing.{judge, in_front, layout};
 ghost use Rattle.frame.specs.Judged.{verdict_of};
 
-use crate::digit;
-use crate::framing::{Footer, Judged, judge_complete, judge_ending};
+use crate::framing::{Footer, Judged, judge_ending};
 use crate::refusal::Refusal;
 
 // The XOR of the words of 8 bytes at the front of s, all that are whole.
 fn xor_words(s: &[u8]) -> u64
     ensures { bytes_xor 8 result ≡ xor_of (take (8 * (length s.now / 8)) s.now) }
 {
-    let count = s.len() / 8;
-    let mut sum: u64 = 0;
-    let mut i = 0;
-    while i < count {
-        sum = sum ^ digit::word(s, 8 * i);
-        i += 1;
+    let (words, _) = s.as_chunks::<8>();
+    let mut sum = 0;
+    for word in words {
+        sum ^= u64::from_le_bytes(*word);
     }
     sum
 }
@@ -35,27 +32,12 @@ fn folded(w: u64) -> u8
     ((quarter ^ (quarter >> 8)) % 256) as u8
 }
 
-// The XOR of all bytes: by words, then the rest, whose count has a bound that the compiler sees, so that the loop is not vectorised.
+// The XOR of all bytes: by words, then the rest.
 pub(crate) fn xor_of(s: &[u8]) -> u8
     ensures { result ≡ xor_of s.now }
 {
-    let mut sum = folded(xor_words(s));
-    let rest = s.len() % 8;
-    let from = s.len() - rest;
-    let mut i = 0;
-    while i < rest {
-        sum = sum ^ s[from + i];
-        i += 1;
-    }
-    sum
-}
-
-// A byte as an index.
-fn wide(b: u8) -> usize
-    ensures value { result ≡ b }
-    ensures upper_bound { result < 256 }
-{
-    b as usize
+    let (_, rest) = s.as_chunks::<8>();
+    rest.iter().fold(folded(xor_words(s)), |sum, b| sum ^ *b)
 }
 
 // Judges what stands behind the length `len`: the payload, its checksum and, where it is required, the footer.
@@ -69,11 +51,11 @@ fn judge_body(footer: Footer, s: &[u8], len: usize) -> Judged
         return Judged::Undecided;
     }
     if xor_of(&s[4..end]) != s[end] {
-        return judge_complete(end, false, len);
+        return Judged::failed(Refusal::Checksum, end + 1);
     }
     match footer {
-        Footer::Optional => judge_complete(end, true, len),
-        Footer::Required => judge_ending(s, end, true, 0x04, len),
+        Footer::Optional => Judged::Frame { used: end + 1, len },
+        Footer::Required => judge_ending(s, end, 0x04, len),
     }
 }
 
@@ -86,33 +68,22 @@ pub(crate) fn judge(footer: Footer, s: &[u8]) -> Judged
         return Judged::Undecided;
     }
     if s[0] != 0xA5 {
-        return Judged::Failed {
-            refusal: Refusal::Start,
-            judged: 1,
-        };
+        return Judged::failed(Refusal::Start, 1);
     }
     if n == 1 {
         return Judged::Undecided;
     }
     if s[1] != 0x5A {
-        return Judged::Failed {
-            refusal: Refusal::Start,
-            judged: 2,
-        };
+        return Judged::failed(Refusal::Start, 2);
     }
     if n < 4 {
         return Judged::Undecided;
     }
-    let word = wide(s[2]) * 256 + wide(s[3]);
-    let refusal = Refusal::Length;
-    let judged = 4;
-    if word < 0x8001 {
-        return Judged::Failed { refusal, judged };
+    let word = u16::from_be_bytes([s[2], s[3]]);
+    if word < 0x8001 || 0x8100 < word {
+        return Judged::failed(Refusal::Length, 4);
     }
-    if 0x8100 < word {
-        return Judged::Failed { refusal, judged };
-    }
-    judge_body(footer, s, word - 0x8000)
+    judge_body(footer, s, usize::from(word - 0x8000))
 }
 
 // Puts the `len` bytes behind the first four into the front of buf.
@@ -145,10 +116,8 @@ pub(crate) fn pack(p: &[u8], buf: &mut [u8])
 {
     let len = p.len();
     let end = 4 + len;
-    buf[0] = 0xA5;
-    buf[1] = 0x5A;
-    buf[2] = ((0x8000 + len) / 256 % 256) as u8;
-    buf[3] = ((0x8000 + len) % 256) as u8;
+    let word = (0x8000 + len as u16).to_be_bytes();
+    octets::copy(&[0xA5, 0x5A, word[0], word[1]], buf);
     octets::copy(p, &mut buf[4..]);
     buf[end] = xor_of(p);
     buf[end + 1] = 0x04;

@@ -1,11 +1,11 @@
 // The two framings and the formats in which they are read under one name: judging the front of a slice, taking the payload out and writing a frame.
-ghost use Rattle.std.specs.Prelude.{◌≡◌, ℕ, ◌-◌, ◌<◌, ◌≤◌, length, ◌==◌, slice_index};
+ghost use Rattle.std.specs.Prelude.{◌≡◌, true, false, ℕ, MatchOption, ◌-◌, ◌<◌, ◌≤◌, length, ◌==◌, slice_index};
 ghost use Rattle.frame.specs.Checks.{payload_in};
 ghost use Rattle.frame.specs.Ascii.{carriage_return};
-ghost use Rattle.frame.specs.Framing.{format_of, judge, layout, in_front, may_follow, is_open, is_optional, absorbed};
+ghost use Rattle.frame.specs.Framing.{format_of, judge, layout, in_front, is_open, is_optional, absorbed};
 ghost use Rattle.frame.specs.Judged.{verdict_of, payload_at, payload_end, bytes_at, unpacks, unpacked, with_room};
-ghost use Rattle.frame.specs.Parts.{HasPayload, frame_length, Ended, Completed};
-ghost use Rattle.frame.specs.declared.framing.Format.TheVariants.{Binary, Ascii};
+ghost use Rattle.frame.specs.Parts.{HasPayload, frame_length, Ended};
+ghost use Rattle.frame.specs.declared.framing.Judged.TheVariants.{Failed};
 
 use crate::refusal::Refusal;
 use crate::{ascii, binary};
@@ -67,79 +67,35 @@ pub enum Judged {
     Frame { used: usize, len: usize },
 }
 
-// Judges the ending of a frame with a payload of `len` bytes: the checksum, which is complete with the byte at `end` and is right or not, and the byte
-// behind it, which is to be `last`.
-pub(crate) fn judge_ending(s: &[u8], end: usize, right: bool, last: u8, len: usize) -> Judged
-    requires { end < length s.now }
-    ensures { Ended s.now end right last len result }
-{
-    if !right {
-        return Judged::Failed {
-            refusal: Refusal::Checksum,
-            judged: end + 1,
-        };
+impl Judged {
+    // A check that failed at the last of `judged` bytes.
+    pub(crate) fn failed(refusal: Refusal, judged: usize) -> Judged
+        ensures { result ≡ Failed refusal judged }
+    {
+        Judged::Failed { refusal, judged }
     }
+}
+
+// Judges the ending of a frame with a payload of `len` bytes, whose checksum is right and complete with the byte at `end`: the byte behind it is to be `last`.
+pub(crate) fn judge_ending(s: &[u8], end: usize, last: u8, len: usize) -> Judged
+    requires { end < length s.now }
+    ensures { Ended s.now end true last len result }
+{
     if s.len() <= end + 1 {
         return Judged::Undecided;
     }
     if s[end + 1] != last {
-        return Judged::Failed {
-            refusal: Refusal::Footer,
-            judged: end + 2,
-        };
+        return Judged::failed(Refusal::Footer, end + 2);
     }
-    Judged::Frame {
-        used: end + 2,
-        len: len,
-    }
-}
-
-// Judges the checksum of a frame with a payload of `len` bytes that is complete with the byte at `end`: right or not.
-pub(crate) fn judge_complete(end: usize, right: bool, len: usize) -> Judged
-    requires { end < 65536 }
-    ensures { Completed end right len result }
-{
-    if !right {
-        return Judged::Failed {
-            refusal: Refusal::Checksum,
-            judged: end + 1,
-        };
-    }
-    Judged::Frame {
-        used: end + 1,
-        len: len,
-    }
-}
-
-// Whether a footer may follow a frame that was judged complete.
-fn footer_may_follow(footer: Footer) -> bool
-    ensures { (last : ℕ) → result ≡ may_follow (Binary footer) last }
-{
-    match footer {
-        Footer::Optional => true,
-        Footer::Required => false,
-    }
+    Judged::Frame { used: end + 2, len }
 }
 
 // Whether the byte before `end` is a CR; the first byte where `end` is 0, and false where there is none.
 fn is_behind_cr(s: &[u8], end: usize) -> bool
     ensures { result ≡ (slice_index s.now (end - 1) == carriage_return) }
 {
-    let last = if 0 < end { end - 1 } else { 0 };
-    if s.len() <= last {
-        return false;
-    }
-    s[last] == 0x0D
-}
-
-// Whether an LF may follow a frame that was judged complete with the byte before `end`.
-fn lf_may_follow(ending: Ending, s: &[u8], end: usize) -> bool
-    ensures { result ≡ is_open (Ascii ending) end s.now }
-{
-    match ending {
-        Ending::CrLf => false,
-        Ending::Any => is_behind_cr(s, end),
-    }
+    let last = end.saturating_sub(1);
+    last < s.len() && s[last] == 0x0D
 }
 
 // Whether an optional byte may follow a frame that was judged complete with the byte before `end`. For that byte the first stands where `end` is 0, and 0 where
@@ -148,45 +104,28 @@ pub fn may_follow(format: Format, s: &[u8], end: usize) -> bool
     ensures { result ≡ is_open format end s.now }
 {
     match format {
-        Format::Binary(footer) => footer_may_follow(footer),
-        Format::Ascii(ending) => lf_may_follow(ending, s, end),
+        Format::Binary(Footer::Optional) => true,
+        Format::Binary(Footer::Required) | Format::Ascii(Ending::CrLf) => false,
+        Format::Ascii(Ending::Any) => is_behind_cr(s, end),
     }
 }
 
-// The optional byte of a format; 256, which no byte is, where it has none.
-fn optional_of(format: Format) -> u16
-    ensures { (b : ℕ) → b < 256 → is_optional format b ≡ (b == result) }
+// The optional byte of a format, where it has one.
+fn optional_of(format: Format) -> Option<u8>
+    ensures { MatchOption result ((b : ℕ) → is_optional format b ≡ false) (λ x. (b : ℕ) → is_optional format b ≡ (b == x)) }
 {
     match format {
-        Format::Binary(footer) => match footer {
-            Footer::Optional => 0x04,
-            Footer::Required => 256,
-        },
-        Format::Ascii(ending) => match ending {
-            Ending::CrLf => 256,
-            Ending::Any => 0x0A,
-        },
+        Format::Binary(Footer::Optional) => Some(0x04),
+        Format::Ascii(Ending::Any) => Some(0x0A),
+        Format::Binary(Footer::Required) | Format::Ascii(Ending::CrLf) => None,
     }
-}
-
-// Whether b is the optional byte of a format.
-fn is_optional(format: Format, b: u8) -> bool
-    ensures { result ≡ is_optional format b }
-{
-    b as u16 == optional_of(format)
 }
 
 // How many bytes at the front of s, one or none, belong to the frame before them; none where `follows` says that none may.
 pub fn absorbed(format: Format, follows: bool, s: &[u8]) -> usize
     ensures { result ≡ absorbed format follows s.now }
 {
-    if !follows {
-        return 0;
-    }
-    if s.len() == 0 {
-        return 0;
-    }
-    if is_optional(format, s[0]) { 1 } else { 0 }
+    usize::from(follows && !s.is_empty() && optional_of(format) == Some(s[0]))
 }
 
 // The place behind a payload of `len` bytes in a frame.
@@ -220,13 +159,7 @@ pub fn unpack(format: Format, s: &[u8], len: usize, buf: &mut [u8]) -> bool
     ensures value { result ≡ unpacks format s.now len buf.old }
     ensures buf_after { buf.new ≡ unpacked format s.now len buf.old }
 {
-    if buf.len() < 256 {
-        return false;
-    }
-    if 256 < len {
-        return false;
-    }
-    if s.len() < payload_end(format, len) {
+    if buf.len() < 256 || 256 < len || s.len() < payload_end(format, len) {
         return false;
     }
     take_out(format, s, len, buf);
@@ -252,10 +185,7 @@ pub fn extract(format: Format, s: &[u8], buf: &mut [u8]) -> Judged
     ensures room_buf_after { 256 ≤ length buf.old → buf.new ≡ in_front (payload_in (judge format s.now)) buf.old }
 {
     if buf.len() < 256 {
-        return Judged::Failed {
-            refusal: Refusal::Buffer,
-            judged: 0,
-        };
+        return Judged::failed(Refusal::Buffer, 0);
     }
     match format {
         Format::Binary(footer) => binary::extract(footer, s, buf),

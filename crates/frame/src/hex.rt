@@ -105,7 +105,8 @@ fn behind_sum(s: &[u8], rest: &[u8]) -> u32
 }
 
 // The sum of the bytes that the digits of s stand for: by blocks of 16 bytes, and then the rest. Each block is decoded before it is summed: a loop over sums
-// of blocks is vectorised across the blocks, byte by byte.
+// of blocks is vectorised across the blocks, byte by byte. It stays a function, so that the tests before it are inlined where they are made.
+#[inline(never)]
 pub(crate) fn pair_sum(s: &[u8]) -> u32
     requires { length s.now ≤ 514 }
     ensures value { result ≡ sum_of (unhexed s.now) }

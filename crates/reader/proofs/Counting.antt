@@ -85,10 +85,6 @@ module _ (f : Format) (judgement : List ℕ → Verdict) (stop place : ℕ) (s :
       let left : stop - place ≡ suc (stop - (place + 1)) = omega arith in
       rw (left, drop-drop 1 place s, add-one)
 
-  -- The bytes judged at the first place are counted.
-  pub count_first : place < stop → judged_at f (drop place s) ≤ scan_judged f judgement (stop - place) (drop place s)
-  count_first l = omega (arith, count_at l)
-
   -- Behind the last place.
   pub count_end : stop ≤ place → scan_judged f judgement (stop - place) (drop place s) ≡ 0
   unfolding scan_judged

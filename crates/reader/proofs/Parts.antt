@@ -1,13 +1,12 @@
 -- Laws of parts of lists: from one index up to another.
 -- Assumes nothing.
-use Prim.Native.Nat.{ℕ, ◌+◌, ◌-◌, ◌≤◌, ◌<◌, zero-le}
+use Prim.Native.Nat.{ℕ, ◌+◌, ◌-◌, ◌≤◌, ◌<◌}
 use native.Mathlib.Numerals.{add-one}
 use native.Mathlib.Omega.{arith}
-use mathlib.Core.Path.{◌≡◌, subst}
+use mathlib.Core.Path.{◌≡◌}
 use mathlib.Core.List.{List, [], ◌∷◌}
 use lib.ListN.{length, get_or, take, drop, set, length-take, length-drop}
 use lib.Seq.{paste, set_split, append_snoc, take-take, drop-drop}
-use Rattle.std.proofs.lemmas.List.Edits.{take-paste}
 use Rattle.reader.specs.View.{part}
 use Rattle.frame.proofs.Lists.{drop_take}
 
@@ -30,10 +29,3 @@ part_rest k from end s =
 -- A part of a list's front is a part of the list.
 pub part_front : (from end n : ℕ) (s : List ℕ) → end ≤ n → part from end (take n s) ≡ part from end s
 part_front from end n s l = rw drop_take (take-take (end - from) (n - from) (drop from s) (omega arith))
-
--- A part that is copied to a list's front stands there.
-pub part_moved : (from end : ℕ) (s : List ℕ) → end ≤ length s → take (end - from) (paste s 0 (drop from s) (end - from)) ≡ part from end s
-part_moved from end s h =
-    let size : 0 + (end - from) ≡ end - from = omega arith in
-    subst (λ (n : ℕ). take n (paste s 0 (drop from s) (end - from)) ≡ part from end s) size
-    (take-paste s 0 (drop from s) (end - from) zero-le (rw length-drop (omega arith)))

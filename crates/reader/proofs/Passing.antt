@@ -99,9 +99,6 @@ pub record Come (f : Format) (p : Places) (s : List ℕ) (at : Step) : Type 0 wh
   pub counts : at.judged + scan_judged f (judging p.ended f) (p.stop - at.place) (drop at.place s) ≡ judged_over f p s
 
 module _ (f : Format) (p : Places) (s : List ℕ) (h : Scannable p s) where
-  pub come_first : Come f p s (step_to p.from p.reach 0)
-  come_first = record { inside = h.onward; scans = refl; counts = omega arith }
-
   -- No more bytes are judged than this.
   pub over_most : judged_over f p s ≤ 517 * 65536
   over_most = omega (arith, count_most f (judging p.ended f) (p.stop - p.from) (drop p.from s), h.inside, h.short)

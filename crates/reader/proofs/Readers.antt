@@ -1,22 +1,20 @@
 -- The answers of the line reader's calls at each of their ways out.
 -- Assumes nothing.
 use Prim.Native.Nat.{ℕ, ◌+◌, ◌-◌, ◌≤◌}
-use native.Mathlib.Nat.{le_refl, sub_self, sub-zero}
+use native.Mathlib.Nat.{le_refl, sub-zero}
 use native.Mathlib.Omega.{arith}
 use mathlib.Core.Path.{◌≡◌, refl, sym, ap, ap₂, ◌∙◌, subst}
 use mathlib.Core.List.{List, ◌++◌}
 use mathlib.Core.Bool.{Bool, false}
-use borrow.Author.Tests.{le-leb}
 use lib.ListN.{length, take, drop, length-append}
 use lib.Seq.{paste, take-length, take-paste, take_at, drop_at}
 use Rattle.frame.specs.Framing.{is_open, limit}
 use Rattle.frame.specs.Judged.{payload_at}
-use Rattle.reader.specs.Reader.{call_refusal}
 use Rattle.reader.specs.Reader.{holding, Called, line_on, judged_held, frame_values, fed_values_of, buffer_at}
 use Rattle.reader.specs.Scan.{Stop, found, undecided, passed, stop_of, judging, Scanned, scanned_to, scan_from, stop_buffer}
 use Rattle.reader.specs.View.{part}
 use Rattle.reader.specs.Answer.{before_scan, called_as, called_by, scan_whole, kept_as, kept_end, Usable, Answerable, Keeps}
-use Rattle.reader.specs.Feeding.{Admitted, joined, Stores, Leaves, KeepsCall, QuietAnswered}
+use Rattle.reader.specs.Feeding.{joined, Stores, Leaves, KeepsCall, QuietAnswered}
 use Rattle.frame.specs.declared.framing.Format.{Format}
 use Rattle.reader.specs.declared.reader.Reader.{Reader}
 use Rattle.reader.specs.declared.answer.FeedAnswer.{FeedAnswer}
@@ -74,20 +72,6 @@ module _ (f : Format) (w : List ℕ) (before : Before) (place reach : ℕ) (end 
         inside = h;
         there = omega arith;
         most = m;
-        ends = refl;
-      })
-
-  -- It passed every place.
-  pub kept_passed : (k : Kept) → end ≡ Passed → k ≡ more_needed (length w) → Right end k
-  kept_passed k e is =
-      kept_more Passed (length w) k e is
-      (record {
-        values = refl;
-        held = ap (λ (n : ℕ). take n (drop (length w) w)) (sub_self (length w));
-        follows = refl;
-        inside = omega arith;
-        there = omega arith;
-        most = omega arith;
         ends = refl;
       })
 
@@ -278,11 +262,6 @@ pub passed_end : (f : Format) (s : List ℕ) (end : ScanEnd) → stop_of f s end
 passed_end f s (Frame used len) e = cc
 passed_end f s Undecided e = cc
 passed_end f s Passed e = refl
-
--- A call that is not refused.
-pub admitted_none : (is_sound : Bool) (least given size : ℕ) → Admitted is_sound least given size → call_refusal is_sound least given size ≡ 0
-admitted_none is_sound least given size h =
-    ap (λ (q : Bool). call_refusal q least given size) h.sound ∙ simp (le-leb least given h.room, le-leb size 65536 h.short)
 
 -- A quiet's answer is right where the call gives that.
 pub quiet_right :

@@ -180,28 +180,6 @@ waiting_views v chunk buf a h last room few same is =
     (subst (λ (x : View). NextView v chunk (view_call v chunk) x) (sym same) (subst (λ (x : Called). NextView v chunk x v) (sym call) next))
     (ap (λ (x : Called). buffer_at x.out.frames buf) (sym call))
 
--- Without the mark, the view behind an optional byte is the view itself.
-pub past_unmarked : (v : View) (chunk : List ℕ) → v.follows ≡ false → v.from ≤ v.end → v ≡ past_optional v chunk
-past_unmarked v chunk e l =
-    let n : ℕ = absorbed v.format v.follows (drop v.from chunk) in
-    let none : n ≡ 0 = ap (λ (q : Bool). absorbed v.format q (drop v.from chunk)) e in
-    let from : v.from ≡ v.from + n = omega arith in
-    let end : v.end ≡ max v.end (v.from + n) = omega arith in
-    let judged : v.judged ≡ cond (eqb n 0) v.judged 0 = ap (λ (k : ℕ). cond (eqb k 0) v.judged 0) (sym none) in
-    λ i. record { format = v.format; from = from i; end = end i; follows = e i; judged = judged i }
-
--- What the code takes for it, with the mark.
-pub past_marked :
-    (v : View) (chunk rest : List ℕ) (n end judged : ℕ) → v.follows ≡ true → n ≡ absorbed v.format true rest → rest ≡ drop v.from chunk →
-    end ≡ max v.end (v.from + n) → judged ≡ cond (eqb n 0) v.judged 0 →
-    record { format = v.format; from = v.from + n; end = end; follows = false; judged = judged } ≡ past_optional v chunk
-past_marked v chunk rest n end judged m e r l j =
-    let at : ℕ → View = λ k.
-    record { format = v.format; from = v.from + k; end = max v.end (v.from + k); follows = false; judged = cond (eqb k 0) v.judged 0 } in
-    let same : record { format = v.format; from = v.from + n; end = end; follows = false; judged = judged } ≡ at n =
-    λ i. record { format = v.format; from = v.from + n; end = l i; follows = false; judged = j i } in
-    same ∙ ap at (e ∙ ap₂ (absorbed v.format) (sym m) r)
-
 -- What the view behind an optional byte is to a view that has a byte held or offered: it lies in the chunk, at most one byte further, and the view's call is
 -- the call without the mark from there, before which that byte is taken where it was not held.
 pub record Past (v : View) (chunk : List ℕ) (at : View) : Type 0 where

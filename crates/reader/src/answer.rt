@@ -55,35 +55,16 @@ impl FeedAnswer {
     }
 
     // The answer of a call that took `first` bytes more, before the others.
-    pub(crate) fn took_first(self, first: usize) -> FeedAnswer
+    pub(crate) fn took_first(mut self, first: usize) -> FeedAnswer
         requires answer_bound { (fed_values_of self).taken ≤ 65536 }
         requires first_bound { first ≤ 1 }
         ensures { TookFirst first self result }
     {
-        match self {
-            FeedAnswer::Frame {
-                taken,
-                noise,
-                judged,
-                len,
-                began,
-            } => FeedAnswer::Frame {
-                taken: first + taken,
-                noise,
-                judged,
-                len,
-                began,
-            },
-            FeedAnswer::NeedsMore {
-                taken,
-                noise,
-                judged,
-            } => FeedAnswer::NeedsMore {
-                taken: first + taken,
-                noise,
-                judged,
-            },
+        match &mut self {
+            FeedAnswer::Frame { taken, .. } => *taken += first,
+            FeedAnswer::NeedsMore { taken, .. } => *taken += first,
         }
+        self
     }
 }
 

@@ -15,6 +15,7 @@ use frame::{Format, Framing, Refusal, absorbed, may_follow};
 // A reader's state, by value: its format; the bytes that it holds, the first `count` of `held`; and `follows`, whether an optional byte, the 04 of a frame that
 // may lack it or the LF behind a CR, may still follow the last frame and belong to it. In formats without such a byte `follows` means nothing. `judged` is how
 // many of the held bytes were judged at the first held place, which later calls don't count again.
+// Kept: a count beside the array that it counts, since a state is a plain value: calls with one that was made by hand, with any count, have promised answers.
 #[derive(Clone, Copy, PartialEq, Eq)]
 pub struct Reader {
     pub held: [u8; 517],
@@ -48,6 +49,7 @@ struct Settled {
 }
 
 // The held bytes of a state, and as much of a chunk as a frame that begins in them can have: the first `size` of `bytes`.
+// Kept: an array with its length beside it, since a function can hand out no slice of its own array, and there is no heap here.
 #[derive(Drop)]
 struct Joined {
     bytes: [u8; 1034],
@@ -394,7 +396,9 @@ impl Reader {
         self.shift(kept)
     }
 
-    // Finds the next frame in a chunk, behind what was settled before it. The bytes that were held go.
+    // Finds the next frame in a chunk, behind what was settled before it. The bytes that were held go. As a call of its own it takes up to 9 % more
+    // instructions, in chunks of 64 bytes.
+    #[inline(always)]
     fn feed_chunk(&mut self, chunk: &[u8], settled: Settled, buf: &mut [u8]) -> FeedAnswer
         requires { ChunkFed self.old.format chunk.now settled buf.old }
         ensures { Leaves self.old.format (scan_whole self.old.format 0 settled.noise settled.reach chunk.now)

@@ -1,32 +1,27 @@
--- `frame::binary::xor_words` meets its contract: at each turn the bytes of the word so far have the XOR of the first i words' bytes.
+-- `frame::binary::xor_words` meets its contract: at each turn the bytes of the word so far have the XOR of the first words' bytes.
 -- Assumes nothing.
-use Rattle.std.proofs.Common.{◌≡◌, ℕ, ◌*◌, ◌/◌, length, take, refl, ap, ◌∙◌, arith}
+use Rattle.std.proofs.Common.{◌≡◌, ℕ, ◌*◌, ◌/◌, ◌<◌, [], length, take, drop, ap, ◌∙◌, arith, length-drop, length-take-le}
+use Rattle.std.specs.Int.{from_le_bytes, w64}
+use Rattle.octets.proofs.Prefix.{chunk_at}
 use Rattle.frame.specs.Binary.{xor_of}
+use Rattle.frame.specs.DigitRuns.{little_endian}
+use Rattle.frame.proofs.Words.{word_little_endian}
 use Rattle.frame.proofs.XorLaws.{xor_word}
 use Rattle.frame.proofs.binary.xor_words.Goals as goal
 
-pub loop-i-init : goal.loop-i-init
-loop-i-init c = (omega arith, refl)
-
-pub overflow_mul-i : goal.overflow_mul-i
-overflow_mul-i c = omega arith
-
-pub word-sum-requires : goal.word-sum-requires
-word-sum-requires c = omega arith
-
-pub overflow_add-i : goal.overflow_add-i
-overflow_add-i c = omega arith
-
-pub loop-i-smaller : goal.loop-i-smaller
-loop-i-smaller c = omega arith
-
-pub loop-i-preserved : goal.loop-i-preserved
-loop-i-preserved c = (
-  omega arith,
-  xor_word c.args.s.now c.loop-i.i c.loop-i.sum c.word-sum.result (λ k. omega (arith, c.shared_slice_known-1.given k)) (omega arith) c.word-sum.ensures c.loop-i.invariant.1,
-)
+pub loop-word-preserved : goal.loop-word-preserved
+loop-word-preserved c =
+    let s = c.args.s.now in
+    let i = c.loop-word.word-index in
+    let there : i < length s / 8 = omega (arith, c.as_chunks.ensures.front_len) in
+    let is : c.from_le_bytes-sum.result ≡ little_endian (take 8 (drop (8 * i) s)) =
+    (rw c.as_chunks.ensures.front at c.from_le_bytes-sum.ensures)
+    ∙ ap (from_le_bytes w64) (chunk_at 8 (length s / 8) i s [] there)
+    ∙ word_little_endian (take 8 (drop (8 * i) s)) (length-take-le 8 (drop (8 * i) s) (simp length-drop (omega arith)))
+    in
+    xor_word s i c.loop-word.sum c.from_le_bytes-sum.result (λ k. omega (arith, c.type_inv.s k)) (omega arith) is c.loop-word.invariant
 
 pub returns : goal.returns
 returns c =
-    let all : c.loop-i.i ≡ length c.args.s.now / 8 = omega arith in
-    c.loop-i.invariant.1 ∙ ap (λ (n : ℕ). xor_of (take (8 * n) c.args.s.now)) all
+    let all : c.loop-word.word-index ≡ length c.args.s.now / 8 = omega (arith, c.as_chunks.ensures.front_len) in
+    c.loop-word.invariant ∙ ap (λ (n : ℕ). xor_of (take (8 * n) c.args.s.now)) all

@@ -5,7 +5,9 @@ use borrow.Author.Tests.{lt-leb}
 use Rattle.frame.proofs.framing.extract.Goals as goal
 
 pub returns-then-buf-lt256-clause-s_value : goal.returns-then-buf-lt256-clause-s_value
-returns-then-buf-lt256-clause-s_value c = rw (lt-leb 256 (length c.args.buf.now) c.if-buf-lt256.true) refl
+returns-then-buf-lt256-clause-s_value c =
+    rw c.failed.ensures
+    (rw (lt-leb 256 (length c.args.buf.now) c.if-buf-lt256.true) refl)
 
 pub returns-then-buf-lt256-clause-buf_after : goal.returns-then-buf-lt256-clause-buf_after
 returns-then-buf-lt256-clause-buf_after c = rw (lt-leb 256 (length c.args.buf.now) c.if-buf-lt256.true) refl

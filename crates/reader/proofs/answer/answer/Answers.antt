@@ -12,20 +12,8 @@ use Rattle.reader.specs.Answer.{Usable}
 use Rattle.reader.specs.declared.scan.ScanEnd.{ScanEnd}
 use Rattle.frame.proofs.Framings.{some_used, undecided_short, payload_there, limit_most}
 use Rattle.frame.proofs.Optional.{open_at}
-use Rattle.reader.proofs.Readers.{kept_frame, kept_undecided, kept_passed}
+use Rattle.reader.proofs.Readers.{kept_frame, kept_undecided}
 use Rattle.reader.proofs.answer.answer.Goals as goal
-
-pub overflow_add-next : goal.overflow_add-next
-overflow_add-next c =
-    let at-frame : (let at = drop c.args.found.place c.args.w.now in (judge c.args.format at ≡ frame c.in-Frame.used (payload_at c.args.format at c.in-Frame.len)) × (c.args.found.place + c.in-Frame.used ≤ c.args.found.reach) × (c.args.found.reach ≤ c.args.found.place + 517)) = subst (λ (e : ScanEnd). Usable (stop_of c.args.format (drop c.args.found.place c.args.w.now) e) c.args.format c.args.w.now c.args.found.place c.args.found.reach)
-    c.in-Frame.is c.requires.usable in
-    omega (arith, (at-frame).1)
-
-pub overflow_sub-began : goal.overflow_sub-began
-overflow_sub-began c =
-    let at-frame : (let at = drop c.args.found.place c.args.w.now in (judge c.args.format at ≡ frame c.in-Frame.used (payload_at c.args.format at c.in-Frame.len)) × (c.args.found.place + c.in-Frame.used ≤ c.args.found.reach) × (c.args.found.reach ≤ c.args.found.place + 517)) = subst (λ (e : ScanEnd). Usable (stop_of c.args.format (drop c.args.found.place c.args.w.now) e) c.args.format c.args.w.now c.args.found.place c.args.found.reach)
-    c.in-Frame.is c.requires.usable in
-    omega (arith, (at-frame).1)
 
 pub returns-in-Frame : goal.returns-in-Frame
 returns-in-Frame c =
@@ -45,8 +33,3 @@ returns-in-Undecided c =
     in
     kept_undecided c.args.format c.args.w.now c.args.before c.args.found.place c.args.found.reach c.args.found.end c.args.judged c.more_needed.result c.in-Undecided.is c.more_needed.ensures
     c.requires.inside (omega (arith, undecided_short c.args.format at e, limit_most c.args.format, length-drop c.args.found.place c.args.w.now))
-
-pub returns-in-Passed : goal.returns-in-Passed
-returns-in-Passed c =
-    kept_passed c.args.format c.args.w.now c.args.before c.args.found.place c.args.found.reach c.args.found.end c.args.judged c.more_needed-in-Passed.result
-    c.in-Passed.is c.more_needed-in-Passed.ensures

@@ -5,7 +5,7 @@ use native.Mathlib.Nat.{le_refl}
 use native.Mathlib.Omega.{arith}
 use mathlib.Core.Path.{◌≡◌, refl, sym, ap, ap₂, ◌∙◌}
 use mathlib.Core.List.{List, ◌++◌}
-use lib.ListN.{length, take, replicate, length-append, length-take, length-replicate}
+use lib.ListN.{length, take, replicate, length-append, length-replicate}
 use lib.Seq.{paste, take-paste, take-length, length-take-le, length-paste}
 use Rattle.frame.specs.Framing.{limit}
 use Rattle.reader.specs.Feeding.{joined}
@@ -25,23 +25,6 @@ copies z h s k n e f m =
     ∙ ap₂ (λ (x y : List ℕ). x ++ y)
     (ap (λ (i : ℕ). take i d) (sym e) ∙ front_of_paste z h)
     (ap (λ (i : ℕ). take i s) (sym f) ∙ take-length s)
-
-pub copy-requires : goal.copy-requires
-copy-requires c = omega (arith, limit_most c.args.format, length-replicate {A = ℕ} 1034 0)
-
-pub slice_bounds-copy-end-2 : goal.slice_bounds-copy-end-2
-slice_bounds-copy-end-2 c = sym (length-take-le _ c.args.chunk.now (omega (arith, c.min-more.ensures)))
-
-pub slice_bounds-copy-count : goal.slice_bounds-copy-count
-slice_bounds-copy-count c = omega (arith, limit_most c.args.format)
-
-pub slice_bounds-bytes-start : goal.slice_bounds-bytes-start
-slice_bounds-bytes-start c = omega (arith, limit_most c.args.format)
-
-pub copy-requires-2 : goal.copy-requires-2
-copy-requires-2 c =
-    let zeros : length c.copy.new.to ≡ 1034 = c.copy.auto.to ∙ length-replicate {A = ℕ} 1034 0 in
-    omega (arith, limit_most c.args.format, c.min-more.ensures, c.limit_of.ensures, length-take c.min-more.result c.args.chunk.now, zeros)
 
 pub returns : goal.returns
 returns c =

@@ -39,12 +39,6 @@ slice_bounds-unpack-start c =
     c.scan-found.ensures.result_value _ _ (ap (stop_of a.format (drop c.scan-found.result.place a.s.now)) c.in-Frame.is) in
     omega (arith, (at-frame).before)
 
-pub returns-in-Frame-clause-result_value : goal.returns-in-Frame-clause-result_value
-returns-in-Frame-clause-result_value c = c.scan-found.ensures.result_value
-
-pub returns-in-Frame-clause-judged_value : goal.returns-in-Frame-clause-judged_value
-returns-in-Frame-clause-judged_value c = c.scan-found.ensures.judged_value
-
 pub returns-in-Frame-clause-buf_after : goal.returns-in-Frame-clause-buf_after
 returns-in-Frame-clause-buf_after c =
     let at-frame : (let a = c.args in AtFrame a.format a.s.now a.places.stop c.scan-found.result.place c.scan-found.result.reach c.in-Frame.used (payload_at a.format (drop c.scan-found.result.place a.s.now) c.in-Frame.len)) = let a = c.args in
@@ -56,14 +50,3 @@ returns-in-Frame-clause-buf_after c =
     ∙ ap (λ (l : List ℕ). unpacked c.args.format l c.in-Frame.len c.args.buf.now) (take_rest c.args.s.now c.scan-found.result.place)
     ∙ unpacked_frame c.args.format at c.in-Frame.used c.in-Frame.len c.args.buf.now (at-frame).is_frame c.requires.in_bounds
     ∙ sym (ap (λ (e : ScanEnd). stop_buffer (stop_of c.args.format at e) c.args.buf.now) c.in-Frame.is)
-
-pub returns-in_default-clause-result_value : goal.returns-in_default-clause-result_value
-returns-in_default-clause-result_value c = c.scan-found.ensures.result_value
-
-pub returns-in_default-clause-judged_value : goal.returns-in_default-clause-judged_value
-returns-in_default-clause-judged_value c = c.scan-found.ensures.judged_value
-
-pub returns-in_default-clause-buf_after : goal.returns-in_default-clause-buf_after
-returns-in_default-clause-buf_after c =
-    sym (no-frame c.args.format (drop c.scan-found.result.place c.args.s.now) c.args.buf.now c.scan-found.result.end
-    c.in_default.not-Frame)

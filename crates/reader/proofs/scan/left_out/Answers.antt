@@ -1,11 +1,10 @@
 -- `reader::scan::left_out` meets its contract: a scan that stopped at the first place counted the bytes judged there, and a scan of that place alone does.
 -- Assumes nothing.
-use Prim.Native.Nat.{◌≤◌, zero-le}
+use Prim.Native.Nat.{◌≤◌}
 use native.Mathlib.Omega.{arith}
 use mathlib.Core.Logic.{⊎_elim}
-use mathlib.Core.Path.{◌≡◌, refl, sym, ap, ◌∙◌}
+use mathlib.Core.Path.{◌≡◌, sym, ap, ◌∙◌}
 use lib.ListN.{length, take}
-use lib.Seq.{length-take-le}
 use Rattle.frame.specs.Framing.{judge, judged_at}
 use Rattle.reader.specs.Scan.{judging, Scanned, scan_from, scan_judged, stop_buffer}
 use Rattle.frame.proofs.Numbers.{le_or_lt}
@@ -22,43 +21,10 @@ returns-then-found-eq0-clause-value c =
     λ l. count_stays judgement c.requires.reached c.args.s.now c.args.format c.requires.places l first
     in ⊎_elim (λ l. omega (arith, c.min.ensures, c.requires.few)) (λ l. omega (arith, c.min.ensures, c.requires.counts, stays l)) (le_or_lt c.requires.places 0)
 
-pub returns-then-found-eq0-clause-buf_unchanged : goal.returns-then-found-eq0-clause-buf_unchanged
-returns-then-found-eq0-clause-buf_unchanged c =
-    let judgement = judging c.requires.ends c.args.format in
-    let first : (scan_from judgement c.requires.places 0 c.requires.reached c.args.s.now).place ≡ 0 =
-    sym (ap (λ (x : Scanned). x.place) c.requires.scans) ∙ c.if-found-eq0.true
-    in
-    let stays : 1 ≤ c.requires.places → scan_judged c.args.format judgement c.requires.places c.args.s.now ≡ judged_at c.args.format c.args.s.now =
-    λ l. count_stays judgement c.requires.reached c.args.s.now c.args.format c.requires.places l first
-    in refl
-
 pub returns-then-known-le1-clause-value : goal.returns-then-known-le1-clause-value
 returns-then-known-le1-clause-value c =
     ⊎_elim (λ l. omega arith) (λ l. omega (arith, c.requires.few, c.requires.inside, judged_at_some c.args.format c.args.s.now (omega (arith, c.requires.few, c.requires.inside))))
     (le_or_lt c.args.known 0)
-
-pub returns-then-known-le1-clause-buf_unchanged : goal.returns-then-known-le1-clause-buf_unchanged
-returns-then-known-le1-clause-buf_unchanged c = refl
-
-pub slice_bounds-find-end : goal.slice_bounds-find-end
-slice_bounds-find-end c =
-    let known-there : c.args.known ≤ length c.args.s.now = omega (arith, c.requires.few, c.requires.inside) in
-    sym (length-take-le c.args.known c.args.s.now (known-there))
-
-pub find-requires-clause-scannable : goal.find-requires-clause-scannable
-find-requires-clause-scannable c =
-    let known-there : c.args.known ≤ length c.args.s.now = omega (arith, c.requires.few, c.requires.inside) in
-    let size = length-take-le c.args.known c.args.s.now (known-there) in record {
-      onward = zero-le;
-      inside = omega (arith, size, c.if-known-le1.false);
-      reached = zero-le;
-      short = omega (arith, size, known-there, c.requires.short);
-    }
-
-pub find-requires-clause-in_bounds : goal.find-requires-clause-in_bounds
-find-requires-clause-in_bounds c =
-    let known-there : c.args.known ≤ length c.args.s.now = omega (arith, c.requires.few, c.requires.inside) in
-    let size = length-take-le c.args.known c.args.s.now (known-there) in c.requires.room
 
 pub returns-clause-value : goal.returns-clause-value
 returns-clause-value c =

@@ -34,7 +34,7 @@ returns c =
     let more : c.run_len-more.result ≡ prefix_len (same (start_of c.args.format)) (take (c.args.stop - (c.args.from + 1)) (drop (c.args.from + 1) c.args.s.now)) =
     c.run_len-more.ensures.value (same c.args.start) (λ b r l h. search rules)
     ∙ ap (λ (b : ℕ). prefix_len (same b) (take (c.args.stop - (c.args.from + 1)) (drop (c.args.from + 1) c.args.s.now))) c.requires.start_value in
-    let run = run_skips (same (start_of c.args.format)) c.args.s.now (c.args.from + 1) c.args.stop c.run_len-more.result (omega arith) c.requires.stop_in_bounds more in
+    let run = run_skips (same (start_of c.args.format)) c.args.s.now (c.args.from + 1) c.args.stop c.run_len-more.result (omega arith) c.requires.stop_in_bounds (omega (arith, more)) in
     let doubled = c.requires.may_start.doubled refl c.if-s-from.false in
     let place : max (c.args.from + 1 + c.run_len-more.result - 1) (c.args.from + 1) ≡ c.args.from + c.max.result = omega (arith, c.max.ensures) in
     let h : Starts c.args.format c.args.s.now c.args.stop c.args.from (c.args.from + c.max.result) =

@@ -1,6 +1,6 @@
 -- `reader::view::View::feed_rest` meets its contract: an optional byte is passed over, and the rest of the chunk is a call without one.
 -- Assumes nothing.
-use Prim.Native.Nat.{◌-◌, ◌≤◌}
+use Prim.Native.Nat.{◌-◌}
 use native.Mathlib.Omega.{arith}
 use mathlib.Core.Path.{◌≡◌, refl, sym, ap, ◌∙◌, subst}
 use lib.ListN.{length, take, drop, length-drop}
@@ -14,55 +14,6 @@ returns-then-self-chunk c =
     waiting_views c.args.self c.args.chunk.now c.args.buf.now _ (is_inside c.args.self (length c.args.chunk.now) c.requires.sound) c.if-self-chunk.true
     c.requires.room c.requires.short refl refl
 
-pub slice_bounds-feed_part-count : goal.slice_bounds-feed_part-count
-slice_bounds-feed_part-count c =
-    let lies : Inside c.args.self (length c.args.chunk.now) = is_inside c.args.self (length c.args.chunk.now) c.requires.sound in
-    let past : Past c.args.self c.args.chunk.now c.past_optional-at.result = let h = lies in
-    subst (Past c.args.self c.args.chunk.now) (sym c.past_optional-at.ensures)
-    (past_optional_lem c.args.self c.args.chunk.now h (omega (arith, h.onward, h.there, c.if-self-chunk.false))) in
-    let begins : c.past_optional-at.result.from ≤ length c.args.chunk.now = omega (arith, (past).inside.onward, (past).inside.there) in
-    begins
-
-pub slice_bounds-feed_part-start : goal.slice_bounds-feed_part-start
-slice_bounds-feed_part-start c =
-    let lies : Inside c.args.self (length c.args.chunk.now) = is_inside c.args.self (length c.args.chunk.now) c.requires.sound in
-    let past : Past c.args.self c.args.chunk.now c.past_optional-at.result = let h = lies in
-    subst (Past c.args.self c.args.chunk.now) (sym c.past_optional-at.ensures)
-    (past_optional_lem c.args.self c.args.chunk.now h (omega (arith, h.onward, h.there, c.if-self-chunk.false))) in
-    let begins : c.past_optional-at.result.from ≤ length c.args.chunk.now = omega (arith, (past).inside.onward, (past).inside.there) in
-    begins
-
-pub overflow_sub-at : goal.overflow_sub-at
-overflow_sub-at c =
-    let lies : Inside c.args.self (length c.args.chunk.now) = is_inside c.args.self (length c.args.chunk.now) c.requires.sound in
-    let past : Past c.args.self c.args.chunk.now c.past_optional-at.result = let h = lies in
-    subst (Past c.args.self c.args.chunk.now) (sym c.past_optional-at.ensures)
-    (past_optional_lem c.args.self c.args.chunk.now h (omega (arith, h.onward, h.there, c.if-self-chunk.false))) in
-    (past).inside.onward
-
-pub feed_part-kept-requires : goal.feed_part-kept-requires
-feed_part-kept-requires c =
-    let lies : Inside c.args.self (length c.args.chunk.now) = is_inside c.args.self (length c.args.chunk.now) c.requires.sound in
-    let past : Past c.args.self c.args.chunk.now c.past_optional-at.result = let h = lies in
-    subst (Past c.args.self c.args.chunk.now) (sym c.past_optional-at.ensures)
-    (past_optional_lem c.args.self c.args.chunk.now h (omega (arith, h.onward, h.there, c.if-self-chunk.false))) in
-    let rest-size : length (take (length c.args.chunk.now - c.past_optional-at.result.from) (drop c.past_optional-at.result.from c.args.chunk.now)) ≡ length c.args.chunk.now - c.past_optional-at.result.from = ap length (take_rest c.args.chunk.now c.past_optional-at.result.from) ∙ length-drop c.past_optional-at.result.from c.args.chunk.now in
-    let p = (past).inside in
-    record {
-      inside = omega (arith, rest-size, p.onward, p.there);
-      fits = p.fits;
-      short = omega (arith, rest-size, c.requires.short);
-      room = c.requires.room;
-    }
-
-pub overflow_sub-at-2 : goal.overflow_sub-at-2
-overflow_sub-at-2 c =
-    let lies : Inside c.args.self (length c.args.chunk.now) = is_inside c.args.self (length c.args.chunk.now) c.requires.sound in
-    let past : Past c.args.self c.args.chunk.now c.past_optional-at.result = let h = lies in
-    subst (Past c.args.self c.args.chunk.now) (sym c.past_optional-at.ensures)
-    (past_optional_lem c.args.self c.args.chunk.now h (omega (arith, h.onward, h.there, c.if-self-chunk.false))) in
-    (past).onward
-
 pub took_first-requires-clause-answer_bound : goal.took_first-requires-clause-answer_bound
 took_first-requires-clause-answer_bound c =
     let lies : Inside c.args.self (length c.args.chunk.now) = is_inside c.args.self (length c.args.chunk.now) c.requires.sound in
@@ -73,16 +24,6 @@ took_first-requires-clause-answer_bound c =
     let w = take (length c.args.chunk.now - c.past_optional-at.result.from) (drop c.past_optional-at.result.from c.args.chunk.now) in
     let k = c.past_optional-at.result.end - c.past_optional-at.result.from in few_taken c.past_optional-at.result.format (take k w) (drop k w) _ c.feed_part-kept.result.answer c.feed_part-kept.ensures.values
     (omega (arith, length-drop k w, rest-size, c.requires.short))
-
-pub took_first-requires-clause-first_bound : goal.took_first-requires-clause-first_bound
-took_first-requires-clause-first_bound c =
-    let lies : Inside c.args.self (length c.args.chunk.now) = is_inside c.args.self (length c.args.chunk.now) c.requires.sound in
-    let past : Past c.args.self c.args.chunk.now c.past_optional-at.result = let h = lies in
-    subst (Past c.args.self c.args.chunk.now) (sym c.past_optional-at.ensures)
-    (past_optional_lem c.args.self c.args.chunk.now h (omega (arith, h.onward, h.there, c.if-self-chunk.false))) in
-    let rest-size : length (take (length c.args.chunk.now - c.past_optional-at.result.from) (drop c.past_optional-at.result.from c.args.chunk.now)) ≡ length c.args.chunk.now - c.past_optional-at.result.from = ap length (take_rest c.args.chunk.now c.past_optional-at.result.from) ∙ length-drop c.past_optional-at.result.from c.args.chunk.now in
-    let w = take (length c.args.chunk.now - c.past_optional-at.result.from) (drop c.past_optional-at.result.from c.args.chunk.now) in
-    let k = c.past_optional-at.result.end - c.past_optional-at.result.from in omega (arith, (past).one)
 
 pub returns : goal.returns
 returns c =
