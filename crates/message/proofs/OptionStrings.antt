@@ -159,7 +159,7 @@ at_end given k s = refl
 
 -- What is bad gives no options.
 pub never : {A : Type 0} {o : Options} {end : ℕ} → bad ≡ opted o end → A
-never e = let z : ◌≡◌ {A = ℕ} 0 1 = cc in absurd (omega arith)
+never e = absurd (cc)
 
 -- A string of just FF.
 ended : (given : Options) (at id : ℕ) (s : List ℕ) (o : Options) (end : ℕ) → retry_allowed given.retries ≡ true → id ≡ 0xFF →

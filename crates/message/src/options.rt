@@ -38,6 +38,7 @@ impl Options {
 }
 
 // Whether the option is given already.
+// Kept: an option is known here by its number in the string; an enum of the eight would only be made to be matched once more.
 #[tactic(auto, unfolding(crate::specs::Options::has_option))]
 fn has(options: Options, id: u8) -> bool
     ensures { result ≡ has_option options id }
@@ -109,6 +110,7 @@ pub(crate) fn is_retry(b: u8) -> bool
 
 // Reads the rest of an option string, from `at` on, where `options` are given already: an option, its argument, then the rest, until FF. Gives all options
 // and the index behind FF; none where it is no option string.
+// Kept: by recursion, which carries the options so far; a loop would carry the same two values and stop at the same places.
 #[tactic(auto, using(crate::proofs::OptionLaws::nothing_left, crate::proofs::OptionLaws::one_left, crate::proofs::OptionLaws::drop_one), unfolding(crate::specs::Options::options_from, crate::specs::Options::expected_after, crate::specs::Options::given_after, crate::specs::Options::is_option))]
 pub(crate) fn read_options(s: &[u8], at: usize, options: Options) -> Option<(Options, usize)>
     requires { at ≤ length s.now }

@@ -20,7 +20,7 @@ Fresh seen [] = Unit {0}
 Fresh seen (id ∷ ids) = (among seen id ≡ false) × Fresh (id ∷ seen) ids
 
 not_both : (b : Bool) → b ≡ true → b ≡ false → ⊥
-not_both b t f = let z : ◌≡◌ {A = ℕ} 0 1 = cc in omega arith
+not_both b t f = cc
 
 apart : (seen ids : List ℕ) (x : ℕ) → Fresh seen ids → among seen x ≡ true → among ids x ≡ false
 apart seen [] x fresh e = refl

@@ -20,7 +20,7 @@ use Rattle.settings.specs.declared.walk.Setting.{Setting}
 data_whole : (w : ℕ) (seen s : List ℕ) → list_from w seen s ≡ true → (w ≤ length s) × (list_from 0 seen (drop w s) ≡ true)
 unfolding list_from
 data_whole zero seen s e = (omega arith, e)
-data_whole (suc w) seen [] e = absurd (let z : ◌≡◌ {A = ℕ} 0 1 = cc in omega arith)
+data_whole (suc w) seen [] e = absurd (cc)
 data_whole (suc w) seen (b ∷ s) e = let h = data_whole w seen s e in (omega arith, h.1)
 
 -- Bytes that are passed over.

@@ -4,6 +4,7 @@ ghost use Rattle.settings.specs.List.{width_of, is_list};
 ghost use Rattle.settings.specs.Parts.{place_of, marked_from};
 
 // The width of each identifier's data in bytes, 0 where the identifier is unknown.
+// Kept: a table, which has each identifier on a line with its width and its name; arms of a match would be no plainer.
 const WIDTHS: [u8; 15] = [
     4, // 00: application ID
     4, // 01: channel mask
@@ -63,6 +64,7 @@ pub(crate) fn width_of(id: u8) -> usize
 }
 
 // Whether the rest of a list is good, where an identifier or the end is expected.
+// Kept: two functions that call each other, one for each thing that is expected; a loop would have to remember which it is.
 #[cycle(identifier_value)]
 #[tactic(auto, unfolding(crate::specs::Parts::marked_from))]
 fn identifier(rest: &[u8], mut seen: Seen) -> bool
