@@ -112,6 +112,7 @@ fn drive(start: Driven, s: &[u8], size: usize) -> Driven
     requires { 0 < size }
 {
     let mut buf = [0u8; 256];
+    let format = start.reader.format;
     let mut fed = all_taken(start.reader);
     let mut tally = start.tally;
     let mut left: &[u8] = &[];
@@ -127,7 +128,6 @@ fn drive(start: Driven, s: &[u8], size: usize) -> Driven
             (left, others) = others.split_at(size.min(others.len()));
         }
         if is_viewed(fed.reader.count, size) {
-            let format = fed.reader.format;
             let follows = fed.reader.follows;
             fed = all_taken(drive_view(format, follows, &mut tally, left, &mut buf));
         } else {
