@@ -30,7 +30,7 @@ pub(crate) struct ScanResult {
 
 // The places of a slice that are to be judged: those from `from` up to `stop`, which is behind them. The bytes up to `reach` were taken before. Where `ended`,
 // the bytes end the segment, and an undecided place fails too.
-// Kept: `ended` is a flag that one line of `scan` asks; a judge passed in its place would be asked at each place of a line that goes on, too.
+// Kept: `ended` is a flag that one line of `scan` asks. As a const parameter of `scan` and `find` it is a number in their proofs, and the answers on it stayed open.
 #[derive(Clone, Copy)]
 pub(crate) struct Places {
     pub(crate) from: usize,
