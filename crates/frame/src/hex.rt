@@ -175,11 +175,10 @@ pub fn hex_of(b: u8) -> [u8; 2]
     ensures { result ≡ hex (b ∷ []) }
 {
     // Both halves stand in one number, the upper one in its low byte. A digit is the half and 0x30, and 7 more for a letter: where adding 6 carries.
-    let w = b as u32;
+    let w = u32::from(b);
     let halves = w / 16 + w % 16 * 256;
     let letters = (halves + 0x0606) / 16 & 0x0101;
-    let text = halves + 0x3030 + letters * 7;
-    [(text % 256) as u8, (text / 256) as u8]
+    ((halves + 0x3030 + letters * 7) as u16).to_le_bytes()
 }
 
 // Puts the two digits of b into dst at `at`.
