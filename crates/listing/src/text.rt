@@ -48,6 +48,7 @@ impl<'a> Listing<'a> {
         self.lines.judged += judged;
     }
 
+    // Puts all of s.
     pub(crate) fn put(&mut self, s: &[u8])
         requires { HasRoom self.old s.now }
         ensures { Adds self.old s.now 0 0 self.new }

@@ -69,12 +69,13 @@ fn count_cuts(framing: Framing, segment: &[u8], expected: &[u8]) -> u64 {
     let cuts = (0..=segment.len()).filter(|cut| {
         let mut text = [0u8; 1024];
         let end = list_cut(framing, segment, *cut, &mut text);
-        check::same(front(&text, end), expected)
+        front(&text, end) == expected
     });
     cuts.count() as u64
 }
 
 // Prints a segment's name, its listing as one chunk, and how many of its cuts give the same.
+// Kept: for println the handle would pass through all nine functions that show something, and each of their thirty calls would end in `?`.
 fn show_in(framing: Framing, name: &[u8], segment: &[u8]) {
     let mut text = [0u8; 1024];
     let end = list_cut(framing, segment, 0, &mut text);
