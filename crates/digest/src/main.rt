@@ -21,6 +21,7 @@ struct Tally {
 }
 
 impl Tally {
+    // Adds noise. No input has so much that it wraps.
     fn add_noise(&mut self, noise: usize) {
         self.noise = self.noise.wrapping_add(noise as u64);
     }
@@ -98,7 +99,7 @@ fn drive_view(
         view = viewed.view;
         tally.add_answer(viewed.answer, buf);
         if !matches!(viewed.answer, Ok(FeedAnswer::Frame { .. })) {
-            break;
+            return view.reader(chunk);
         }
     }
     view.reader(chunk)
