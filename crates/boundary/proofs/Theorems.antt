@@ -1,12 +1,15 @@
 -- The claims of specs/Claims.antt, proved case by case.
 -- Assumes nothing.
-use Prim.Native.Nat.{ℕ, zero, suc, ◌<◌}
+use Prim.Native.Nat.{ℕ, ◌<◌}
 use native.Mathlib.Omega.{arith}
-use mathlib.Core.Path.{◌≡◌, refl, sym, ap, ◌∙◌, subst}
+use mathlib.Core.Path.{◌≡◌, refl}
 use mathlib.Core.List.{List}
 use mathlib.Core.Bool.{Bool, true, false, cond, true≢false}
 use lib.Dec.{eqb, leb}
-use borrow.Author.Tests.{leb-true, ne_eqb}
+use Rattle.std.proofs.lemmas.Bool.Decides.{nat_tests}
+use Rattle.std.proofs.Common.{Option, Some, None, Result, Ok, Err, is_some, unwrap_or}
+use Rattle.std.specs.Bool.{then_some}
+use Rattle.std.specs.Int.{from_bool}
 use Rattle.frame.specs.Framing.{format_of as default_format}
 use Rattle.frame.specs.declared.framing.Framing.{Framing}
 use Rattle.frame.specs.declared.framing.Framing.TheVariants.{Binary as BinaryFraming, Ascii as AsciiFraming}
@@ -14,24 +17,19 @@ use Rattle.frame.specs.declared.framing.Footer.TheVariants.{Optional, Required}
 use Rattle.frame.specs.declared.framing.Ending.TheVariants.{CrLf, Any}
 use Rattle.frame.specs.declared.framing.Format.{Format}
 use Rattle.frame.specs.declared.framing.Format.TheVariants.{Binary, Ascii}
+use Rattle.frame.specs.declared.refusal.Refusal.{Refusal}
 use Rattle.reader.specs.Reader.{feed_values_of, quiet_values_of}
 use Rattle.reader.specs.declared.reader.Reader.{Reader}
 use Rattle.reader.specs.declared.answer.FeedAnswer.{FeedAnswer}
-use Rattle.reader.specs.declared.answer.FeedAnswer.TheVariants.{Frame as FeedFrame, NeedsMore, Refused as FeedRefused}
+use Rattle.reader.specs.declared.answer.FeedAnswer.TheVariants.{Frame as FeedFrame, NeedsMore}
 use Rattle.reader.specs.declared.answer.QuietAnswer.{QuietAnswer}
-use Rattle.reader.specs.declared.answer.QuietAnswer.TheVariants.{Frame as QuietFrame, Empty, Refused as QuietRefused}
+use Rattle.reader.specs.declared.answer.QuietAnswer.TheVariants.{Frame as QuietFrame, Empty}
 use Rattle.message.specs.FromModule.{outcome_byte}
-use Rattle.message.specs.Options.{byte_given, word_given}
 use Rattle.message.specs.Setup.{command_number, command_of}
-use Rattle.message.specs.declared.options.MaybeByte.{MaybeByte}
-use Rattle.message.specs.declared.options.MaybeByte.TheVariants.{NotGiven as NoByte, Given as Byte}
-use Rattle.message.specs.declared.options.MaybeWord.{MaybeWord}
-use Rattle.message.specs.declared.options.MaybeWord.TheVariants.{NotGiven as NoWord, Given as Word}
 use Rattle.message.specs.declared.options.Options.{Options}
 use Rattle.message.specs.declared.setup.SetupCommand.{SetupCommand}
 use Rattle.message.specs.declared.setup.SetupCommand.TheVariants.{EnableAck, GetInformation, GetSettings, EraseSettings, SaveSettings, Reset}
 use Rattle.message.specs.declared.setup.SetupReport.TheVariants.{Acknowledged, Information as IsInformation, SettingsFailed, SilentMode}
-use Rattle.message.specs.declared.setup.NamedCommand.TheVariants.{Known as KnownCommand}
 use Rattle.message.specs.declared.to_module.Address.{Address}
 use Rattle.message.specs.declared.to_module.Address.TheVariants.{Plain, Extended}
 use Rattle.message.specs.declared.to_module.Transmission.{Transmission}
@@ -43,92 +41,68 @@ use Rattle.message.specs.declared.from_module.Outcome.{Outcome}
 use Rattle.message.specs.declared.from_module.Outcome.TheVariants.{Failure, Success}
 use Rattle.message.specs.declared.from_module.Notice.{Notice}
 use Rattle.message.specs.declared.from_module.Notice.TheVariants.{Response as IsResponse, Standard, Remote, Setup}
-use Rattle.boundary.specs.Framing.{framing_of, format_of, format_number, unknown_number}
-use Rattle.boundary.specs.Line.{flat_values, mark_number, mark_in, flat_reader, format_in, reader_in, FeedsFlat, QuietsFlat}
+use Rattle.boundary.specs.Refusal.{unknown_number}
+use Rattle.boundary.specs.Framing.{framing_of, format_of, format_number}
+use Rattle.boundary.specs.Line.{flat_values, mark_in, flat_reader, format_in, reader_in, FeedsFlat, QuietsFlat}
 use Rattle.boundary.specs.Claims.{CrossesBack, ZeroWithoutFrame, NoneIsZero}
-use Rattle.boundary.specs.Options.{byte_of, word_of, byte_in, word_in, option_numbers, options_in}
-use Rattle.boundary.specs.ToModule.{transmission_numbers, request_numbers, setup_numbers, transmission_in, request_in}
+use Rattle.boundary.specs.Options.{option_numbers, options_in}
+use Rattle.boundary.specs.ToModule.{transmission_numbers, request_numbers, setup_numbers, request_in}
 use Rattle.boundary.specs.ToModule.{address_kind, change_refusal_in, setup_refusal_in}
-use Rattle.boundary.specs.FromModule.{delivery_numbers, response_numbers, report_numbers, notice_numbers}
-use Rattle.boundary.specs.FromModule.{delivery_in, response_in, silent_mode_in, report_in, notice_in}
-use Rattle.boundary.specs.declared.framing.NamedFraming.TheVariants.{Known as KnownFraming, Unknown as NoFraming}
-use Rattle.boundary.specs.declared.framing.NamedFormat.{NamedFormat}
-use Rattle.boundary.specs.declared.framing.NamedFormat.TheVariants.{Known as KnownFormat, Unknown as NoFormat}
+use Rattle.boundary.specs.FromModule.{delivery_numbers, notice_numbers}
+use Rattle.boundary.specs.FromModule.{delivery_in, response_in, notice_in}
+use Rattle.boundary.specs.declared.refusal.Unnamed.TheVariants.{Kind}
 use Rattle.boundary.specs.declared.line.LineReader.{LineReader}
-use Rattle.boundary.specs.declared.line.LineAnswer.{LineAnswer}
 use Rattle.boundary.specs.declared.line.LineFed.{LineFed}
-use Rattle.boundary.specs.declared.to_module.NamedRequest.TheVariants.{Known as KnownRequest}
-use Rattle.boundary.specs.declared.from_module.NamedDelivery.TheVariants.{Known as KnownDelivery, Unknown as NoDelivery}
-use Rattle.boundary.specs.declared.from_module.NamedNotice.TheVariants.{Known as KnownNotice, Unknown as NoNotice}
 
 -- Formats, framings and states.
-format : (m : Format) → format_of (format_number m) ≡ KnownFormat m
-unfolding format_of
+format : (m : Format) → format_of (format_number m) ≡ Some m
 format (Binary Optional) = refl
 format (Binary Required) = refl
 format (Ascii CrLf) = refl
 format (Ascii Any) = refl
 
-framing : (f : Framing) → framing_of (format_number (default_format f)) ≡ KnownFraming f
-unfolding framing_of
+framing : (f : Framing) → framing_of (format_number (default_format f)) ≡ Some f
 framing BinaryFraming = refl
 framing AsciiFraming = refl
 
-above : (n k : ℕ) → k < n → eqb n k ≡ false
-above n k l = ne_eqb n k (λ (e : n ≡ k). let z : ⊥ = omega arith in z)
+no_format_lem : (n : ℕ) → 3 < n → format_of n ≡ None
+no_format_lem n l = grind (arith, nat_tests)
 
-no_format_lem : (n : ℕ) → 3 < n → format_of n ≡ NoFormat
-unfolding format_of
-no_format_lem n l = rw (above n 0 (omega arith), above n 1 (omega arith), above n 2 (omega arith), above n 3 l)
+no_framing_lem : (n : ℕ) → 1 < n → framing_of n ≡ None
+no_framing_lem n l = grind (arith, nat_tests)
 
-no_framing_lem : (n : ℕ) → 1 < n → framing_of n ≡ NoFraming
-unfolding framing_of
-no_framing_lem n l = rw (above n 0 (omega arith), above n 1 l)
-
-mark : (follows : Bool) → mark_in (mark_number follows) ≡ follows
+mark : (follows : Bool) → mark_in (from_bool follows) ≡ follows
 mark true = refl
 mark false = refl
 
 reader : (r : Reader) → reader_in r.format (flat_reader r) ≡ r
 reader r = rw (mark r.follows)
 
-mark_known : (follows : Bool) → leb (mark_number follows) 1 ≡ true
+mark_known : (follows : Bool) → leb (from_bool follows) 1 ≡ true
 mark_known true = refl
 mark_known false = refl
 
-reader_format_lem : (r : Reader) → format_in (flat_reader r) ≡ KnownFormat r.format
-unfolding format_in
+reader_format_lem : (r : Reader) → format_in (flat_reader r) ≡ Some r.format
 reader_format_lem r = rw (mark_known r.follows, format r.format)
 
 -- A state that crossed: its numbers are those of what they stand for.
-format_back : (n : ℕ) (m : Format) → format_of n ≡ KnownFormat m → format_number m ≡ n
-unfolding format_of
-format_back zero m e = cc
-format_back (suc zero) m e = cc
-format_back (suc (suc zero)) m e = cc
-format_back (suc (suc (suc zero))) m e = cc
-format_back (suc (suc (suc (suc n)))) m e = cc (no_format_lem (suc (suc (suc (suc n)))) (omega arith))
+format_back : (n : ℕ) (m : Format) → format_of n ≡ Some m → format_number m ≡ n
+format_back n m e = grind (arith, nat_tests)
 
-mark_back : (n : ℕ) → leb n 1 ≡ true → mark_number (mark_in n) ≡ n
-mark_back zero e = refl
-mark_back (suc zero) e = refl
-mark_back (suc (suc n)) e = let l = leb-true (suc (suc n)) 1 e in absurd (let z : ⊥ = omega arith in z)
+mark_back : (n : ℕ) → leb n 1 ≡ true → from_bool (mark_in n) ≡ n
+mark_back n e = grind (arith, nat_tests)
 
-known_mark : (t : Bool) (x : NamedFormat) (m : Format) → cond t x NoFormat ≡ KnownFormat m → t ≡ true
-known_mark true x m e = refl
-known_mark false x m e = cc
+known : (t : Bool) (x : Option Format) (m : Format) → cond t x None ≡ Some m → (t ≡ true) × (x ≡ Some m)
+known true x m e = (refl, e)
+known false x m e = cc
 
-known_format : (t : Bool) (x : NamedFormat) (m : Format) → cond t x NoFormat ≡ KnownFormat m → x ≡ KnownFormat m
-known_format true x m e = e
-known_format false x m e = cc
-
-given_back_lem : (r : LineReader) (m : Format) → format_in r ≡ KnownFormat m → flat_reader (reader_in m r) ≡ r
-unfolding format_in
+given_back_lem : (r : LineReader) (m : Format) → format_in r ≡ Some m → flat_reader (reader_in m r) ≡ r
 given_back_lem r m e =
-    rw (format_back r.format m (known_format (leb r.follows 1) _ m e), mark_back r.follows (known_mark _ (format_of r.format) m e))
+    let k : (leb r.follows 1 ≡ true) × (format_of r.format ≡ Some m) = known _ _ m e in
+    rw (format_back r.format m k.1, mark_back r.follows k.0)
 
 -- Commands.
-setup : (c : SetupCommand) → command_of (command_number c) ≡ KnownCommand c
+setup : (c : SetupCommand) → command_of (command_number c) ≡ Some c
 unfolding command_of
 setup EnableAck = refl
 setup GetInformation = refl
@@ -141,72 +115,55 @@ setup_taken_lem : (c : SetupCommand) → setup_refusal_in (setup_numbers c) ≡ 
 setup_taken_lem c = rw (setup c)
 
 -- Options: each argument with whether it is given.
-byte : (b : MaybeByte) → byte_in (byte_given b) (byte_of b) ≡ b
-byte NoByte = refl
-byte (Byte b) = refl
-
-word : (w : MaybeWord) → word_in (word_given w) (word_of w) ≡ w
-word NoWord = refl
-word (Word v) = refl
+given : {A : Type 0} (d : A) (o : Option A) → then_some (is_some o) (unwrap_or o d) ≡ o
+given d None = refl
+given d (Some x) = refl
 
 options : (o : Options) → options_in (option_numbers o) ≡ o
-unfolding option_numbers options_in
-options o = rw (byte o.retries, word o.lower_delay, word o.upper_delay, word o.interval)
+options o = rw (given 0 o.retries, given 0 o.lower_delay, given 0 o.upper_delay, given 0 o.interval)
 
 -- Messages to the module. Of an extended one the kind is by its address.
 transmission : (a : Address) (id : ℕ) (o : Options) (start : ℕ) →
     let m : Transmission = record { address = a; response_id = id; options = o } in
-    request_in (transmission_numbers m start) ≡ KnownRequest (ExtendedRequest m)
-unfolding request_in transmission_in transmission_numbers
+    request_in (transmission_numbers m start) ≡ Some (ExtendedRequest m)
 transmission (Plain a) id o start = rw (options o)
 transmission (Extended w) id o start = rw (options o)
 
-kind_no_change : (a : Address) → eqb (address_kind a) 4 ≡ false
-kind_no_change (Plain a) = refl
-kind_no_change (Extended w) = refl
+kind_lem : (a : Address) → (eqb (address_kind a) 4 ≡ false) × (eqb (address_kind a) 6 ≡ false)
+kind_lem (Plain a) = (refl, refl)
+kind_lem (Extended w) = (refl, refl)
 
-kind_no_setup : (a : Address) → eqb (address_kind a) 6 ≡ false
-kind_no_setup (Plain a) = refl
-kind_no_setup (Extended w) = refl
-
-request : (m : Request) (start : ℕ) → request_in (request_numbers m start) ≡ KnownRequest m
-unfolding request_in request_numbers
+request : (m : Request) (start : ℕ) → request_in (request_numbers m start) ≡ Some m
 request (SimpleRequest m) start = refl
 request (ExtendedRequest m) start = transmission m.address m.response_id m.options start
 request SettingsRequest start = refl
 
 request_no_change_lem : (m : Request) (start : ℕ) → change_refusal_in (request_numbers m start) ≡ unknown_number
-unfolding request_numbers transmission_numbers
 request_no_change_lem (SimpleRequest m) start = refl
-request_no_change_lem (ExtendedRequest m) start = rw (kind_no_change m.address)
+request_no_change_lem (ExtendedRequest m) start = rw (kind_lem m.address).0
 request_no_change_lem SettingsRequest start = refl
 
 request_no_setup_lem : (m : Request) (start : ℕ) → setup_refusal_in (request_numbers m start) ≡ unknown_number
-unfolding request_numbers transmission_numbers
 request_no_setup_lem (SimpleRequest m) start = refl
-request_no_setup_lem (ExtendedRequest m) start = rw (kind_no_setup m.address)
+request_no_setup_lem (ExtendedRequest m) start = rw (kind_lem m.address).1
 request_no_setup_lem SettingsRequest start = refl
 
 -- Messages from the module.
-delivery : (m : Delivery) (start : ℕ) → delivery_in (delivery_numbers m start) ≡ KnownDelivery m
-unfolding delivery_in delivery_numbers
+delivery : (m : Delivery) (start : ℕ) → delivery_in (delivery_numbers m start) ≡ Some m
 delivery (SimpleDelivery m) start = refl
 delivery (ExtendedDelivery m) start = refl
 delivery SettingsDelivery start = refl
 
-delivery_no_notice_lem : (m : Delivery) (start : ℕ) → notice_in (delivery_numbers m start) ≡ NoNotice
-unfolding notice_in delivery_numbers
+delivery_no_notice_lem : (m : Delivery) (start : ℕ) → notice_in (delivery_numbers m start) ≡ Err Kind
 delivery_no_notice_lem (SimpleDelivery m) start = refl
 delivery_no_notice_lem (ExtendedDelivery m) start = refl
 delivery_no_notice_lem SettingsDelivery start = refl
 
-response : (id : ℕ) (o : Outcome) → response_in id (outcome_byte o) ≡ KnownNotice (IsResponse (record { id = id; outcome = o }))
-unfolding response_in
+response : (id : ℕ) (o : Outcome) → response_in id (outcome_byte o) ≡ Ok (IsResponse (record { id = id; outcome = o }))
 response id Failure = refl
 response id Success = refl
 
-notice : (m : Notice) → notice_in (notice_numbers m) ≡ KnownNotice m
-unfolding notice_in notice_numbers response_numbers silent_mode_in report_in report_numbers
+notice : (m : Notice) → notice_in (notice_numbers m) ≡ Ok m
 notice (IsResponse m) = response m.id m.outcome
 notice (Standard m) = refl
 notice (Remote m) = refl
@@ -216,8 +173,7 @@ notice (Setup SettingsFailed) = refl
 notice (Setup (SilentMode true)) = refl
 notice (Setup (SilentMode false)) = refl
 
-notice_no_delivery_lem : (m : Notice) → delivery_in (notice_numbers m) ≡ NoDelivery
-unfolding delivery_in notice_numbers response_numbers report_numbers
+notice_no_delivery_lem : (m : Notice) → delivery_in (notice_numbers m) ≡ None
 notice_no_delivery_lem (IsResponse m) = refl
 notice_no_delivery_lem (Standard m) = refl
 notice_no_delivery_lem (Remote m) = refl
@@ -227,7 +183,6 @@ notice_no_delivery_lem (Setup SettingsFailed) = refl
 notice_no_delivery_lem (Setup (SilentMode released)) = refl
 
 pub crosses_back : CrossesBack
-unfolding request_in
 crosses_back =
     record {
       format = format;
@@ -258,31 +213,31 @@ crosses_back =
     }
 
 -- The numbers of an answer without a frame.
-fed_zero : (a : FeedAnswer) → (feed_values_of a).is_frame ≡ false → ZeroWithoutFrame (flat_values (feed_values_of a))
-fed_zero (FeedFrame taken noise judged len began) e = absurd (true≢false e)
-fed_zero (NeedsMore taken noise judged) e = record { len = refl; began = refl }
-fed_zero (FeedRefused r) e = record { len = refl; began = refl }
+fed_zero : (a : Result FeedAnswer Refusal) → (feed_values_of a).is_frame ≡ false → ZeroWithoutFrame (flat_values (feed_values_of a))
+fed_zero (Ok (FeedFrame taken noise judged len began)) e = absurd (true≢false e)
+fed_zero (Ok (NeedsMore taken noise judged)) e = record { len = refl; began = refl }
+fed_zero (Err r) e = record { len = refl; began = refl }
 
-quiet_zero : (a : QuietAnswer) → (quiet_values_of a).is_frame ≡ false → ZeroWithoutFrame (flat_values (quiet_values_of a))
-quiet_zero (QuietFrame noise judged len began) e = absurd (true≢false e)
-quiet_zero (Empty noise judged) e = record { len = refl; began = refl }
-quiet_zero (QuietRefused r) e = record { len = refl; began = refl }
+quiet_zero : (a : Result QuietAnswer Refusal) → (quiet_values_of a).is_frame ≡ false → ZeroWithoutFrame (flat_values (quiet_values_of a))
+quiet_zero (Ok (QuietFrame noise judged len began)) e = absurd (true≢false e)
+quiet_zero (Ok (Empty noise judged)) e = record { len = refl; began = refl }
+quiet_zero (Err r) e = record { len = refl; began = refl }
 
 -- They are what crosses.
-zero_crosses : {a b : LineAnswer} → a ≡ b → (b.is_frame ≡ false → ZeroWithoutFrame b) → a.is_frame ≡ false → ZeroWithoutFrame a
-zero_crosses e none n = subst ZeroWithoutFrame (sym e) (none (ap (λ (x : LineAnswer). x.is_frame) (sym e) ∙ n))
+zero_crosses : {a b : LineFed} → a ≡ b → (b.answer.is_frame ≡ false → ZeroWithoutFrame b.answer) → a.answer.is_frame ≡ false → ZeroWithoutFrame a.answer
+zero_crosses e none = rw e none
 
 at_line_lem :
-    (m : NamedFormat) (r : LineReader) (chunk buf : List ℕ) (fed : LineFed) (after : List ℕ) → FeedsFlat m r chunk buf fed after →
+    (m : Option Format) (r : LineReader) (chunk buf : List ℕ) (fed : LineFed) (after : List ℕ) → FeedsFlat m r chunk buf fed after →
     fed.answer.is_frame ≡ false → ZeroWithoutFrame fed.answer
-at_line_lem (KnownFormat f) r chunk buf fed after p = zero_crosses (ap (λ (x : LineFed). x.answer) p.crosses) (fed_zero p.answer.answer)
-at_line_lem NoFormat r chunk buf fed after p = zero_crosses (ap (λ (x : LineFed). x.answer) p.refuses) (λ _. record { len = refl; began = refl })
+at_line_lem (Some f) r chunk buf fed after p = zero_crosses p.crosses (fed_zero p.answer.answer)
+at_line_lem None r chunk buf fed after p = zero_crosses p.refuses (λ _. record { len = refl; began = refl })
 
 at_quiet_lem :
-    (m : NamedFormat) (r : LineReader) (buf : List ℕ) (fed : LineFed) (after : List ℕ) → QuietsFlat m r buf fed after →
+    (m : Option Format) (r : LineReader) (buf : List ℕ) (fed : LineFed) (after : List ℕ) → QuietsFlat m r buf fed after →
     fed.answer.is_frame ≡ false → ZeroWithoutFrame fed.answer
-at_quiet_lem (KnownFormat f) r buf fed after p = zero_crosses (ap (λ (x : LineFed). x.answer) p.crosses) (quiet_zero p.answer.answer)
-at_quiet_lem NoFormat r buf fed after p = zero_crosses (ap (λ (x : LineFed). x.answer) p.refuses) (λ _. record { len = refl; began = refl })
+at_quiet_lem (Some f) r buf fed after p = zero_crosses p.crosses (quiet_zero p.answer.answer)
+at_quiet_lem None r buf fed after p = zero_crosses p.refuses (λ _. record { len = refl; began = refl })
 
 pub none_is_zero : NoneIsZero
 none_is_zero = record { at_line = at_line_lem; at_quiet = at_quiet_lem }

@@ -1,6 +1,7 @@
 -- Messages from the module as numbers. The kinds: 0 a refusal, 1 simple, 2 extended, 3 a response, 4 a standard status, 5 a remote status, 6 a settings
 -- list, 7 a report of the module on itself, by its command. A field that a kind does not have is 0 in reading and is not looked at in writing.
-use Rattle.std.specs.Prelude.{ℕ, List, [], true, false, cond, eqb}
+use Rattle.std.specs.Prelude.{ℕ, List, [], true, false, cond, eqb, Option, Some, None, Result, Ok, Err}
+use Rattle.frame.specs.declared.framing.Framing.{Framing}
 use Rattle.message.specs.Meaning.{Meaning, refused, carrying, bare}
 use Rattle.message.specs.FromModule.{outcome_byte, delivery_refusal, delivery_layout, notice_refusal, notice_layout}
 use Rattle.message.specs.Setup.{state_byte}
@@ -17,18 +18,15 @@ use Rattle.message.specs.declared.from_module.Outcome.TheVariants.{Failure, Succ
 use Rattle.message.specs.declared.from_module.Response.{Response}
 use Rattle.message.specs.declared.from_module.Notice.{Notice}
 use Rattle.message.specs.declared.from_module.Notice.TheVariants.{Response as IsResponse, Standard, Remote, Setup}
-use Rattle.boundary.specs.Framing.{unknown_number}
+use Rattle.boundary.specs.Refusal.{unknown_number, unnamed_number}
 use Rattle.boundary.specs.Single.{WritesFlat}
 use Rattle.boundary.specs.Status.{no_status, standard_part, remote_part, standard_in, remote_in}
-use Rattle.boundary.specs.declared.framing.NamedFraming.{NamedFraming}
+use Rattle.boundary.specs.declared.refusal.Unnamed.{Unnamed}
+use Rattle.boundary.specs.declared.refusal.Unnamed.TheVariants.{Kind, Command, Flag}
 use Rattle.boundary.specs.declared.single.FlatWriting.{FlatWriting}
 use Rattle.boundary.specs.declared.status.StatusNumbers.{StatusNumbers}
 use Rattle.boundary.specs.declared.from_module.InformationNumbers.{InformationNumbers}
 use Rattle.boundary.specs.declared.from_module.FromModuleNumbers.{FromModuleNumbers}
-use Rattle.boundary.specs.declared.from_module.NamedDelivery.{NamedDelivery}
-use Rattle.boundary.specs.declared.from_module.NamedDelivery.TheVariants.{Known, Unknown}
-use Rattle.boundary.specs.declared.from_module.NamedNotice.{NamedNotice}
-use Rattle.boundary.specs.declared.from_module.NamedNotice.TheVariants.{Known as KnownNotice, BadResult, BadCommand, Unknown as NoNotice}
 
 -- The information of F1 as numbers; of a message that has none; and what the numbers stand for.
 abbrev pub information_numbers : Information → InformationNumbers
@@ -56,12 +54,12 @@ information_in n =
       network = n.network;
     }
 
--- A refusal: its number with zeros beside it.
-abbrev pub refused_from : ℕ → FromModuleNumbers
-refused_from n =
+-- No message: zeros alone.
+abbrev pub no_message : FromModuleNumbers
+no_message =
     record {
       kind = 0;
-      refusal = n;
+      refusal = 0;
       address = 0;
       command = 0;
       response_id = 0;
@@ -74,96 +72,39 @@ refused_from n =
       start = 0;
     }
 
--- The numbers of each message.
+-- A refusal: its number with zeros beside it.
+abbrev pub refused_from : ℕ → FromModuleNumbers
+refused_from n = record no_message { refusal = n }
+
+-- The numbers of each message, with zeros beside them.
 abbrev pub simple_numbers : Simple → ℕ → FromModuleNumbers
-simple_numbers m start =
-    record {
-      kind = 1;
-      refusal = 0;
-      address = m.address;
-      command = m.command;
-      response_id = 0;
-      result = 0;
-      lqi = 0;
-      source = 0;
-      destination = 0;
-      status = no_status;
-      information = no_information;
-      start = start;
-    }
+simple_numbers m start = record no_message { kind = 1; address = m.address; command = m.command; start = start }
 
 abbrev pub reception_numbers : Reception → ℕ → FromModuleNumbers
 reception_numbers m start =
-    record {
+    record no_message {
       kind = 2;
-      refusal = 0;
       address = m.sender;
-      command = 0;
       response_id = m.response_id;
-      result = 0;
       lqi = m.lqi;
       source = m.source;
       destination = m.destination;
-      status = no_status;
-      information = no_information;
       start = start;
     }
 
 abbrev pub list_numbers : ℕ → FromModuleNumbers
-list_numbers start =
-    record {
-      kind = 6;
-      refusal = 0;
-      address = 0;
-      command = 0;
-      response_id = 0;
-      result = 0;
-      lqi = 0;
-      source = 0;
-      destination = 0;
-      status = no_status;
-      information = no_information;
-      start = start;
-    }
+list_numbers start = record no_message { kind = 6; start = start }
 
-unfoldable pub delivery_numbers : Delivery → ℕ → FromModuleNumbers
+abbrev pub delivery_numbers : Delivery → ℕ → FromModuleNumbers
 delivery_numbers (SimpleDelivery m) start = simple_numbers m start
 delivery_numbers (ExtendedDelivery m) start = reception_numbers m start
 delivery_numbers Settings start = list_numbers start
 
-unfoldable pub response_numbers : Response → FromModuleNumbers
-response_numbers m =
-    record {
-      kind = 3;
-      refusal = 0;
-      address = 0;
-      command = 0;
-      response_id = m.id;
-      result = outcome_byte m.outcome;
-      lqi = 0;
-      source = 0;
-      destination = 0;
-      status = no_status;
-      information = no_information;
-      start = 0;
-    }
+abbrev pub response_numbers : Response → FromModuleNumbers
+response_numbers m = record no_message { kind = 3; response_id = m.id; result = outcome_byte m.outcome }
 
 abbrev pub status_numbers : ℕ → ℕ → ℕ → StatusNumbers → FromModuleNumbers
-status_numbers kind sender lqi status =
-    record {
-      kind = kind;
-      refusal = 0;
-      address = sender;
-      command = 0;
-      response_id = 0;
-      result = 0;
-      lqi = lqi;
-      source = 0;
-      destination = 0;
-      status = status;
-      information = no_information;
-      start = 0;
-    }
+status_numbers kind sender lqi status = record no_message { kind = kind; address = sender; lqi = lqi; status = status }
 
 abbrev pub standard_numbers : StandardStatus → FromModuleNumbers
 standard_numbers m = status_numbers 4 m.sender m.lqi (standard_part m)
@@ -172,46 +113,32 @@ abbrev pub remote_numbers : RemoteStatus → FromModuleNumbers
 remote_numbers m = status_numbers 5 m.sender m.lqi (remote_part m)
 
 abbrev pub own_numbers : ℕ → ℕ → InformationNumbers → FromModuleNumbers
-own_numbers command result information =
-    record {
-      kind = 7;
-      refusal = 0;
-      address = 0;
-      command = command;
-      response_id = 0;
-      result = result;
-      lqi = 0;
-      source = 0;
-      destination = 0;
-      status = no_status;
-      information = information;
-      start = 0;
-    }
+own_numbers command result information = record no_message { kind = 7; command = command; result = result; information = information }
 
-unfoldable pub report_numbers : SetupReport → FromModuleNumbers
+abbrev pub report_numbers : SetupReport → FromModuleNumbers
 report_numbers Acknowledged = own_numbers 0xF0 0 no_information
 report_numbers (IsInformation m) = own_numbers 0xF1 0 (information_numbers m)
 report_numbers SettingsFailed = own_numbers 0xF3 0 no_information
 report_numbers (SilentMode released) = own_numbers 0xF8 (state_byte released) no_information
 
-unfoldable pub notice_numbers : Notice → FromModuleNumbers
+abbrev pub notice_numbers : Notice → FromModuleNumbers
 notice_numbers (IsResponse m) = response_numbers m
 notice_numbers (Standard m) = standard_numbers m
 notice_numbers (Remote m) = remote_numbers m
 notice_numbers (Setup m) = report_numbers m
 
 -- The numbers of what a payload means.
-unfoldable pub from_module_numbers : Meaning Delivery Notice → FromModuleNumbers
+abbrev pub from_module_numbers : Meaning Delivery Notice → FromModuleNumbers
 from_module_numbers (refused n) = refused_from n
 from_module_numbers (carrying m start) = delivery_numbers m start
 from_module_numbers (bare m) = notice_numbers m
 
 -- The message that numbers stand for.
-unfoldable pub delivery_in : FromModuleNumbers → NamedDelivery
+abbrev pub delivery_in : FromModuleNumbers → Option Delivery
 delivery_in n =
-    cond (eqb n.kind 1) (Known (SimpleDelivery (record { address = n.address; command = n.command })))
+    cond (eqb n.kind 1) (Some (SimpleDelivery (record { address = n.address; command = n.command })))
     (cond (eqb n.kind 2)
-    (Known
+    (Some
     (ExtendedDelivery
     (record {
       sender = n.address;
@@ -220,56 +147,51 @@ delivery_in n =
       destination = n.destination;
       lqi = n.lqi;
     })))
-    (cond (eqb n.kind 6) (Known Settings) Unknown))
+    (cond (eqb n.kind 6) (Some Settings) None))
 
-unfoldable pub response_in : ℕ → ℕ → NamedNotice
+abbrev pub response_in : ℕ → ℕ → Result Notice Unnamed
 response_in id result =
-    cond (eqb result 0) (KnownNotice (IsResponse (record { id = id; outcome = Failure })))
-    (cond (eqb result 1) (KnownNotice (IsResponse (record { id = id; outcome = Success }))) BadResult)
+    cond (eqb result 0) (Ok (IsResponse (record { id = id; outcome = Failure })))
+    (cond (eqb result 1) (Ok (IsResponse (record { id = id; outcome = Success }))) (Err Flag))
 
-unfoldable pub silent_mode_in : ℕ → NamedNotice
+abbrev pub silent_mode_in : ℕ → Result Notice Unnamed
 silent_mode_in result =
-    cond (eqb result 0) (KnownNotice (Setup (SilentMode false)))
-    (cond (eqb result 1) (KnownNotice (Setup (SilentMode true))) BadResult)
+    cond (eqb result 0) (Ok (Setup (SilentMode false)))
+    (cond (eqb result 1) (Ok (Setup (SilentMode true))) (Err Flag))
 
-unfoldable pub report_in : ℕ → ℕ → InformationNumbers → NamedNotice
+abbrev pub report_in : ℕ → ℕ → InformationNumbers → Result Notice Unnamed
 report_in command result information =
-    cond (eqb command 0xF0) (KnownNotice (Setup Acknowledged))
-    (cond (eqb command 0xF1) (KnownNotice (Setup (IsInformation (information_in information))))
-    (cond (eqb command 0xF3) (KnownNotice (Setup SettingsFailed)) (cond (eqb command 0xF8) (silent_mode_in result) BadCommand)))
+    cond (eqb command 0xF0) (Ok (Setup Acknowledged))
+    (cond (eqb command 0xF1) (Ok (Setup (IsInformation (information_in information))))
+    (cond (eqb command 0xF3) (Ok (Setup SettingsFailed)) (cond (eqb command 0xF8) (silent_mode_in result) (Err Command))))
 
-unfoldable pub notice_in : FromModuleNumbers → NamedNotice
+abbrev pub notice_in : FromModuleNumbers → Result Notice Unnamed
 notice_in n =
     cond (eqb n.kind 3) (response_in n.response_id n.result)
-    (cond (eqb n.kind 4) (KnownNotice (Standard (standard_in n.address n.lqi n.status)))
-    (cond (eqb n.kind 5) (KnownNotice (Remote (remote_in n.address n.lqi n.status)))
-    (cond (eqb n.kind 7) (report_in n.command n.result n.information) NoNotice)))
+    (cond (eqb n.kind 4) (Ok (Standard (standard_in n.address n.lqi n.status)))
+    (cond (eqb n.kind 5) (Ok (Remote (remote_in n.address n.lqi n.status)))
+    (cond (eqb n.kind 7) (report_in n.command n.result n.information) (Err Kind))))
 
--- Why they are not written, 0 for no reason, and the payload. A result that is neither 0 nor 1 is document 01's refusal 11, a number that names no command
--- its refusal 9.
-abbrev pub delivery_refusal_in : NamedDelivery → List ℕ → ℕ
-delivery_refusal_in (Known d) dat = delivery_refusal d dat
-delivery_refusal_in Unknown dat = unknown_number
+-- Why they are not written, 0 for no reason, and the payload.
+abbrev pub delivery_refusal_in : Option Delivery → List ℕ → ℕ
+delivery_refusal_in (Some d) dat = delivery_refusal d dat
+delivery_refusal_in None dat = unknown_number
 
-abbrev pub delivery_layout_in : NamedDelivery → List ℕ → List ℕ
-delivery_layout_in (Known d) dat = delivery_layout d dat
-delivery_layout_in Unknown dat = []
+abbrev pub delivery_layout_in : Option Delivery → List ℕ → List ℕ
+delivery_layout_in (Some d) dat = delivery_layout d dat
+delivery_layout_in None dat = []
 
-abbrev pub notice_refusal_in : NamedNotice → ℕ
-notice_refusal_in (KnownNotice m) = notice_refusal m
-notice_refusal_in BadResult = 11
-notice_refusal_in BadCommand = 9
-notice_refusal_in NoNotice = unknown_number
+abbrev pub notice_refusal_in : Result Notice Unnamed → ℕ
+notice_refusal_in (Ok m) = notice_refusal m
+notice_refusal_in (Err e) = unnamed_number e
 
-abbrev pub notice_layout_in : NamedNotice → List ℕ
-notice_layout_in (KnownNotice m) = notice_layout m
-notice_layout_in BadResult = []
-notice_layout_in BadCommand = []
-notice_layout_in NoNotice = []
+abbrev pub notice_layout_in : Result Notice Unnamed → List ℕ
+notice_layout_in (Ok m) = notice_layout m
+notice_layout_in (Err e) = []
 
 -- The promise of a write of such a message into buf, which then holds `after`.
-abbrev pub WritesDelivery : NamedFraming → NamedDelivery → List ℕ → List ℕ → FlatWriting → List ℕ → Type 0
+abbrev pub WritesDelivery : Option Framing → Option Delivery → List ℕ → List ℕ → FlatWriting → List ℕ → Type 0
 WritesDelivery f d dat buf answer after = WritesFlat f (delivery_refusal_in d dat) (delivery_layout_in d dat) buf answer after
 
-abbrev pub WritesNotice : NamedFraming → NamedNotice → List ℕ → FlatWriting → List ℕ → Type 0
+abbrev pub WritesNotice : Option Framing → Result Notice Unnamed → List ℕ → FlatWriting → List ℕ → Type 0
 WritesNotice f m buf answer after = WritesFlat f (notice_refusal_in m) (notice_layout_in m) buf answer after

@@ -1,5 +1,6 @@
 -- What a caller across the boundary has to believe: how numbers and flat structs stand for the values of the crates below, and what each call promises.
--- The values of the crates frame and reader, and their calls.
+-- Numbers that stand for nothing; the values of the crates frame and reader, and their calls.
+pub mod Refusal
 pub mod Framing
 pub mod Single
 pub mod Line

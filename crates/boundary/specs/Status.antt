@@ -30,7 +30,7 @@ no_status =
 -- The numbers of a status beside its sender and its LQI.
 abbrev pub standard_part : StandardStatus → StatusNumbers
 standard_part s =
-    record {
+    record no_status {
       identifier = s.identifier;
       serial = s.serial;
       destination = s.destination;
@@ -45,28 +45,16 @@ standard_part s =
       ad3 = s.ad3;
       ad4 = s.ad4;
       correction = s.correction;
-      signals = 0;
-      mask = 0;
-      interrupts = 0;
     }
 
 abbrev pub remote_part : RemoteStatus → StatusNumbers
 remote_part s =
-    record {
-      identifier = 0;
+    record no_status {
       serial = s.serial;
       destination = s.destination;
       time = s.time;
       relays = s.relays;
-      supply = 0;
       unused = s.unused;
-      di = 0;
-      di_changed = 0;
-      ad1 = 0;
-      ad2 = 0;
-      ad3 = 0;
-      ad4 = 0;
-      correction = 0;
       signals = s.signals;
       mask = s.mask;
       interrupts = s.interrupts;

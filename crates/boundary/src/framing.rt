@@ -6,38 +6,26 @@ ghost use Rattle.boundary.specs.Framing.{framing_of, format_of, format_number};
 use frame::{Ending, Footer, Format, Framing};
 
 // The framing that a number stands for, if any.
-#[derive(Drop)]
-pub(crate) enum NamedFraming {
-    Known(Framing),
-    Unknown,
-}
-
-// The format that a number stands for, if any.
-#[derive(Drop)]
-pub(crate) enum NamedFormat {
-    Known(Format),
-    Unknown,
-}
-
-pub(crate) fn framing_of(number: u8) -> NamedFraming
+pub(crate) fn framing_of(number: u8) -> Option<Framing>
     ensures { result ≡ framing_of number }
 {
     match number {
-        0 => NamedFraming::Known(Framing::Binary),
-        1 => NamedFraming::Known(Framing::Ascii),
-        _ => NamedFraming::Unknown,
+        0 => Some(Framing::Binary),
+        1 => Some(Framing::Ascii),
+        2.. => None,
     }
 }
 
-pub(crate) fn format_of(number: u8) -> NamedFormat
+// The format that a number stands for, if any.
+pub(crate) fn format_of(number: u8) -> Option<Format>
     ensures { result ≡ format_of number }
 {
     match number {
-        0 => NamedFormat::Known(Format::Binary(Footer::Optional)),
-        1 => NamedFormat::Known(Format::Ascii(Ending::CrLf)),
-        2 => NamedFormat::Known(Format::Binary(Footer::Required)),
-        3 => NamedFormat::Known(Format::Ascii(Ending::Any)),
-        _ => NamedFormat::Unknown,
+        0 => Some(Format::Binary(Footer::Optional)),
+        1 => Some(Format::Ascii(Ending::CrLf)),
+        2 => Some(Format::Binary(Footer::Required)),
+        3 => Some(Format::Ascii(Ending::Any)),
+        _ => None,
     }
 }
 
@@ -45,13 +33,9 @@ pub(crate) fn format_number(format: Format) -> u8
     ensures { result ≡ format_number format }
 {
     match format {
-        Format::Binary(footer) => match footer {
-            Footer::Optional => 0,
-            Footer::Required => 2,
-        },
-        Format::Ascii(ending) => match ending {
-            Ending::CrLf => 1,
-            Ending::Any => 3,
-        },
+        Format::Binary(Footer::Optional) => 0,
+        Format::Ascii(Ending::CrLf) => 1,
+        Format::Binary(Footer::Required) => 2,
+        Format::Ascii(Ending::Any) => 3,
     }
 }

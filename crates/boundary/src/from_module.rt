@@ -1,24 +1,23 @@
 // Messages from the module as numbers.
 ghost use Rattle.std.specs.Prelude.{◌≡◌};
-ghost use Rattle.message.specs.Setup.{state_byte};
-ghost use Rattle.message.specs.FromModule.{from_module_of, read_from_module, outcome_byte};
+ghost use Rattle.message.specs.FromModule.{from_module_of, read_from_module};
 ghost use Rattle.boundary.specs.Framing.{framing_of};
-ghost use Rattle.boundary.specs.FromModule.{delivery_numbers, response_numbers, standard_numbers, remote_numbers, report_numbers};
-ghost use Rattle.boundary.specs.FromModule.{notice_numbers, from_module_numbers, delivery_in, response_in, information_in, silent_mode_in, report_in, notice_in};
+ghost use Rattle.boundary.specs.FromModule.{information_numbers, delivery_numbers, report_numbers};
+ghost use Rattle.boundary.specs.FromModule.{notice_numbers, from_module_numbers, delivery_in, information_in, response_in, report_in, notice_in};
 ghost use Rattle.boundary.specs.FromModule.{WritesDelivery, WritesNotice};
 
-use crate::framing::{NamedFraming, framing_of};
-use crate::single::{FlatWriting, unwritten};
-use crate::status::{NO_STATUS, StatusNumbers, remote_in, standard_in};
-use crate::written::written_of;
+use crate::framing::framing_of;
+use crate::refusal::Unnamed;
+use crate::single::{FlatWriting, flat_writing};
+use crate::status::{StatusNumbers, remote_in, standard_in};
 use message::{
-    Delivery, FromModule, Information, Notice, Outcome, Reception, RemoteStatus, Response,
-    SetupReport, Simple, StandardStatus,
+    Delivery, FromModule, Information, Notice, Outcome, Reception, Refusal, Response, SetupReport,
+    Simple,
 };
 
 // The information of F1, its fields as in `message::Information`.
 #[repr(C)]
-#[derive(Clone, Copy)]
+#[derive(Clone, Copy, Default)]
 pub struct InformationNumbers {
     pub application: u32,
     pub version: u32,
@@ -28,15 +27,35 @@ pub struct InformationNumbers {
     pub network: u8,
 }
 
-// Of a message that has none.
-const NO_INFORMATION: InformationNumbers = InformationNumbers {
-    application: 0,
-    version: 0,
-    device: 0,
-    serial: 0,
-    silent: 0,
-    network: 0,
-};
+impl From<Information> for InformationNumbers {
+    ghost from_gives = { λ information numbers. numbers ≡ information_numbers information };
+
+    fn from(m: Information) -> InformationNumbers {
+        InformationNumbers {
+            application: m.application,
+            version: m.version,
+            device: m.device,
+            serial: m.serial,
+            silent: m.silent,
+            network: m.network,
+        }
+    }
+}
+
+impl From<InformationNumbers> for Information {
+    ghost from_gives = { λ numbers information. information ≡ information_in numbers };
+
+    fn from(n: InformationNumbers) -> Information {
+        Information {
+            application: n.application,
+            version: n.version,
+            device: n.device,
+            serial: n.serial,
+            silent: n.silent,
+            network: n.network,
+        }
+    }
+}
 
 // A message from the module. `kind` is 0 for a refusal, 1 for a simple message, 2 for an extended one, 3 for a response, 4 for a standard status, 5 for a
 // remote status, 6 for a settings list, which is the data, 7 for a report of the module on itself. `address` is the sender's, `response_id` also a
@@ -44,8 +63,9 @@ const NO_INFORMATION: InformationNumbers = InformationNumbers {
 // `information`, F3 that settings were not applied, F8 the state of silent mode. `result` is a response's, 1 success and 0 failure, or F8's state, 1 released
 // and 0 not. Fields that the kind, or the report, does not have are 0 in an answer, and are not looked at in a write; `refusal` and `start`, the index at
 // which the data begin, belong to answers alone.
+// Kept: the kind, the report and the result are numbers, and one struct has the fields of every kind, since this is the C interface.
 #[repr(C)]
-#[derive(Clone, Copy)]
+#[derive(Clone, Copy, Default)]
 pub struct FromModuleNumbers {
     pub kind: u8,
     pub refusal: u8,
@@ -61,49 +81,6 @@ pub struct FromModuleNumbers {
     pub start: usize,
 }
 
-// All fields 0.
-const NO_MESSAGE: FromModuleNumbers = FromModuleNumbers {
-    kind: 0,
-    refusal: 0,
-    address: 0,
-    command: 0,
-    response_id: 0,
-    result: 0,
-    lqi: 0,
-    source: 0,
-    destination: 0,
-    status: NO_STATUS,
-    information: NO_INFORMATION,
-    start: 0,
-};
-
-// The message with data that numbers stand for, if any.
-#[derive(Drop)]
-pub(crate) enum NamedDelivery {
-    Known(Delivery),
-    Unknown,
-}
-
-// The message without data that numbers stand for, if any.
-#[derive(Drop)]
-pub(crate) enum NamedNotice {
-    Known(Notice),
-    // A response, or a state of silent mode, whose result is neither 0 nor 1.
-    BadResult,
-    // A report whose number names no command.
-    BadCommand,
-    Unknown,
-}
-
-fn outcome_number(outcome: Outcome) -> u8
-    ensures { result ≡ outcome_byte outcome }
-{
-    match outcome {
-        Outcome::Failure => 0,
-        Outcome::Success => 1,
-    }
-}
-
 fn delivery_numbers(delivery: Delivery, start: usize) -> FromModuleNumbers
     ensures { result ≡ delivery_numbers delivery start }
 {
@@ -112,8 +89,8 @@ fn delivery_numbers(delivery: Delivery, start: usize) -> FromModuleNumbers
             kind: 1,
             address: m.address,
             command: m.command,
-            start: start,
-            ..NO_MESSAGE
+            start,
+            ..FromModuleNumbers::default()
         },
         Delivery::Extended(m) => FromModuleNumbers {
             kind: 2,
@@ -122,120 +99,42 @@ fn delivery_numbers(delivery: Delivery, start: usize) -> FromModuleNumbers
             lqi: m.lqi,
             source: m.source,
             destination: m.destination,
-            start: start,
-            ..NO_MESSAGE
+            start,
+            ..FromModuleNumbers::default()
         },
         Delivery::Settings => FromModuleNumbers {
             kind: 6,
-            start: start,
-            ..NO_MESSAGE
+            start,
+            ..FromModuleNumbers::default()
         },
     }
-}
-
-fn response_numbers(m: Response) -> FromModuleNumbers
-    ensures { result ≡ response_numbers m }
-{
-    let outcome = m.outcome;
-    FromModuleNumbers {
-        kind: 3,
-        response_id: m.id,
-        result: outcome_number(outcome),
-        ..NO_MESSAGE
-    }
-}
-
-fn standard_numbers(s: StandardStatus) -> FromModuleNumbers
-    ensures { result ≡ standard_numbers s }
-{
-    FromModuleNumbers {
-        kind: 4,
-        address: s.sender,
-        lqi: s.lqi,
-        status: StatusNumbers {
-            identifier: s.identifier,
-            serial: s.serial,
-            destination: s.destination,
-            time: s.time,
-            relays: s.relays,
-            supply: s.supply,
-            unused: s.unused,
-            di: s.di,
-            di_changed: s.di_changed,
-            ad1: s.ad1,
-            ad2: s.ad2,
-            ad3: s.ad3,
-            ad4: s.ad4,
-            correction: s.correction,
-            ..NO_STATUS
-        },
-        ..NO_MESSAGE
-    }
-}
-
-fn remote_numbers(s: RemoteStatus) -> FromModuleNumbers
-    ensures { result ≡ remote_numbers s }
-{
-    FromModuleNumbers {
-        kind: 5,
-        address: s.sender,
-        lqi: s.lqi,
-        status: StatusNumbers {
-            serial: s.serial,
-            destination: s.destination,
-            time: s.time,
-            relays: s.relays,
-            unused: s.unused,
-            signals: s.signals,
-            mask: s.mask,
-            interrupts: s.interrupts,
-            ..NO_STATUS
-        },
-        ..NO_MESSAGE
-    }
-}
-
-fn state_number(released: bool) -> u8
-    ensures { result ≡ state_byte released }
-{
-    if released {
-        return 1;
-    }
-    0
 }
 
 fn report_numbers(report: SetupReport) -> FromModuleNumbers
     ensures { result ≡ report_numbers report }
 {
+    let own = FromModuleNumbers {
+        kind: 7,
+        ..FromModuleNumbers::default()
+    };
     match report {
         SetupReport::Acknowledged => FromModuleNumbers {
-            kind: 7,
             command: 0xF0,
-            ..NO_MESSAGE
+            ..own
         },
         SetupReport::Information(m) => FromModuleNumbers {
-            kind: 7,
             command: 0xF1,
-            information: InformationNumbers {
-                application: m.application,
-                version: m.version,
-                device: m.device,
-                serial: m.serial,
-                silent: m.silent,
-                network: m.network,
-            },
-            ..NO_MESSAGE
+            information: InformationNumbers::from(m),
+            ..own
         },
         SetupReport::SettingsFailed => FromModuleNumbers {
-            kind: 7,
             command: 0xF3,
-            ..NO_MESSAGE
+            ..own
         },
         SetupReport::SilentMode { released } => FromModuleNumbers {
-            kind: 7,
             command: 0xF8,
-            result: state_number(released),
-            ..NO_MESSAGE
+            result: u8::from(released),
+            ..own
         },
     }
 }
@@ -244,125 +143,104 @@ fn notice_numbers(notice: Notice) -> FromModuleNumbers
     ensures { result ≡ notice_numbers notice }
 {
     match notice {
-        Notice::Response(m) => response_numbers(m),
-        Notice::Standard(m) => standard_numbers(m),
-        Notice::Remote(m) => remote_numbers(m),
+        Notice::Response(m) => FromModuleNumbers {
+            kind: 3,
+            response_id: m.id,
+            result: m.outcome as u8,
+            ..FromModuleNumbers::default()
+        },
+        Notice::Standard(m) => FromModuleNumbers {
+            kind: 4,
+            address: m.sender,
+            lqi: m.lqi,
+            status: StatusNumbers::from(m),
+            ..FromModuleNumbers::default()
+        },
+        Notice::Remote(m) => FromModuleNumbers {
+            kind: 5,
+            address: m.sender,
+            lqi: m.lqi,
+            status: StatusNumbers::from(m),
+            ..FromModuleNumbers::default()
+        },
         Notice::Setup(m) => report_numbers(m),
     }
 }
 
-fn from_module_numbers(answer: FromModule) -> FromModuleNumbers
+fn from_module_numbers(answer: Result<FromModule, Refusal>) -> FromModuleNumbers
     ensures { result ≡ from_module_numbers (from_module_of answer) }
 {
     match answer {
-        FromModule::Delivery { delivery, start } => delivery_numbers(delivery, start),
-        FromModule::Notice(notice) => notice_numbers(notice),
-        FromModule::Refused(refusal) => FromModuleNumbers {
+        Ok(FromModule::Delivery { delivery, start }) => delivery_numbers(delivery, start),
+        Ok(FromModule::Notice(notice)) => notice_numbers(notice),
+        Err(refusal) => FromModuleNumbers {
             refusal: refusal.number(),
-            ..NO_MESSAGE
+            ..FromModuleNumbers::default()
         },
     }
 }
 
-fn delivery_in(n: FromModuleNumbers) -> NamedDelivery
+// The message with data that numbers stand for, if any.
+fn delivery_in(n: FromModuleNumbers) -> Option<Delivery>
     ensures { result ≡ delivery_in n }
 {
-    if n.kind == 1 {
-        return NamedDelivery::Known(Delivery::Simple(Simple {
+    match n.kind {
+        1 => Some(Delivery::Simple(Simple {
             address: n.address,
             command: n.command,
-        }));
-    }
-    if n.kind == 2 {
-        return NamedDelivery::Known(Delivery::Extended(Reception {
+        })),
+        2 => Some(Delivery::Extended(Reception {
             sender: n.address,
             response_id: n.response_id,
             source: n.source,
             destination: n.destination,
             lqi: n.lqi,
-        }));
+        })),
+        6 => Some(Delivery::Settings),
+        _ => None,
     }
-    if n.kind == 6 {
-        return NamedDelivery::Known(Delivery::Settings);
-    }
-    NamedDelivery::Unknown
 }
 
-fn response_in(id: u8, res: u8) -> NamedNotice
-    ensures { result ≡ response_in id res }
+fn response_in(n: FromModuleNumbers) -> Result<Notice, Unnamed>
+    ensures { result ≡ response_in n.response_id n.result }
 {
-    if res == 0 {
-        return NamedNotice::Known(Notice::Response(Response {
-            id: id,
-            outcome: Outcome::Failure,
-        }));
-    }
-    if res == 1 {
-        return NamedNotice::Known(Notice::Response(Response {
-            id: id,
-            outcome: Outcome::Success,
-        }));
-    }
-    NamedNotice::BadResult
+    let outcome = match n.result {
+        0 => Outcome::Failure,
+        1 => Outcome::Success,
+        _ => return Err(Unnamed::Flag),
+    };
+    Ok(Notice::Response(Response {
+        id: n.response_id,
+        outcome,
+    }))
 }
 
-fn information_in(n: InformationNumbers) -> Information
-    ensures { result ≡ information_in n }
+fn report_in(n: FromModuleNumbers) -> Result<Notice, Unnamed>
+    ensures { result ≡ report_in n.command n.result n.information }
 {
-    Information {
-        application: n.application,
-        version: n.version,
-        device: n.device,
-        serial: n.serial,
-        silent: n.silent,
-        network: n.network,
-    }
+    let report = match (n.command, n.result) {
+        (0xF0, _) => SetupReport::Acknowledged,
+        (0xF1, _) => SetupReport::Information(Information::from(n.information)),
+        (0xF3, _) => SetupReport::SettingsFailed,
+        (0xF8, 0) => SetupReport::SilentMode { released: false },
+        (0xF8, 1) => SetupReport::SilentMode { released: true },
+        (0xF8, _) => return Err(Unnamed::Flag),
+        _ => return Err(Unnamed::Command),
+    };
+    Ok(Notice::Setup(report))
 }
 
-fn silent_mode_in(res: u8) -> NamedNotice
-    ensures { result ≡ silent_mode_in res }
-{
-    if res == 0 {
-        return NamedNotice::Known(Notice::Setup(SetupReport::SilentMode { released: false }));
-    }
-    if res == 1 {
-        return NamedNotice::Known(Notice::Setup(SetupReport::SilentMode { released: true }));
-    }
-    NamedNotice::BadResult
-}
-
-fn report_in(command: u8, res: u8, information: InformationNumbers) -> NamedNotice
-    ensures { result ≡ report_in command res information }
-{
-    match command {
-        0xF0 => NamedNotice::Known(Notice::Setup(SetupReport::Acknowledged)),
-        0xF1 => NamedNotice::Known(Notice::Setup(SetupReport::Information(information_in(
-            information,
-        )))),
-        0xF3 => NamedNotice::Known(Notice::Setup(SetupReport::SettingsFailed)),
-        0xF8 => silent_mode_in(res),
-        _ => NamedNotice::BadCommand,
-    }
-}
-
-fn notice_in(n: FromModuleNumbers) -> NamedNotice
+// The message without data that numbers stand for, or why they stand for none.
+fn notice_in(n: FromModuleNumbers) -> Result<Notice, Unnamed>
     ensures { result ≡ notice_in n }
 {
-    let status = n.status;
-    let information = n.information;
-    if n.kind == 3 {
-        return response_in(n.response_id, n.result);
+    match n.kind {
+        3 => response_in(n),
+        4 => Ok(Notice::Standard(standard_in(n.address, n.lqi, n.status))),
+        5 => Ok(Notice::Remote(remote_in(n.address, n.lqi, n.status))),
+        7 => report_in(n),
+        _ => Err(Unnamed::Kind),
     }
-    if n.kind == 4 {
-        return NamedNotice::Known(Notice::Standard(standard_in(n.address, n.lqi, status)));
-    }
-    if n.kind == 5 {
-        return NamedNotice::Known(Notice::Remote(remote_in(n.address, n.lqi, status)));
-    }
-    if n.kind == 7 {
-        return report_in(n.command, n.result, information);
-    }
-    NamedNotice::Unknown
 }
 
 // Reads a payload as a message from the module, as `message::read_from_module` does.
@@ -382,13 +260,10 @@ pub fn boundary_write_delivery(
 ) -> FlatWriting
     ensures { WritesDelivery (framing_of framing) (delivery_in delivery) «data».now buf.old result buf.new }
 {
-    let NamedFraming::Known(f) = framing_of(framing) else {
-        return unwritten(255);
+    let (Some(framing), Some(delivery)) = (framing_of(framing), delivery_in(delivery)) else {
+        return flat_writing(Err(Unnamed::Kind));
     };
-    let NamedDelivery::Known(d) = delivery_in(delivery) else {
-        return unwritten(255);
-    };
-    written_of(message::write_delivery(f, d, data, buf))
+    flat_writing(message::write_delivery(framing, delivery, data, buf))
 }
 
 // Writes a message from the module without data as a frame, as `message::write_notice` does. A framing or a kind that stands for none, or for a message
@@ -397,13 +272,9 @@ pub fn boundary_write_delivery(
 pub fn boundary_write_notice(framing: u8, notice: FromModuleNumbers, buf: &mut [u8]) -> FlatWriting
     ensures { WritesNotice (framing_of framing) (notice_in notice) buf.old result buf.new }
 {
-    let NamedFraming::Known(f) = framing_of(framing) else {
-        return unwritten(255);
-    };
-    match notice_in(notice) {
-        NamedNotice::Known(m) => written_of(message::write_notice(f, m, buf)),
-        NamedNotice::BadResult => unwritten(11),
-        NamedNotice::BadCommand => unwritten(9),
-        NamedNotice::Unknown => unwritten(255),
+    match (framing_of(framing), notice_in(notice)) {
+        (Some(framing), Ok(notice)) => flat_writing(message::write_notice(framing, notice, buf)),
+        (Some(_), Err(unnamed)) => flat_writing(Err(unnamed)),
+        (None, _) => flat_writing(Err(Unnamed::Kind)),
     }
 }

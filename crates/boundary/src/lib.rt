@@ -6,11 +6,11 @@ mod framing;
 mod from_module;
 mod line;
 mod options;
+mod refusal;
 mod setting;
 mod single;
 mod status;
 mod to_module;
-mod written;
 
 pub use from_module::{
     FromModuleNumbers, InformationNumbers, boundary_read_from_module, boundary_write_delivery,

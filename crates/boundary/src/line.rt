@@ -1,15 +1,16 @@
 // The line reader, with its state and its answers as numbers.
-ghost use Rattle.std.specs.Prelude.{◌≡◌};
-ghost use Rattle.reader.specs.Reader.{refusal_values, frame_values, no_frame_values, feed_values_of, quiet_values_of};
-ghost use Rattle.boundary.specs.Line.{mark_number, flat_reader, flat_values, format_in, reader_in, new_flat, FeedsFlat, QuietsFlat};
+ghost use Rattle.std.specs.Prelude.{◌≡◌, option_map};
+ghost use Rattle.reader.specs.Reader.{refusal_values, fed_values_of, quieted_values_of};
+ghost use Rattle.boundary.specs.Line.{flat_reader, flat_values, flat_fed, flat_quieted, format_in, reader_in, new_flat, unnamed, FeedsFlat, QuietsFlat};
 
-use crate::framing::{NamedFormat, format_number, format_of};
-use frame::Format;
-use reader::{FeedAnswer, QuietAnswer, Reader};
+use crate::framing::{format_number, format_of};
+use crate::refusal::{Numbered, Unnamed};
+use reader::{Fed, FeedAnswer, QuietAnswer, Quieted, Reader};
 
 // A reader's state: its format as a number, the bytes that it holds, the first `count` of `held`, whether an optional byte may follow the last frame, 0 for no,
 // 1 for yes, and how many of the held bytes were judged at the first held place. A call with a state whose mark is any other number, or whose format is none,
 // is refused with 255; one with a state that holds more bytes than a frame can have, or says that more bytes were judged than it holds, with 16.
+// Kept: the format and the mark are numbers, and the array has its count beside it, since this is the C interface.
 #[repr(C)]
 #[derive(Clone, Copy)]
 pub struct LineReader {
@@ -23,7 +24,7 @@ pub struct LineReader {
 // The answer's numbers: the refusal's, 0 for none, whether there is a frame, bytes taken, noise, bytes judged, the payload's length, and how far before the
 // first byte that is not taken, at a quiet before the segment's end, the frame began, 0 where there is none.
 #[repr(C)]
-#[derive(Clone, Copy)]
+#[derive(Clone, Copy, Default)]
 pub struct LineAnswer {
     pub refusal: u8,
     pub is_frame: bool,
@@ -42,126 +43,138 @@ pub struct LineFed {
     pub answer: LineAnswer,
 }
 
-fn refused(number: u8) -> LineAnswer
-    ensures { result ≡ flat_values (refusal_values number) }
+fn refused<E: Numbered>(refusal: E) -> LineAnswer
+    ensures { result ≡ flat_values (refusal_values (E.number_of refusal)) }
 {
     LineAnswer {
-        refusal: number,
-        is_frame: false,
-        taken: 0,
-        noise: 0,
-        judged: 0,
-        len: 0,
-        began: 0,
+        refusal: refusal.number(),
+        ..LineAnswer::default()
     }
 }
 
-fn with_frame(taken: usize, noise: usize, judged: usize, len: usize, began: usize) -> LineAnswer
-    ensures { result ≡ flat_values (frame_values taken noise judged len began) }
-{
-    LineAnswer {
-        refusal: 0,
-        is_frame: true,
-        taken: taken,
-        noise: noise,
-        judged: judged,
-        len: len,
-        began: began,
+impl From<FeedAnswer> for LineAnswer {
+    ghost from_gives = { λ answer numbers. numbers ≡ flat_values (fed_values_of answer) };
+
+    fn from(answer: FeedAnswer) -> LineAnswer {
+        match answer {
+            FeedAnswer::Frame {
+                taken,
+                noise,
+                judged,
+                len,
+                began,
+            } => LineAnswer {
+                refusal: 0,
+                is_frame: true,
+                taken,
+                noise,
+                judged,
+                len,
+                began,
+            },
+            FeedAnswer::NeedsMore {
+                taken,
+                noise,
+                judged,
+            } => LineAnswer {
+                taken,
+                noise,
+                judged,
+                ..LineAnswer::default()
+            },
+        }
     }
 }
 
-fn without_frame(taken: usize, noise: usize, judged: usize) -> LineAnswer
-    ensures { result ≡ flat_values (no_frame_values taken noise judged) }
-{
-    LineAnswer {
-        refusal: 0,
-        is_frame: false,
-        taken: taken,
-        noise: noise,
-        judged: judged,
-        len: 0,
-        began: 0,
+impl From<QuietAnswer> for LineAnswer {
+    ghost from_gives = { λ answer numbers. numbers ≡ flat_values (quieted_values_of answer) };
+
+    fn from(answer: QuietAnswer) -> LineAnswer {
+        match answer {
+            QuietAnswer::Frame {
+                noise,
+                judged,
+                len,
+                began,
+            } => LineAnswer {
+                is_frame: true,
+                noise,
+                judged,
+                len,
+                began,
+                ..LineAnswer::default()
+            },
+            QuietAnswer::Empty { noise, judged } => LineAnswer {
+                noise,
+                judged,
+                ..LineAnswer::default()
+            },
+        }
     }
 }
 
-fn fed_numbers(answer: FeedAnswer) -> LineAnswer
-    ensures { result ≡ flat_values (feed_values_of answer) }
-{
-    match answer {
-        FeedAnswer::Frame {
-            taken,
-            noise,
-            judged,
-            len,
-            began,
-        } => with_frame(taken, noise, judged, len, began),
-        FeedAnswer::NeedsMore {
-            taken,
-            noise,
-            judged,
-        } => without_frame(taken, noise, judged),
-        FeedAnswer::Refused(refusal) => refused(refusal.number()),
+impl From<Reader> for LineReader {
+    ghost from_gives = { λ reader numbers. numbers ≡ flat_reader reader };
+
+    fn from(reader: Reader) -> LineReader {
+        let held = reader.held;
+        LineReader {
+            format: format_number(reader.format),
+            held,
+            count: reader.count,
+            follows: u8::from(reader.follows),
+            judged: reader.judged,
+        }
     }
 }
 
-fn quiet_numbers(answer: QuietAnswer) -> LineAnswer
-    ensures { result ≡ flat_values (quiet_values_of answer) }
-{
-    match answer {
-        QuietAnswer::Frame {
-            noise,
-            judged,
-            len,
-            began,
-        } => with_frame(0, noise, judged, len, began),
-        QuietAnswer::Empty { noise, judged } => without_frame(0, noise, judged),
-        QuietAnswer::Refused(refusal) => refused(refusal.number()),
+impl From<Fed> for LineFed {
+    ghost from_gives = { λ fed numbers. numbers ≡ flat_fed fed };
+
+    fn from(fed: Fed) -> LineFed {
+        LineFed {
+            reader: LineReader::from(fed.reader),
+            answer: fed.answer.map_or_else(refused, LineAnswer::from),
+        }
     }
 }
 
-fn mark_number(follows: bool) -> u8
-    ensures { result ≡ mark_number follows }
-{
-    if follows {
-        return 1;
-    }
-    0
-}
+impl From<Quieted> for LineFed {
+    ghost from_gives = { λ quieted numbers. numbers ≡ flat_quieted quieted };
 
-fn flat(reader: Reader) -> LineReader
-    ensures { result ≡ flat_reader reader }
-{
-    let format = reader.format;
-    let held = reader.held;
-    LineReader {
-        format: format_number(format),
-        held: held,
-        count: reader.count,
-        follows: mark_number(reader.follows),
-        judged: reader.judged,
+    fn from(quieted: Quieted) -> LineFed {
+        LineFed {
+            reader: LineReader::from(quieted.reader),
+            answer: quieted.answer.map_or_else(refused, LineAnswer::from),
+        }
     }
 }
 
-// The format of a state, if its number stands for one and its mark is 0 or 1.
-fn format_in(reader: LineReader) -> NamedFormat
-    ensures { result ≡ format_in reader }
+// The state that numbers stand for, if its format is one and its mark is 0 or 1.
+fn reader_in(n: LineReader) -> Option<Reader>
+    ensures { result ≡ option_map (λ m. reader_in m n) (format_in n) }
 {
-    if reader.follows > 1 {
-        return NamedFormat::Unknown;
-    }
-    format_of(reader.format)
+    let follows = match n.follows {
+        0 => false,
+        1 => true,
+        _ => return None,
+    };
+    Some(Reader {
+        format: format_of(n.format)?,
+        held: n.held,
+        count: n.count,
+        follows,
+        judged: n.judged,
+    })
 }
 
-fn reader_in(format: Format, reader: LineReader) -> Reader
-    ensures { result ≡ reader_in format reader }
+// A call with a state whose numbers stand for none gives it back.
+fn unnamed(reader: LineReader) -> LineFed
+    ensures { result ≡ unnamed reader }
 {
-    let held = reader.held;
-    Reader {
-        format: format,
-        held: held,
-        count: reader.count,
-        follows: reader.follows == 1,
-        judged: reader.judged,
+    LineFed {
+        reader,
+        answer: refused(Unnamed::Kind),
     }
 }
 
@@ -183,20 +196,9 @@ pub fn boundary_new_reader(format: u8) -> LineReader
 pub fn boundary_feed(reader: LineReader, chunk: &[u8], buf: &mut [u8]) -> LineFed
     ensures { FeedsFlat (format_in reader) reader chunk.now buf.old result buf.new }
 {
-    match format_in(reader) {
-        NamedFormat::Known(f) => {
-            let fed = reader_in(f, reader).feed(chunk, buf);
-            let next = fed.reader;
-            let answer = fed.answer;
-            LineFed {
-                reader: flat(next),
-                answer: fed_numbers(answer),
-            }
-        }
-        NamedFormat::Unknown => LineFed {
-            reader: reader,
-            answer: refused(255),
-        },
+    match reader_in(reader) {
+        Some(known) => LineFed::from(known.feed(chunk, buf)),
+        None => unnamed(reader),
     }
 }
 
@@ -205,19 +207,8 @@ pub fn boundary_feed(reader: LineReader, chunk: &[u8], buf: &mut [u8]) -> LineFe
 pub fn boundary_quiet(reader: LineReader, buf: &mut [u8]) -> LineFed
     ensures { QuietsFlat (format_in reader) reader buf.old result buf.new }
 {
-    match format_in(reader) {
-        NamedFormat::Known(f) => {
-            let quieted = reader_in(f, reader).quiet(buf);
-            let next = quieted.reader;
-            let answer = quieted.answer;
-            LineFed {
-                reader: flat(next),
-                answer: quiet_numbers(answer),
-            }
-        }
-        NamedFormat::Unknown => LineFed {
-            reader: reader,
-            answer: refused(255),
-        },
+    match reader_in(reader) {
+        Some(known) => LineFed::from(known.quiet(buf)),
+        None => unnamed(reader),
     }
 }

@@ -1,13 +1,12 @@
 // The options of an extended message as numbers.
 ghost use Rattle.std.specs.Prelude.{◌≡◌};
-ghost use Rattle.message.specs.Options.{byte_given, word_given};
-ghost use Rattle.boundary.specs.Options.{byte_of, word_of, byte_in, word_in, option_numbers, options_in};
+ghost use Rattle.boundary.specs.Options.{option_numbers, options_in};
 
-use message::{MaybeByte, MaybeWord, Options};
+use message::Options;
 
 // For each option whether it is given, and its argument, which is 0 where it is not.
 #[repr(C)]
-#[derive(Clone, Copy)]
+#[derive(Clone, Copy, Default)]
 pub struct OptionNumbers {
     pub mac_ack: bool,
     pub has_retries: bool,
@@ -23,111 +22,41 @@ pub struct OptionNumbers {
     pub sleep: bool,
 }
 
-fn byte_given(m: MaybeByte) -> bool
-    ensures { result ≡ byte_given m }
-{
-    match m {
-        MaybeByte::NotGiven => false,
-        MaybeByte::Given(_) => true,
-    }
-}
+impl From<Options> for OptionNumbers {
+    ghost from_gives = { λ options numbers. numbers ≡ option_numbers options };
 
-fn byte_of(m: MaybeByte) -> u8
-    ensures { result ≡ byte_of m }
-{
-    match m {
-        MaybeByte::NotGiven => 0,
-        MaybeByte::Given(b) => b,
-    }
-}
-
-fn word_given(m: MaybeWord) -> bool
-    ensures { result ≡ word_given m }
-{
-    match m {
-        MaybeWord::NotGiven => false,
-        MaybeWord::Given(_) => true,
-    }
-}
-
-fn word_of(m: MaybeWord) -> u16
-    ensures { result ≡ word_of m }
-{
-    match m {
-        MaybeWord::NotGiven => 0,
-        MaybeWord::Given(v) => v,
-    }
-}
-
-fn byte_in(given: bool, b: u8) -> MaybeByte
-    ensures { result ≡ byte_in given b }
-{
-    if given {
-        return MaybeByte::Given(b);
-    }
-    MaybeByte::NotGiven
-}
-
-fn word_in(given: bool, v: u16) -> MaybeWord
-    ensures { result ≡ word_in given v }
-{
-    if given {
-        return MaybeWord::Given(v);
-    }
-    MaybeWord::NotGiven
-}
-
-// No option given.
-pub(crate) const NO_OPTIONS: OptionNumbers = OptionNumbers {
-    mac_ack: false,
-    has_retries: false,
-    retries: 0,
-    has_lower_delay: false,
-    lower_delay: 0,
-    has_upper_delay: false,
-    upper_delay: 0,
-    has_interval: false,
-    interval: 0,
-    parallel: false,
-    no_response: false,
-    sleep: false,
-};
-
-pub(crate) fn option_numbers(options: Options) -> OptionNumbers
-    ensures { result ≡ option_numbers options }
-{
-    let retries = options.retries;
-    let lower = options.lower_delay;
-    let upper = options.upper_delay;
-    let interval = options.interval;
-    OptionNumbers {
-        mac_ack: options.mac_ack,
-        has_retries: byte_given(retries),
-        retries: byte_of(retries),
-        has_lower_delay: word_given(lower),
-        lower_delay: word_of(lower),
-        has_upper_delay: word_given(upper),
-        upper_delay: word_of(upper),
-        has_interval: word_given(interval),
-        interval: word_of(interval),
-        parallel: options.parallel,
-        no_response: options.no_response,
-        sleep: options.sleep,
+    fn from(options: Options) -> OptionNumbers {
+        OptionNumbers {
+            mac_ack: options.mac_ack,
+            has_retries: options.retries.is_some(),
+            retries: options.retries.unwrap_or(0),
+            has_lower_delay: options.lower_delay.is_some(),
+            lower_delay: options.lower_delay.unwrap_or(0),
+            has_upper_delay: options.upper_delay.is_some(),
+            upper_delay: options.upper_delay.unwrap_or(0),
+            has_interval: options.interval.is_some(),
+            interval: options.interval.unwrap_or(0),
+            parallel: options.parallel,
+            no_response: options.no_response,
+            sleep: options.sleep,
+        }
     }
 }
 
 // The options that the numbers stand for. The argument of an option that is not given is not looked at.
-pub(crate) fn options_in(n: OptionNumbers) -> Options
-    ensures { result ≡ options_in n }
-{
-    Options {
-        mac_ack: n.mac_ack,
-        retries: byte_in(n.has_retries, n.retries),
-        lower_delay: word_in(n.has_lower_delay, n.lower_delay),
-        upper_delay: word_in(n.has_upper_delay, n.upper_delay),
-        interval: word_in(n.has_interval, n.interval),
-        parallel: n.parallel,
-        no_response: n.no_response,
-        sleep: n.sleep,
+impl From<OptionNumbers> for Options {
+    ghost from_gives = { λ numbers options. options ≡ options_in numbers };
+
+    fn from(n: OptionNumbers) -> Options {
+        Options {
+            mac_ack: n.mac_ack,
+            retries: n.has_retries.then_some(n.retries),
+            lower_delay: n.has_lower_delay.then_some(n.lower_delay),
+            upper_delay: n.has_upper_delay.then_some(n.upper_delay),
+            interval: n.has_interval.then_some(n.interval),
+            parallel: n.parallel,
+            no_response: n.no_response,
+            sleep: n.sleep,
+        }
     }
 }

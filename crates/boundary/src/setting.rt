@@ -1,14 +1,15 @@
 // The settings of a list, one by one, with the answer as numbers.
 ghost use Rattle.std.specs.Prelude.{◌≡◌};
-ghost use Rattle.settings.specs.Walk.{finding, finding_of, nothing};
+ghost use Rattle.settings.specs.Walk.{finding, finding_of};
 ghost use Rattle.boundary.specs.Setting.{flat_setting};
 
-use settings::SettingAnswer;
+use crate::refusal::Numbered;
+use settings::{NotAList, Setting};
 
 // What a list has at an index: the refusal's number, 0 for none, whether there is a setting, its identifier, the index in the list at which its data begin,
 // and their length. All but the number are 0 where there is no setting.
 #[repr(C)]
-#[derive(Clone, Copy)]
+#[derive(Clone, Copy, Default)]
 pub struct FlatSetting {
     pub refusal: u8,
     pub is_found: bool,
@@ -17,32 +18,22 @@ pub struct FlatSetting {
     pub len: usize,
 }
 
-fn flat_setting(answer: SettingAnswer) -> FlatSetting
+fn flat_setting(answer: Result<Option<Setting>, NotAList>) -> FlatSetting
     ensures { result ≡ flat_setting (finding_of answer) }
 {
     match answer {
-        SettingAnswer::Found(s) => FlatSetting {
-            refusal: 0,
+        Ok(Some(s)) => FlatSetting {
             is_found: true,
             identifier: s.identifier,
             start: s.start,
             len: s.len,
+            ..FlatSetting::default()
         },
-        SettingAnswer::Past => no_setting(0),
-        SettingAnswer::Refused => no_setting(17),
-    }
-}
-
-// No setting, with this number.
-fn no_setting(number: u8) -> FlatSetting
-    ensures { result ≡ flat_setting (nothing number) }
-{
-    FlatSetting {
-        refusal: number,
-        is_found: false,
-        identifier: 0,
-        start: 0,
-        len: 0,
+        Ok(None) => FlatSetting::default(),
+        Err(refusal) => FlatSetting {
+            refusal: refusal.number(),
+            ..FlatSetting::default()
+        },
     }
 }
 

@@ -1,15 +1,15 @@
 // Reading and writing a single frame, with the answer as numbers.
 ghost use Rattle.std.specs.Prelude.{◌≡◌};
-ghost use Rattle.frame.specs.Single.{reading_of, no_writing, writing_of};
 ghost use Rattle.boundary.specs.Framing.{framing_of, format_of};
-ghost use Rattle.boundary.specs.Single.{flat_reading, flat_writing, ReadsFlat, WritesFlat};
+ghost use Rattle.boundary.specs.Single.{reading_by, writing_by, ReadsFlat, WritesFlat};
 
-use crate::framing::{NamedFormat, NamedFraming, format_of, framing_of};
-use frame::{ReadAnswer, WriteAnswer};
+use crate::framing::{format_of, framing_of};
+use crate::refusal::{Numbered, Unnamed};
+use frame::FrameRead;
 
 // A read's answer: the refusal's number, 0 for none, the bytes used and the payload's length.
 #[repr(C)]
-#[derive(Clone, Copy)]
+#[derive(Clone, Copy, Default)]
 pub struct FlatReading {
     pub refusal: u8,
     pub used: usize,
@@ -24,42 +24,31 @@ pub struct FlatWriting {
     pub len: usize,
 }
 
-// A write that is refused with this number.
-pub(crate) fn unwritten(number: u8) -> FlatWriting
-    ensures { result ≡ flat_writing (no_writing number) }
+fn flat_reading<E: Numbered>(read: Result<FrameRead, E>) -> FlatReading
+    ensures { result ≡ reading_by E.number_of read }
 {
-    FlatWriting {
-        refusal: number,
-        len: 0,
+    match read {
+        Ok(frame) => FlatReading {
+            refusal: 0,
+            used: frame.used,
+            len: frame.len,
+        },
+        Err(refusal) => FlatReading {
+            refusal: refusal.number(),
+            ..FlatReading::default()
+        },
     }
 }
 
-fn reading_of(answer: ReadAnswer) -> FlatReading
-    ensures { result ≡ flat_reading (reading_of answer) }
+pub(crate) fn flat_writing<E: Numbered>(written: Result<usize, E>) -> FlatWriting
+    ensures { result ≡ writing_by E.number_of written }
 {
-    match answer {
-        ReadAnswer::Frame { used, len } => FlatReading {
-            refusal: 0,
-            used: used,
-            len: len,
-        },
-        ReadAnswer::Refused(refusal) => FlatReading {
+    match written {
+        Ok(len) => FlatWriting { refusal: 0, len },
+        Err(refusal) => FlatWriting {
             refusal: refusal.number(),
-            used: 0,
             len: 0,
         },
-    }
-}
-
-fn writing_of(answer: WriteAnswer) -> FlatWriting
-    ensures { result ≡ flat_writing (writing_of answer) }
-{
-    match answer {
-        WriteAnswer::Written(len) => FlatWriting {
-            refusal: 0,
-            len: len,
-        },
-        WriteAnswer::Refused(refusal) => unwritten(refusal.number()),
     }
 }
 
@@ -69,12 +58,8 @@ pub fn boundary_read_frame(format: u8, s: &[u8], buf: &mut [u8]) -> FlatReading
     ensures { ReadsFlat (format_of format) s.now buf.old result buf.new }
 {
     match format_of(format) {
-        NamedFormat::Known(f) => reading_of(frame::read_frame_as(f, s, buf)),
-        NamedFormat::Unknown => FlatReading {
-            refusal: 255,
-            used: 0,
-            len: 0,
-        },
+        Some(format) => flat_reading(frame::read_frame_as(format, s, buf)),
+        None => flat_reading(Err(Unnamed::Kind)),
     }
 }
 
@@ -83,7 +68,7 @@ pub fn boundary_write_frame(framing: u8, payload: &[u8], buf: &mut [u8]) -> Flat
     ensures { WritesFlat (framing_of framing) 0 payload.now buf.old result buf.new }
 {
     match framing_of(framing) {
-        NamedFraming::Known(f) => writing_of(frame::write_frame(f, payload, buf)),
-        NamedFraming::Unknown => unwritten(255),
+        Some(framing) => flat_writing(frame::write_frame(framing, payload, buf)),
+        None => flat_writing(Err(Unnamed::Kind)),
     }
 }

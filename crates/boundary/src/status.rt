@@ -1,12 +1,12 @@
 // The statuses as numbers.
 ghost use Rattle.std.specs.Prelude.{◌≡◌};
-ghost use Rattle.boundary.specs.Status.{standard_in, remote_in};
+ghost use Rattle.boundary.specs.Status.{standard_part, remote_part, standard_in, remote_in};
 
 use message::{RemoteStatus, StandardStatus};
 
 // What a status has beside its sender and its LQI. Fields that a status does not have are 0.
 #[repr(C)]
-#[derive(Clone, Copy)]
+#[derive(Clone, Copy, Default)]
 pub struct StatusNumbers {
     pub identifier: u8,
     pub serial: u32,
@@ -27,26 +27,47 @@ pub struct StatusNumbers {
     pub interrupts: u16,
 }
 
-// Of a message that is no status.
-pub(crate) const NO_STATUS: StatusNumbers = StatusNumbers {
-    identifier: 0,
-    serial: 0,
-    destination: 0,
-    time: 0,
-    relays: 0,
-    supply: 0,
-    unused: 0,
-    di: 0,
-    di_changed: 0,
-    ad1: 0,
-    ad2: 0,
-    ad3: 0,
-    ad4: 0,
-    correction: 0,
-    signals: 0,
-    mask: 0,
-    interrupts: 0,
-};
+impl From<StandardStatus> for StatusNumbers {
+    ghost from_gives = { λ status numbers. numbers ≡ standard_part status };
+
+    fn from(s: StandardStatus) -> StatusNumbers {
+        StatusNumbers {
+            identifier: s.identifier,
+            serial: s.serial,
+            destination: s.destination,
+            time: s.time,
+            relays: s.relays,
+            supply: s.supply,
+            unused: s.unused,
+            di: s.di,
+            di_changed: s.di_changed,
+            ad1: s.ad1,
+            ad2: s.ad2,
+            ad3: s.ad3,
+            ad4: s.ad4,
+            correction: s.correction,
+            ..StatusNumbers::default()
+        }
+    }
+}
+
+impl From<RemoteStatus> for StatusNumbers {
+    ghost from_gives = { λ status numbers. numbers ≡ remote_part status };
+
+    fn from(s: RemoteStatus) -> StatusNumbers {
+        StatusNumbers {
+            serial: s.serial,
+            destination: s.destination,
+            time: s.time,
+            relays: s.relays,
+            unused: s.unused,
+            signals: s.signals,
+            mask: s.mask,
+            interrupts: s.interrupts,
+            ..StatusNumbers::default()
+        }
+    }
+}
 
 pub(crate) fn standard_in(sender: u8, lqi: u8, n: StatusNumbers) -> StandardStatus
     ensures { result ≡ standard_in sender lqi n }

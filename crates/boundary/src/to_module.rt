@@ -5,20 +5,21 @@ ghost use Rattle.boundary.specs.Framing.{framing_of};
 ghost use Rattle.boundary.specs.ToModule.{transmission_numbers, request_numbers, to_module_numbers};
 ghost use Rattle.boundary.specs.ToModule.{transmission_in, request_in, WritesRequest, WritesChange, WritesSetup};
 
-use crate::framing::{NamedFraming, framing_of};
-use crate::options::{NO_OPTIONS, OptionNumbers, option_numbers, options_in};
-use crate::single::{FlatWriting, unwritten};
-use crate::written::written_of;
+use crate::framing::framing_of;
+use crate::options::OptionNumbers;
+use crate::refusal::Unnamed;
+use crate::single::{FlatWriting, flat_writing};
 use message::{
-    Address, NamedCommand, OutputChange, Request, SetupCommand, Simple, ToModule, Transmission,
+    Address, Options, OutputChange, Refusal, Request, SetupCommand, Simple, ToModule, Transmission,
 };
 
 // A message to the module. `kind` is 0 for a refusal, 1 for a simple message, 2 for an extended one to a plain address, 3 for an extended one to an
 // extended address, 4 for a change of outputs, 5 for a settings list, which is the data, 6 for a command to the module itself, whose number is `command`.
 // Fields that the kind does not have are 0 in an answer, and are not looked at in a write; `refusal` and `start`, the index at which the data begin, belong
 // to answers alone.
+// Kept: the kind and the command are numbers, and one struct has the fields of every kind, since this is the C interface.
 #[repr(C)]
-#[derive(Clone, Copy)]
+#[derive(Clone, Copy, Default)]
 pub struct ToModuleNumbers {
     pub kind: u8,
     pub refusal: u8,
@@ -32,49 +33,25 @@ pub struct ToModuleNumbers {
     pub start: usize,
 }
 
-// All fields 0.
-const NO_MESSAGE: ToModuleNumbers = ToModuleNumbers {
-    kind: 0,
-    refusal: 0,
-    address: 0,
-    command: 0,
-    response_id: 0,
-    extended: 0,
-    options: NO_OPTIONS,
-    signals: 0,
-    mask: 0,
-    start: 0,
-};
-
-// The request that numbers stand for, if any.
-#[derive(Drop)]
-pub(crate) enum NamedRequest {
-    Known(Request),
-    Unknown,
-}
-
 fn transmission_numbers(m: Transmission, start: usize) -> ToModuleNumbers
     ensures { result ≡ transmission_numbers m start }
 {
-    let address = m.address;
-    let options = m.options;
-    let numbers = option_numbers(options);
-    match address {
-        Address::Plain(a) => ToModuleNumbers {
+    let numbers = ToModuleNumbers {
+        response_id: m.response_id,
+        options: OptionNumbers::from(m.options),
+        start,
+        ..ToModuleNumbers::default()
+    };
+    match m.address {
+        Address::Plain(address) => ToModuleNumbers {
             kind: 2,
-            address: a,
-            response_id: m.response_id,
-            options: numbers,
-            start: start,
-            ..NO_MESSAGE
+            address,
+            ..numbers
         },
-        Address::Extended(w) => ToModuleNumbers {
+        Address::Extended(extended) => ToModuleNumbers {
             kind: 3,
-            response_id: m.response_id,
-            extended: w,
-            options: numbers,
-            start: start,
-            ..NO_MESSAGE
+            extended,
+            ..numbers
         },
     }
 }
@@ -87,38 +64,38 @@ fn request_numbers(request: Request, start: usize) -> ToModuleNumbers
             kind: 1,
             address: m.address,
             command: m.command,
-            start: start,
-            ..NO_MESSAGE
+            start,
+            ..ToModuleNumbers::default()
         },
         Request::Extended(m) => transmission_numbers(m, start),
         Request::Settings => ToModuleNumbers {
             kind: 5,
-            start: start,
-            ..NO_MESSAGE
+            start,
+            ..ToModuleNumbers::default()
         },
     }
 }
 
-fn to_module_numbers(answer: ToModule) -> ToModuleNumbers
+fn to_module_numbers(answer: Result<ToModule, Refusal>) -> ToModuleNumbers
     ensures { result ≡ to_module_numbers (to_module_of answer) }
 {
     match answer {
-        ToModule::Request { request, start } => request_numbers(request, start),
-        ToModule::OutputChange(m) => ToModuleNumbers {
+        Ok(ToModule::Request { request, start }) => request_numbers(request, start),
+        Ok(ToModule::OutputChange(m)) => ToModuleNumbers {
             kind: 4,
             address: m.address,
             signals: m.signals,
             mask: m.mask,
-            ..NO_MESSAGE
+            ..ToModuleNumbers::default()
         },
-        ToModule::Setup(command) => ToModuleNumbers {
+        Ok(ToModule::Setup(command)) => ToModuleNumbers {
             kind: 6,
             command: command.number(),
-            ..NO_MESSAGE
+            ..ToModuleNumbers::default()
         },
-        ToModule::Refused(refusal) => ToModuleNumbers {
+        Err(refusal) => ToModuleNumbers {
             refusal: refusal.number(),
-            ..NO_MESSAGE
+            ..ToModuleNumbers::default()
         },
     }
 }
@@ -126,39 +103,27 @@ fn to_module_numbers(answer: ToModule) -> ToModuleNumbers
 fn transmission_in(address: Address, n: ToModuleNumbers) -> Transmission
     ensures { result ≡ transmission_in address n }
 {
-    let options = n.options;
     Transmission {
-        address: address,
+        address,
         response_id: n.response_id,
-        options: options_in(options),
+        options: Options::from(n.options),
     }
 }
 
-fn request_in(n: ToModuleNumbers) -> NamedRequest
+// The request that numbers stand for, if any.
+fn request_in(n: ToModuleNumbers) -> Option<Request>
     ensures { result ≡ request_in n }
 {
-    if n.kind == 1 {
-        return NamedRequest::Known(Request::Simple(Simple {
+    match n.kind {
+        1 => Some(Request::Simple(Simple {
             address: n.address,
             command: n.command,
-        }));
+        })),
+        2 => Some(Request::Extended(transmission_in(Address::Plain(n.address), n))),
+        3 => Some(Request::Extended(transmission_in(Address::Extended(n.extended), n))),
+        5 => Some(Request::Settings),
+        _ => None,
     }
-    if n.kind == 2 {
-        return NamedRequest::Known(Request::Extended(transmission_in(
-            Address::Plain(n.address),
-            n,
-        )));
-    }
-    if n.kind == 3 {
-        return NamedRequest::Known(Request::Extended(transmission_in(
-            Address::Extended(n.extended),
-            n,
-        )));
-    }
-    if n.kind == 5 {
-        return NamedRequest::Known(Request::Settings);
-    }
-    NamedRequest::Unknown
 }
 
 // Reads a payload as a message to the module, as `message::read_to_module` does.
@@ -178,13 +143,10 @@ pub fn boundary_write_request(
 ) -> FlatWriting
     ensures { WritesRequest (framing_of framing) (request_in request) «data».now buf.old result buf.new }
 {
-    let NamedFraming::Known(f) = framing_of(framing) else {
-        return unwritten(255);
+    let (Some(framing), Some(request)) = (framing_of(framing), request_in(request)) else {
+        return flat_writing(Err(Unnamed::Kind));
     };
-    let NamedRequest::Known(q) = request_in(request) else {
-        return unwritten(255);
-    };
-    written_of(message::write_request(f, q, data, buf))
+    flat_writing(message::write_request(framing, request, data, buf))
 }
 
 // Writes a change of outputs as a frame, as `message::write_output_change` does. A framing that stands for none, or a kind that is not 4, is refused with
@@ -196,18 +158,15 @@ pub fn boundary_write_output_change(
 ) -> FlatWriting
     ensures { WritesChange (framing_of framing) change buf.old result buf.new }
 {
-    let NamedFraming::Known(f) = framing_of(framing) else {
-        return unwritten(255);
+    let (Some(framing), 4) = (framing_of(framing), change.kind) else {
+        return flat_writing(Err(Unnamed::Kind));
     };
-    if change.kind != 4 {
-        return unwritten(255);
-    }
-    let c = OutputChange {
+    let change = OutputChange {
         address: change.address,
         signals: change.signals,
         mask: change.mask,
     };
-    written_of(message::write_output_change(f, c, buf))
+    flat_writing(message::write_output_change(framing, change, buf))
 }
 
 // Writes a command to the module itself as a frame, as `message::write_setup` does. A framing that stands for none, or a kind that is not 6, is refused with
@@ -215,14 +174,11 @@ pub fn boundary_write_output_change(
 pub fn boundary_write_setup(framing: u8, command: ToModuleNumbers, buf: &mut [u8]) -> FlatWriting
     ensures { WritesSetup (framing_of framing) command buf.old result buf.new }
 {
-    let NamedFraming::Known(f) = framing_of(framing) else {
-        return unwritten(255);
+    let (Some(framing), 6) = (framing_of(framing), command.kind) else {
+        return flat_writing(Err(Unnamed::Kind));
     };
-    if command.kind != 6 {
-        return unwritten(255);
-    }
-    let NamedCommand::Known(c) = SetupCommand::named(command.command) else {
-        return unwritten(9);
+    let Some(command) = SetupCommand::named(command.command) else {
+        return flat_writing(Err(Unnamed::Command));
     };
-    written_of(message::write_setup(f, c, buf))
+    flat_writing(message::write_setup(framing, command, buf))
 }

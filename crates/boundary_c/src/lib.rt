@@ -1,5 +1,6 @@
 // The static library for callers in C or Rust: a symbol for each call of the crate boundary, with the same numbers and flat structs. A slice crosses as a
 // pointer and a length.
+// Kept: each function only calls the one of the crate boundary with its name, since a symbol of the C interface is a function of its own.
 #![tactic(auto)]
 
 ghost use Rattle.std.specs.Prelude.{◌≡◌};

@@ -1,7 +1,6 @@
 -- The checks of ASCII framing at each way out of `ascii::judge` and `ascii::judge_digits`.
 -- Assumes nothing.
 use Rattle.std.proofs.Common.{◌≡◌, ℕ, suc, ◌+◌, ◌-◌, ◌*◌, ◌/◌, ◌%◌, ◌<◌, ◌≤◌, Bool, true, false, eqb, leb, ◌⊎◌, List, map, length, get_or, take, drop, sym, refl, ap, ◌∙◌, ap₂, inl, inr, ⊎_elim, arith, length-drop, take-append-drop, length-take-le, get_or-drop, take_all, take-take, drop-drop, ne_eqb, eqb-true}
-use native.Mathlib.Nat.{add-sub_cancel_left}
 use mathlib.Core.List.{drop_last}
 use borrow.Author.Tests.{lt-leb, eqb-false}
 use lib.ListN.{length-map}
@@ -10,7 +9,7 @@ use Rattle.frame.specs.Checks.{Checks, fails, Verdict, cut, refused, frame, behi
 use Rattle.frame.specs.Digit.{digit_value}
 use Rattle.frame.specs.Hex.{sum_of}
 use Rattle.frame.specs.Ascii.{colon, hex_digits, digit_count, after_digits, ascii, ends_digits, behind_digits, line_ending}
-use Rattle.frame.specs.DigitRuns.{digit_run, Digits}
+use Rattle.frame.specs.DigitRuns.{digit_run}
 use Rattle.frame.specs.Judged.{decoded, unhexed}
 use Rattle.frame.specs.declared.framing.Ending.{Ending}
 use Rattle.frame.proofs.Numbers.{and_fails}
@@ -70,10 +69,6 @@ module _ (s : List ℕ) (count : ℕ) (e : count ≡ digit_run 515 (drop 1 s)) w
   -- The count of the digits behind the colon.
   line_counted : Counted 515 (drop 1 s) count
   line_counted = rw e (counted 515 (drop 1 s))
-
-  -- They are digits.
-  pub line_all_digits : Digits (take (1 + count - 1) (drop 1 s))
-  line_all_digits = rw (add-sub_cancel_left 1 count) line_counted.digits
 
   -- So what is computed of them is what they stand for.
   pub line_unhexed : unhexed (take count (drop 1 s)) ≡ decoded (take count (drop 1 s))

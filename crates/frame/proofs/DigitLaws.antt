@@ -1,14 +1,12 @@
 -- Laws on digits: their values, and their count at the front of a list.
 -- Assumes nothing.
-use Rattle.std.proofs.Common.{◌≡◌, ℕ, zero, suc, ◌+◌, ◌-◌, ◌*◌, ◌/◌, ◌%◌, ◌<◌, ◌≤◌, min, Bool, true, false, cond, ◌&&◌, ◌||◌, ltb, leb, List, [], ◌∷◌, length, get_or, take, drop, refl, ◌∙◌, zero-add, arith, length-drop, drop-drop, ltb-false, ltb-true, le-leb, leb-true}
-use native.Mathlib.Nat.{sub-zero, suc-sub-suc}
+use Rattle.std.proofs.Common.{◌≡◌, ℕ, zero, suc, ◌+◌, ◌-◌, ◌*◌, ◌/◌, ◌%◌, ◌<◌, ◌≤◌, min, Bool, true, false, cond, ◌&&◌, ◌||◌, ltb, leb, List, [], ◌∷◌, length, get_or, take, drop, refl, arith, ltb-false, ltb-true, le-leb, leb-true}
 use mathlib.Core.Bool.{and-false, false≢true}
 use borrow.Author.Tests.{lt-leb}
 use Rattle.std.specs.List.{prefix_len}
 use Rattle.frame.specs.Digit.{within, is_digit, digit_value, digit_of}
-use Rattle.frame.specs.DigitRuns.{digit_run, Digits, all_pass}
+use Rattle.frame.specs.DigitRuns.{digit_run, Digits}
 use Rattle.frame.proofs.Numbers.{both_true}
-use Rattle.frame.proofs.Lists.{drop_next}
 
 -- A character above a range is not in it.
 pub above_range : (a b c : ℕ) → b < c → within a b c ≡ false
@@ -29,12 +27,6 @@ range_end a b c e = leb-true c b (last (leb a c) (leb c b) e)
 -- A character in a range is at least the range's start.
 pub range_start : (a b c : ℕ) → within a b c ≡ true → a ≤ c
 range_start a b c e = leb-true a c (both_true (leb a c) (leb c b) e).0
-
--- Where all characters are digits, the one at an index is.
-pub digit_at : (s : List ℕ) (i : ℕ) → Digits s → i < length s → is_digit (get_or s i 0) ≡ true
-digit_at [] i d h = absurd (omega arith)
-digit_at (c ∷ s) zero d h = d.0
-digit_at (c ∷ s) (suc i) d h = digit_at s i d.1 (omega arith)
 
 -- So are those from an index on, and those before one.
 pub digits_drop : (i : ℕ) (s : List ℕ) → Digits s → Digits (drop i s)
@@ -92,34 +84,6 @@ unfolding digit_value
 digit_of_value v h =
     digit_cases (λ (c : ℕ). digit_value c ≡ v) v (λ l. rw (in_range 0x30 0x39 (0x30 + v) (omega arith) (omega arith)) (omega arith))
     (λ l. rw (above_range 0x30 0x39 (0x37 + v) (omega arith), in_range 0x41 0x46 (0x37 + v) (omega arith) (omega arith)) (omega arith))
-
--- The count of digits from i on: where a digit stands at i, one more than from i + 1 on, else none.
-pub run_step : (digit : Bool) (most i : ℕ) (s : List ℕ) → i < most → i < length s → is_digit (get_or s i 0) ≡ digit
-    → digit_run (most - i) (drop i s) ≡ cond digit (suc (digit_run (most - (i + 1)) (drop (i + 1) s))) 0
-run_step digit most i s h k e = let one : most - i ≡ suc (most - (i + 1)) = omega arith in rw (one, drop_next s i k, e)
-
--- n digits at the front are n more in the count.
-pub run_block : (n most : ℕ) (s : List ℕ) → n ≤ most → n ≤ length s → all_pass is_digit (take n s) ≡ true
-    → digit_run most s ≡ n + digit_run (most - n) (drop n s)
-run_block zero most s h k e = rw (sub-zero, zero-add)
-run_block (suc n) zero s h k e = absurd (omega arith)
-run_block (suc n) (suc most) [] h k e = absurd (omega arith)
-run_block (suc n) (suc most) (c ∷ s) h k e =
-    let both = both_true (is_digit c) (all_pass is_digit (take n s)) e in
-    let rest = run_block n most s (omega arith) (omega arith) both.1 in
-    rw (both.0, suc-sub-suc) (omega (arith, rest))
-
--- 16 digits from i on are 16 more in the count from i on.
-pub run_on : (most i : ℕ) (s : List ℕ) → i + 16 ≤ most → i + 16 ≤ length s → all_pass is_digit (take 16 (drop i s)) ≡ true
-    → digit_run (most - i) (drop i s) ≡ 16 + digit_run (most - (i + 16)) (drop (i + 16) s)
-run_on most i s h k e =
-    let left : most - i - 16 ≡ most - (i + 16) = omega arith in
-    run_block 16 (most - i) (drop i s) (omega arith) (simp length-drop (omega arith)) e ∙ rw (left, drop-drop)
-
--- At the end of a list no digit stands.
-pub run_end : (most : ℕ) → digit_run most [] ≡ 0
-run_end zero = refl
-run_end (suc most) = refl
 
 -- r digits stand at the front of s; behind them, unless r is the most that are counted, no further one.
 pub record Counted (most : ℕ) (s : List ℕ) (r : ℕ) : Type 0 where

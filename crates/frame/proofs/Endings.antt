@@ -1,14 +1,13 @@
 -- The ending of a frame at each way out of `framing::judge_ending` and `framing::judge_complete`, and what is left to them in each framing.
 -- Assumes nothing.
-use Rattle.std.proofs.Common.{◌≡◌, ℕ, suc, ◌+◌, ◌-◌, ◌*◌, ◌/◌, ◌%◌, ◌<◌, ◌≤◌, Bool, true, false, ◌||◌, eqb, List, length, get_or, take, drop, sym, ap, ◌∙◌, add-zero, add-one, arith, eq-eqb, eqb-true}
+use Rattle.std.proofs.Common.{◌≡◌, ℕ, suc, ◌+◌, ◌-◌, ◌*◌, ◌/◌, ◌%◌, ◌<◌, ◌≤◌, Bool, true, false, eqb, List, length, get_or, take, drop, sym, ap, ◌∙◌, add-zero, add-one, arith, eqb-true}
 use borrow.Author.Tests.{eqb-false}
 use Rattle.frame.specs.Checks.{Checks, whole, last_byte, test, Verdict, cut, refused, frame, behind, run}
 use Rattle.frame.specs.Binary.{xor_of, body}
-use Rattle.frame.specs.Ascii.{carriage_return, line_feed, hex_digits, ends_digits, behind_digits, line_ending}
+use Rattle.frame.specs.Ascii.{hex_digits, behind_digits, line_ending}
 use Rattle.frame.specs.Parts.{end_checks}
 use Rattle.frame.specs.Judged.{decoded}
 use Rattle.frame.specs.declared.framing.Ending.{Ending}
-use Rattle.frame.specs.declared.framing.Ending.TheVariants.{CrLf, Any}
 use Rattle.frame.proofs.Trees.{behind_behind, pass_byte, fail_byte, cut_byte}
 use Rattle.frame.proofs.BinaryJudge.{body_checksum, body_passed}
 use Rattle.frame.proofs.AsciiJudge.{JudgesAt, Summed, line_checksum, line_ends}
@@ -73,8 +72,3 @@ line_ending_lem ending {s} {count} h r true q =
 line_ending_lem ending {s} {count} h r false q =
     line_checksum h (line_ending ending) (behind_digits ending) r (eqb-false _ _ q)
     ∙ sym (ending_wrong (behind_digits ending) (decoded (take (2 * (count / 2 - 1)) (drop 1 s))) s (1 + count))
-
--- CR ends digits under each ending.
-pub return_ends : (ending : Ending) (c : ℕ) → c ≡ carriage_return → ends_digits ending c ≡ true
-return_ends CrLf c e = eq-eqb c carriage_return e
-return_ends Any c e = ap (λ (q : Bool). q || eqb c line_feed) (eq-eqb c carriage_return e)

@@ -126,31 +126,12 @@ decoded_hex [] h = refl
 decoded_hex (b ∷ s) h =
     rw (digit_of_value (b / 16) (omega arith), digit_of_value (b % 16) (omega arith), div-add-mod' b 16, decoded_hex s h.1)
 
--- Two characters stand for one byte.
-pub decoded_next : (s : List ℕ) (i : ℕ) → i + 1 < length s
-    → decoded (drop i s) ≡ (digit_value (get_or s i 0) * 16 + digit_value (get_or s (i + 1) 0)) ∷ decoded (drop (i + 2) s)
-decoded_next s i h =
-    let two : i + 2 ≡ i + 1 + 1 = omega arith in rw (drop_next s i (omega arith), drop_next s (i + 1) h, two)
-
--- Fewer than two characters stand for no byte.
-pub decoded_short : (s : List ℕ) → length s ≤ 1 → decoded s ≡ []
-decoded_short [] h = refl
-decoded_short (a ∷ []) h = refl
-decoded_short (a ∷ b ∷ s) h = absurd (omega arith)
-
 -- Behind 2 i characters stand the bytes behind i bytes.
 pub decoded_drop : (i : ℕ) (s : List ℕ) → decoded (drop (2 * i) s) ≡ drop i (decoded s)
 decoded_drop zero s = refl
 decoded_drop (suc i) [] = rw drop-nil
 decoded_drop (suc i) (a ∷ []) = rw (mul-suc, add-two)
 decoded_drop (suc i) (a ∷ b ∷ s) = rw (mul-suc, add-two) (decoded_drop i s)
-
--- The byte at i, of the characters that stand for it.
-pub decoded_at : (s : List ℕ) (i : ℕ) → 2 * i + 1 < length s
-    → get_or (decoded s) i 0 ≡ digit_value (get_or s (2 * i) 0) * 16 + digit_value (get_or s (2 * i + 1) 0)
-decoded_at s i h =
-    ap (λ (k : ℕ). get_or (decoded s) k 0) (sym (add-zero i)) ∙ sym (get_or-drop i (decoded s) 0 0)
-    ∙ ap (λ (l : List ℕ). get_or l 0 0) (sym (decoded_drop i s) ∙ decoded_next s (2 * i) h)
 
 -- An even count of digits is the characters of the bytes that they stand for.
 pub hex_decoded : (s : List ℕ) → Digits s → length s % 2 ≡ 0 → hex (decoded s) ≡ s
@@ -271,27 +252,6 @@ sum_block s i h =
       ap₂ (λ (x y : List ℕ). sum_of x + sum_of y) (unhexed_take 16 (drop i s)) rest ∙ sym (sum_append (take 16 d) (drop 16 d)) ∙ ap sum_of (take-append-drop 16 d),
       omega (arith, sum_most (unhexed (take 32 (drop i s))) (unhexed_bytes (take 32 (drop i s))), length_block s i h),
     )
-
--- The sum of the bytes from i to a later end is that of the byte at i and of those behind it; up to i itself there is none.
-pub sum_next : (s : List ℕ) (i end : ℕ) → i < end → end ≤ length s
-    → sum_of (take (end - i) (drop i s)) ≡ get_or s i 0 + sum_of (take (end - (i + 1)) (drop (i + 1) s))
-sum_next s i end h l = let one : end - i ≡ suc (end - (i + 1)) = omega arith in rw (one, drop_next s i (omega arith))
-
-pub sum_none : (s : List ℕ) (i end : ℕ) → end ≤ i → sum_of (take (end - i) (drop i s)) ≡ 0
-sum_none s i end h = let none : end - i ≡ 0 = omega arith in rw none
-
--- The sums of two parts in a row are that of both.
-pub sum_parts : (s : List ℕ) (a b c : ℕ) → a ≤ b → b ≤ c
-    → sum_of (take (b - a) (drop a s)) + sum_of (take (c - b) (drop b s)) ≡ sum_of (take (c - a) (drop a s))
-sum_parts s a b c h l =
-    let d : List ℕ = drop a s in
-    let left : c - a - (b - a) ≡ c - b = omega arith in
-    let there : a + (b - a) ≡ b = omega arith in
-    let first : take (b - a) (take (c - a) d) ≡ take (b - a) d = take-take (b - a) (c - a) d (omega arith) in
-    let second : drop (b - a) (take (c - a) d) ≡ take (c - b) (drop b s) =
-    drop_take (b - a) (c - a) d ∙ ap₂ (λ (k : ℕ) (r : List ℕ). take k r) left (drop-drop (b - a) a s ∙ ap (λ (k : ℕ). drop k s) there)
-    in
-    ap₂ (λ (x y : List ℕ). sum_of x + sum_of y) (sym first) (sym second) ∙ sum_split (b - a) (take (c - a) d)
 
 -- Behind whole blocks of 16 bytes fewer than 16 are left: they are the last ones of the last 16. An odd character at the end stands for none.
 pub behind_blocks :

@@ -1,52 +1,14 @@
 -- Laws on eight characters in one number, each in its own byte, and on the count of digits among them.
 -- Assumes nothing.
-use Rattle.std.proofs.Common.{◌≡◌, ℕ, zero, suc, ◌+◌, ◌-◌, ◌*◌, ◌/◌, ◌%◌, ◌<◌, ◌≤◌, min, Bool, true, false, cond, ◌&&◌, eqb, ◌⊎◌, List, [], ◌∷◌, length, get_or, take, drop, sym, refl, ap, ◌∙◌, ap₂, inl, inr, mul-le-mul, eq-or-lt_of_le, one-mul, zero-add, zero-mul, arith, take-append-drop, take_all, eqb-true}
-use native.Mathlib.Nat.{sub-zero, suc-sub-suc}
-use mathlib.Core.Bool.{false≢true}
+use Rattle.std.proofs.Common.{◌≡◌, ℕ, zero, suc, ◌+◌, ◌*◌, ◌/◌, ◌%◌, ◌<◌, ◌≤◌, min, Bool, true, false, cond, eqb, List, [], ◌∷◌, length, get_or, take, drop, sym, refl, ap, ◌∙◌, ap₂, zero-add, arith, take_all, eqb-true}
 use lib.Bits.{bit_and, bit_or, bit_xor, and_block, or_block, xor_block, and_lt, or_lt, xor_lt, and_le_r}
 use Rattle.std.specs.Int.{from_le_bytes, w64}
-use lib.Count.{count_trailing_zeros, under, trailing_le}
+use lib.Count.{count_trailing_zeros, under}
 use Rattle.frame.specs.Digit.{is_digit}
 use Rattle.frame.specs.Elements.{Bytes}
-use Rattle.frame.specs.DigitRuns.{digit_run, little_endian, all_pass}
-use Rattle.frame.proofs.DigitLaws.{counted}
-use Rattle.frame.proofs.Lists.{drop_next, bytes_left, bytes_right, take_least}
+use Rattle.frame.specs.DigitRuns.{digit_run, little_endian}
+use Rattle.frame.proofs.Lists.{drop_next, take_least}
 use Rattle.frame.proofs.Numbers.{below_at}
-
--- n digits at the front are n more in the count.
-run_full : (n most : ℕ) (s : List ℕ) → n ≤ most → digit_run n s ≡ n → digit_run most s ≡ n + digit_run (most - n) (drop n s)
-run_full zero most s h e = rw (sub-zero, zero-add)
-run_full (suc n) zero s h e = absurd (omega arith)
-run_full (suc n) (suc most) [] h e = absurd (omega arith)
-run_full (suc n) (suc most) (c ∷ s) h e = by_digit (is_digit c) (run_full n most s (omega arith)) e
-  where
-    by_digit : (q : Bool) → (digit_run n s ≡ n → digit_run most s ≡ n + digit_run (most - n) (drop n s)) → cond q (suc (digit_run n s)) 0 ≡ suc n
-        → cond q (suc (digit_run most s)) 0 ≡ suc n + digit_run (suc most - suc n) (drop n s)
-    by_digit true rest k = rw suc-sub-suc (omega (arith, rest (omega arith)))
-    by_digit false rest k = absurd (omega arith)
-
--- Where fewer than n digits stand at the front, a count up to more than n finds no more.
-pub run_part : (n most : ℕ) (s : List ℕ) → n ≤ most → digit_run n s < n → digit_run most s ≡ digit_run n s
-run_part zero most s h l = absurd (omega arith)
-run_part (suc n) zero s h l = absurd (omega arith)
-run_part (suc n) (suc most) [] h l = refl
-run_part (suc n) (suc most) (c ∷ s) h l = by_digit (is_digit c) (run_part n most s (omega arith)) l
-  where
-    by_digit : (q : Bool) → (digit_run n s < n → digit_run most s ≡ digit_run n s) → cond q (suc (digit_run n s)) 0 < suc n
-        → cond q (suc (digit_run most s)) 0 ≡ cond q (suc (digit_run n s)) 0
-    by_digit true rest k = ap suc (rest (omega arith))
-    by_digit false rest k = refl
-
--- Where not all of the first n characters are digits, fewer than n digits stand at the front.
-pub run_fewer : (n : ℕ) (s : List ℕ) → all_pass is_digit (take n s) ≡ false → digit_run n s < n
-run_fewer zero s e = absurd (false≢true (sym e))
-run_fewer (suc n) [] e = omega arith
-run_fewer (suc n) (c ∷ s) e = by_digit (is_digit c) (run_fewer n s) e
-  where
-    by_digit : (q : Bool) → (all_pass is_digit (take n s) ≡ false → digit_run n s < n) → (q && all_pass is_digit (take n s)) ≡ false
-        → cond q (suc (digit_run n s)) 0 < suc n
-    by_digit true rest k = omega (arith, rest k)
-    by_digit false rest k = omega arith
 
 -- The count up to n looks at the first n characters only.
 run_front : (n : ℕ) (s : List ℕ) → digit_run n (take n s) ≡ digit_run n s
@@ -57,24 +19,6 @@ run_front (suc n) (c ∷ s) = ap (λ (k : ℕ). cond (is_digit c) (suc k) 0) (ru
 -- So the list may be cut to n characters first.
 pub run_cut : (n : ℕ) (s : List ℕ) → digit_run n (take (min (length s) n) s) ≡ digit_run n s
 run_cut n s = ap (digit_run n) (take_least s n) ∙ run_front n s
-
--- The count up to 16 by two counts up to 8, of which the second matters where the first is 8.
-pub run_two : (s : List ℕ) → digit_run 8 s + digit_run 8 s / 8 * digit_run 8 (drop 8 s) ≡ digit_run 16 s
-run_two s =
-    by_size (digit_run 8 s) (digit_run 8 (drop 8 s)) (digit_run 16 s) (run_full 8 16 s (omega arith)) (run_part 8 16 s (omega arith))
-    (eq-or-lt_of_le (counted 8 s).room)
-  where
-    by_size : (x y r : ℕ) → (x ≡ 8 → r ≡ 8 + y) → (x < 8 → r ≡ x) → (x ≡ 8) ⊎ (x < 8) → x + x / 8 * y ≡ r
-    by_size x y r full part (inl e) = let one : x / 8 ≡ 1 = omega arith in rw (one, one-mul) (omega (arith, full e))
-    by_size x y r full part (inr l) = let none : x / 8 ≡ 0 = omega arith in rw (none, zero-mul) (omega (arith, part l))
-
--- The first of two counts is at most 8, and so is what the second adds.
-pub run_two_small : (s t : List ℕ) (x y : ℕ) → x ≡ digit_run 8 s → y ≡ digit_run 8 t → (x ≤ 8) × (x / 8 * y ≤ 8)
-run_two_small s t x y e k =
-    let first : x ≤ 8 = omega (arith, (counted 8 s).room) in
-    let second : y ≤ 8 = omega (arith, (counted 8 t).room) in
-    let one : x / 8 ≤ 1 = omega arith in
-    (first, mul-le-mul one second)
 
 -- The characters from a place on: the one there is the lowest byte.
 little_endian_next :
@@ -101,12 +45,6 @@ word_little_endian s h =
 pub bytes_by : (s : List ℕ) → ((i : ℕ) → get_or s i 0 < 256) → Bytes s
 bytes_by [] h = tt
 bytes_by (b ∷ s) h = (h 0, bytes_by s (λ i. h (suc i)))
-
--- The n bytes from `at` on are bytes.
-bytes_from : (n at : ℕ) (s : List ℕ) → Bytes s → Bytes (take n (drop at s))
-bytes_from n at s h =
-    let behind : Bytes (drop at s) = bytes_right (take at s) (drop at s) (rw (take-append-drop at s) h) in
-    bytes_left (take n (drop at s)) (drop n (drop at s)) (rw (take-append-drop n (drop at s)) behind)
 
 -- n bytes m, as one number.
 abbrev repeated : ℕ → ℕ → ℕ
@@ -275,7 +213,3 @@ pub word_digits : (s : List ℕ) (w : ℕ) → length s ≡ 8 → Bytes s → w 
     → count_trailing_zeros 64 (others (λ (m : ℕ). repeated m 8) w) / 8 ≡ digit_run 8 s
 word_digits s w h b e =
     ap (λ (v : ℕ). count_trailing_zeros 64 (others (λ (m : ℕ). repeated m 8) v) / 8) e ∙ others_run 8 s b h
-
--- That is at most 8.
-pub word_digits_small : (w : ℕ) → count_trailing_zeros 64 (others (λ (m : ℕ). repeated m 8) w) / 8 ≤ 8
-word_digits_small w = omega (arith, trailing_le 64 (others (λ (m : ℕ). repeated m 8) w))

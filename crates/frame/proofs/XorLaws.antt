@@ -1,6 +1,6 @@
 -- Laws on the XOR of bytes, one by one and as the bytes of words.
 -- Assumes nothing.
-use Rattle.std.proofs.Common.{◌≡◌, ℕ, zero, suc, ◌+◌, ◌*◌, ◌/◌, ◌%◌, ◌^◌, ◌<◌, ◌≤◌, Bool, true, eqb, List, [], ◌∷◌, ◌++◌, length, get_or, take, drop, sym, refl, ap, ◌∙◌, ap₂, mul_comm, suc-add, pow-suc, zero-add, div-one, arith, take-append-drop, drop_of_length-le, take-add, eqb-true}
+use Rattle.std.proofs.Common.{◌≡◌, ℕ, zero, suc, ◌+◌, ◌*◌, ◌/◌, ◌%◌, ◌^◌, ◌<◌, ◌≤◌, Bool, true, eqb, List, [], ◌∷◌, ◌++◌, length, get_or, take, drop, sym, refl, ap, ◌∙◌, ap₂, mul_comm, suc-add, pow-suc, zero-add, div-one, arith, take-append-drop, take-add, eqb-true}
 use native.Mathlib.Nat.{div-div-eq-div-mul}
 use lib.Arith.{bin_ind}
 use lib.Bits.{bit_xor, differ, xor_step, xor_comm, xor_shr, xor_mod, xor_zero_r}
@@ -53,14 +53,6 @@ xor_append a (b ∷ s) t = xor_append (bit_xor a b) s t
 -- The XOR of the first k bytes, carried over those that are left, is that of all.
 pub xor_front : (s : List ℕ) (k : ℕ) → xor_from (xor_of (take k s)) (drop k s) ≡ xor_of s
 xor_front s k = sym (xor_append 0 (take k s) (drop k s)) ∙ ap xor_of (take-append-drop k s)
-
--- One byte more of an XOR.
-pub xor_next : (a : ℕ) (s : List ℕ) (i j : ℕ) → i + 1 ≡ j → i < length s → xor_from a (drop i s) ≡ xor_from (bit_xor a (get_or s i 0)) (drop j s)
-xor_next a s i j e h = ap (xor_from a) (drop_next s i h) ∙ ap (λ (k : ℕ). xor_from (bit_xor a (get_or s i 0)) (drop k s)) e
-
--- None is left.
-pub xor_end : (a : ℕ) (s : List ℕ) (i : ℕ) → length s ≤ i → xor_from a (drop i s) ≡ a
-xor_end a s i h = ap (xor_from a) (drop_of_length-le s h)
 
 -- The XOR of the bytes of two numbers' XOR is that of both numbers' bytes.
 bytes_xor_lem : (n a b : ℕ) → bytes_xor n (bit_xor a b) ≡ bit_xor (bytes_xor n a) (bytes_xor n b)

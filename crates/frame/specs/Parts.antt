@@ -1,6 +1,6 @@
 -- Behind the public calls: what functions of ascii.rt and framing.rt ask for and answer.
 use Rattle.std.specs.Prelude.{◌≡◌, ℕ, ◌+◌, ◌*◌, ◌%◌, ◌<◌, ◌≤◌, Bool, true, List, length, take, drop, slice_index, slice_index_or}
-use Rattle.frame.specs.Checks.{Checks, whole, last_byte, test, behind, run}
+use Rattle.frame.specs.Checks.{Checks, last_byte, test, behind, run}
 use Rattle.frame.specs.Ascii.{colon, ends_digits}
 use Rattle.frame.specs.DigitRuns.{Digits}
 use Rattle.frame.specs.Judged.{payload_at, payload_end, verdict_of}
@@ -43,7 +43,3 @@ EndedSo s end right rest len r =
 -- Where one byte, `last`, is left (5).
 abbrev pub Ended : List ℕ → ℕ → Bool → ℕ → ℕ → Judged → Type 0
 Ended s end right last len r = EndedSo s end right (last_byte last) len r
-
--- Where nothing is left.
-abbrev pub Completed : ℕ → Bool → ℕ → Judged → Type 0
-Completed end right len r = (s : List ℕ) → EndedSo s end right whole len r

@@ -193,7 +193,7 @@ pub(crate) fn put_hex(dst: &mut [u8], at: usize, b: u8)
 }
 
 // Puts the digits of src into dst from `at` on.
-pub(crate) fn encode(dst: &mut [u8], at: usize, src: &[u8])
+pub fn encode(dst: &mut [u8], at: usize, src: &[u8])
     requires { at + 2 * length src.now ≤ length dst.old }
     ensures { dst.new ≡ paste dst.old at (hex src.now) (2 * length src.now) }
 {

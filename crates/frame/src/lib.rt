@@ -12,6 +12,6 @@ mod single;
 pub use framing::{
     Ending, Footer, Format, Framing, Judged, absorbed, extract, judge, may_follow, unpack,
 };
-pub use hex::hex_of;
+pub use hex::{encode as encode_hex, hex_of};
 pub use refusal::Refusal;
 pub use single::{FrameRead, read_frame, read_frame_as, write_frame};

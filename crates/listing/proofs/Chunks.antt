@@ -28,7 +28,7 @@ use Rattle.frame.specs.declared.refusal.Refusal.TheVariants.{Start, Cut, Length,
 use Rattle.reader.proofs.Theorems.{line_drains, needs_more_is_drained, needs_more_is_true, quiet_follows_rule, empty_is_drained}
 use Rattle.reader.proofs.Theorems.{drain_is_sized, rule_is_sized, line_counts_lem, quiet_counts_lem, drain_counts, state_bound}
 use Rattle.listing.specs.Line.{line_of, lines_of}
-use Rattle.listing.specs.Listing.{text_values, no_text_values, values_of, Lists, chunk_refusal, end_refusal}
+use Rattle.listing.specs.Listing.{text_values, values_of, Lists, chunk_refusal, end_refusal}
 use Rattle.std.specs.Prelude.{Result, Ok, Err}
 use Rattle.std.specs.Borrow.{MutBor}
 use Rattle.reader.specs.Reader.{feed_values_of, quiet_values_of, call_refusal}
@@ -483,16 +483,6 @@ chunk_free r room size e h k = rw (e, le-leb 198159 room h, le-leb size 65536 k)
 
 pub end_free : (r : Reader) (room : ℕ) → sound r ≡ true → 1551 ≤ room → end_refusal r room ≡ 0
 end_free r room e h = rw (e, le-leb 1551 room h)
-
--- A refused call.
-pub refused_lists :
-    {number : ℕ} (o : Output (List ℕ)) {judged : ℕ} {Next : Reader → Type 0} (r : Reader) (out : List ℕ) (refusal : Refusal) → number_of refusal ≡ number →
-    Lists number o judged Next r out (listed_of r (Err refusal)) out
-refused_lists o r out refusal n =
-    record {
-      refuses = λ z. (ap no_text_values n, refl, refl);
-      answers = λ z. absurd (number_some refusal (ap (λ (k : ℕ). eqb k 0) n ∙ z));
-    }
 
 -- A call that is not refused.
 pub answered_lists :

@@ -3,14 +3,13 @@
 use Prim.Native.Nat.{ℕ, ◌+◌, ◌-◌, ◌*◌, ◌≤◌}
 use native.Mathlib.Omega.{arith}
 use mathlib.Core.Path.{◌≡◌, refl, sym}
-use mathlib.Core.List.{List, [], ◌∷◌, ◌++◌, map}
+use mathlib.Core.List.{List, [], ◌∷◌, map}
 use mathlib.Core.Bool.{Bool, true, false, cond, ◌&&◌}
 use borrow.Author.Tests.{eqb-true, leb-true}
 use lib.Dec.{leb, ltb, eqb}
 use lib.ListN.{length, take, drop, length-append, length-drop}
 use lib.Seq.{take-length}
 use Rattle.frame.specs.Hex.{hex, sum_of}
-use Rattle.frame.specs.Ascii.{line_feed}
 use Rattle.reader.specs.Draining.{overhead}
 use Rattle.frame.specs.declared.framing.Footer.TheVariants.{Optional, Required}
 use Rattle.frame.specs.declared.framing.Ending.TheVariants.{CrLf, Any}
@@ -36,7 +35,7 @@ use Rattle.message.specs.declared.from_module.Delivery.TheVariants.{Simple as Si
 use Rattle.message.specs.declared.from_module.Notice.{Notice}
 use Rattle.message.specs.declared.from_module.Notice.TheVariants.{Response as IsResponse, Standard, Remote, Setup}
 use Rattle.listing.specs.Line.{data_field, decimal, simple_line, reception_line, response_line, standard_line, remote_line, refusal_line, meaning_line}
-use Rattle.listing.specs.Line.{settings_line, delivery_line, line_of, lines_of}
+use Rattle.listing.specs.Line.{settings_line, line_of, lines_of}
 use Rattle.message.proofs.Theorems.{message_is_sized, data_is_inside}
 
 -- Two characters for each byte.
@@ -225,11 +224,6 @@ pub lines_short : (m : Format) (ps : List (List ℕ)) → length (lines_of ps) �
 lines_short m [] = omega arith
 lines_short m (p ∷ ps) = simp length-append (omega (arith, overhead_least m, line_short p, lines_short m ps))
 
--- The line of what a payload was found to mean is the payload's line.
-pub line_by : (p : List ℕ) {m : Meaning Delivery Notice} → m ≡ read_from_module p → meaning_line p m ++ (line_feed ∷ []) ≡ line_of p
-unfolding line_of
-line_by p e = rw e
-
 -- The data of a message begin within its payload.
 pub start_inside : (p : List ℕ) {m : Delivery} {start : ℕ} → carrying m start ≡ read_from_module p → start ≤ length p
 start_inside p {m} {start} e = data_is_inside.delivery p m start (sym e)
@@ -244,9 +238,3 @@ notice_long p {m} e = (message_is_sized notices p m (sym e)).0
 -- The bytes from a place on are all that there are.
 pub rest_is : (p : List ℕ) (start : ℕ) → start ≤ length p → take (length p - start) (drop start p) ≡ drop start p
 rest_is p start h = rw (← length-drop start p) (take-length (drop start p))
-
--- The line of a message with its data, which are the payload from a place on.
-pub delivery_by :
-    (p : List ℕ) {d m : Delivery} {start : ℕ} → carrying d start ≡ read_from_module p → d ≡ m →
-    delivery_line p m (take (length p - start) (drop start p)) ++ (line_feed ∷ []) ≡ line_of p
-delivery_by p {start = start} e is = rw (← is, rest_is p start (start_inside p e)) (line_by p e)

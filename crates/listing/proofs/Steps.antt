@@ -47,6 +47,10 @@ module _ {v₀ : View} {chunk : List ℕ} {g₀ : Listing} (can : CanView v₀ c
   view_says : FeedSays (view_call v chunk) (view_judged v chunk) buf' a.answer × NextView v chunk (view_call v chunk) a.view
   view_says = feed_says (view_call v chunk) (view_free v chunk buf on.within full can.small) a.answer (view_reports v chunk buf a buf' h)
 
+  -- It is not refused.
+  pub view_never : {e : Refusal} → a.answer ≡ Err e → ⊥
+  view_never was = subst (FeedSays (view_call v chunk) (view_judged v chunk) buf') was view_says.0
+
   module _ {x : FeedAnswer} (was : a.answer ≡ Ok x) {taken noise n len began : ℕ} (is : x ≡ FeedFrame taken noise n len began) where
     view_frame : SaysFrame (view_call v chunk) (view_judged v chunk) buf' taken noise n len
     view_frame = subst (FeedSays (view_call v chunk) (view_judged v chunk) buf') (was ∙ ap Ok is) view_says.0

@@ -1,5 +1,5 @@
-use Rattle.std.proofs.Common.{zero, suc, ◌*◌, ◌≡◌, ℕ, ◌+◌, ◌<◌, ◌∙◌, List, [], ◌∷◌, ◌++◌, length, take, drop, get_or, refl, ap, ap₂, subst, sym, append_assoc, append-nil, arith, length-append, length-drop}
-use Rattle.std.proofs.Math.Seq.{drop-drop, take-append_seam, drop-append_seam}
+use Rattle.std.proofs.Common.{◌*◌, ◌≡◌, ℕ, ◌+◌, ◌∙◌, List, [], ◌∷◌, ◌++◌, length, take, drop, refl, ap, ap₂, subst, sym, append_assoc, append-nil, arith, length-append, length-drop}
+use Rattle.std.proofs.Math.Seq.{paste, take-length, drop-drop, take-append_seam, drop-append_seam}
 use lib.ListN.{length-take}
 use Rattle.std.proofs.lemmas.List.{take-append-drop}
 use native.Mathlib.Nat.{zero-add}
@@ -92,10 +92,6 @@ pub length_hex : (s : List ℕ) → length (hex s) ≡ 2 * length s
 length_hex [] = refl
 length_hex (b ∷ s) = omega (arith, length_hex s)
 
--- The digits of the first bytes and of one more.
-pub hex_more : (s : List ℕ) (i : ℕ) → i < length s → hex (take (suc i) s) ≡ hex (take i s) ++ hex (get_or s i 0 ∷ [])
-hex_more [] i h = absurd (omega arith)
-hex_more (b ∷ s) zero h = refl
-hex_more (b ∷ s) (suc i) h =
-    let next : i < length s = omega arith in
-    rw (hex_more s i next)
+-- Digits that are put into a buffer at a place.
+pub paste_hex : (d : List ℕ) (at : ℕ) (s : List ℕ) → paste d at (hex s) (2 * length s) ≡ take at d ++ hex s ++ drop (at + length (hex s)) d
+paste_hex d at s = rw (← length_hex s, take-length (hex s))

@@ -75,8 +75,8 @@ impl Listing<'_> {
         self.put_field(&status.signals.to_be_bytes());
     }
 
-    #[tactic(auto, unfolding(crate::specs::Line::settings_line))]
     // Puts the line of a message that sets up the module, from its payload.
+    #[tactic(auto, unfolding(crate::specs::Line::settings_line))]
     fn put_settings(&mut self, payload: &[u8])
         requires in_bounds { 2 ≤ length payload.now }
         requires room { HasRoom self.old (settings_line payload.now) }

@@ -136,6 +136,7 @@ impl Listed {
     }
 }
 
+// Lists a chunk: the reader that follows, and the lines.
 fn chunk_lines(reader: Reader, chunk: &[u8], out: &mut [u8]) -> Result<(Reader, Lines), Refusal>
     ensures { ListsChunk reader chunk.now out.old (listed_of reader result) out.new }
 {
@@ -153,6 +154,7 @@ pub fn list_chunk(reader: Reader, chunk: &[u8], out: &mut [u8]) -> Listed
     Listed::of(reader, chunk_lines(reader, chunk, out))
 }
 
+// Lists a quiet: the same.
 fn quiet_lines(reader: Reader, out: &mut [u8]) -> Result<(Reader, Lines), Refusal>
     ensures { ListsQuiet reader out.old (listed_of reader result) out.new }
 {

@@ -48,6 +48,7 @@ impl<'a> Listing<'a> {
         self.lines.judged += judged;
     }
 
+    // Puts all of s.
     pub(crate) fn put(&mut self, s: &[u8])
         requires { HasRoom self.old s.now }
         ensures { Adds self.old s.now 0 0 self.new }
@@ -61,9 +62,9 @@ impl<'a> Listing<'a> {
         requires { HasRoom self.old (hex bytes.now) }
         ensures { Adds self.old (hex bytes.now) 0 0 self.new }
     {
-        for b in bytes {
-            self.put(&frame::hex_of(*b));
-        }
+        let out = &mut *self.out;
+        frame::encode_hex(out, self.lines.len, bytes);
+        self.lines.len += 2 * bytes.len();
     }
 
     // Puts a field: its bytes in hex, behind a space.

@@ -2,82 +2,80 @@
 #![tactic(auto)]
 
 use console::{append, front, hex_bytes, rest};
-use frame::{Framing, WriteAnswer};
-use listing::{CHUNK_ROOM, ListAnswer, list_chunk, list_quiet, list_total};
+use frame::Framing;
+use listing::{CHUNK_ROOM, Listed, list_chunk, list_quiet, list_total};
 use reader::Reader;
 
 // The number of standard output.
 const STDOUT_FILENO: i32 = 1;
 
-// A listing so far: the reader's state, the noise, and how many bytes of text there are.
+// A listing so far: the reader's state, the noise, and the text, which is the first `end` bytes of a lent buffer.
 #[derive(Drop)]
-struct Run {
+struct Run<'a> {
     reader: Reader,
     noise: u64,
+    text: &'a mut [u8],
     end: usize,
 }
 
-// Adds the text of an answer, which is in the front of out. None of the calls here is refused; one that is adds no text, which shows in the output.
-fn add_answer(run: Run, reader: Reader, answer: ListAnswer, out: &[u8], text: &mut [u8]) -> Run {
-    match answer {
-        ListAnswer::Lines { len, noise, .. } => {
-            let end = append(text, run.end, front(out, len));
-            let noise = run.noise.wrapping_add(noise as u64);
-            Run { reader, noise, end }
-        }
-        ListAnswer::Refused(_) => run,
+impl Run<'_> {
+    fn add_text(&mut self, s: &[u8]) {
+        let text = &mut *self.text;
+        self.end = append(text, self.end, s);
     }
-}
 
-// Adds the listing of a chunk.
-fn add_chunk(run: Run, chunk: &[u8], out: &mut [u8], text: &mut [u8]) -> Run {
-    let listed = list_chunk(run.reader, chunk, out);
-    let reader = listed.reader;
-    let answer = listed.answer;
-    add_answer(run, reader, answer, out, text)
-}
+    // Adds an answer, whose text is in the front of out. None of the calls here is refused; one that is adds no text, which shows in the output.
+    fn add(&mut self, listed: Listed, out: &[u8]) {
+        if let Ok(lines) = listed.answer {
+            self.add_text(front(out, lines.len));
+            self.reader = listed.reader;
+            self.noise = self.noise.wrapping_add(lines.noise as u64);
+        }
+    }
 
-// Adds the listing of the quiet and the total, and gives the text's end.
-fn add_end(run: Run, out: &mut [u8], text: &mut [u8]) -> usize {
-    let listed = list_quiet(run.reader, out);
-    let reader = listed.reader;
-    let answer = listed.answer;
-    let last = add_answer(run, reader, answer, out, text);
-    match list_total(last.noise, out) {
-        WriteAnswer::Written(len) => append(text, last.end, front(out, len)),
-        WriteAnswer::Refused(_) => last.end,
+    // Adds the listing of a chunk.
+    fn add_chunk(&mut self, chunk: &[u8], out: &mut [u8]) {
+        let listed = list_chunk(self.reader, chunk, out);
+        self.add(listed, out);
+    }
+
+    // Adds the listing of the quiet and the total, and gives the text's end.
+    fn finish(mut self, out: &mut [u8]) -> usize {
+        let listed = list_quiet(self.reader, out);
+        self.add(listed, out);
+        if let Ok(len) = list_total(self.noise, out) {
+            self.add_text(front(out, len));
+        }
+        self.end
     }
 }
 
 // Lists a segment in two chunks, of which the first has `cut` bytes, and gives the text's end. In binary framing the footer is optional.
 fn list_cut(framing: Framing, segment: &[u8], cut: usize, text: &mut [u8]) -> usize {
     let mut out = [0u8; CHUNK_ROOM];
-    let start = Run {
+    let mut run = Run {
         reader: Reader::new(framing),
         noise: 0,
+        text,
         end: 0,
     };
-    let first = add_chunk(start, front(segment, cut), &mut out, text);
-    let second = add_chunk(first, rest(segment, cut), &mut out, text);
-    add_end(second, &mut out, text)
+    run.add_chunk(front(segment, cut), &mut out);
+    run.add_chunk(rest(segment, cut), &mut out);
+    run.finish(&mut out)
 }
 
 // How many cuts of a segment, the empty ones too, give this text.
 fn count_cuts(framing: Framing, segment: &[u8], expected: &[u8]) -> u64 {
-    let mut count: u64 = 0;
-    let mut cut: usize = 0;
-    while cut <= segment.len() {
+    let cuts = (0..=segment.len()).filter(|cut| {
         let mut text = [0u8; 1024];
-        let end = list_cut(framing, segment, cut, &mut text);
-        if check::same(front(&text, end), expected) {
-            count = count.wrapping_add(1);
-        }
-        cut += 1;
-    }
-    count
+        let end = list_cut(framing, segment, *cut, &mut text);
+        front(&text, end) == expected
+    });
+    cuts.count() as u64
 }
 
 // Prints a segment's name, its listing as one chunk, and how many of its cuts give the same.
+// Kept: for println the handle would pass through all nine functions that show something, and each of their thirty calls would end in `?`.
 fn show_in(framing: Framing, name: &[u8], segment: &[u8]) {
     let mut text = [0u8; 1024];
     let end = list_cut(framing, segment, 0, &mut text);
@@ -107,15 +105,14 @@ fn show_binary(name: &[u8], pairs: &[u8]) {
 // Shows a frame with a payload of 256 bytes that begins with `head`, and goes on with each byte's own index.
 fn show_longest(name: &[u8], head: &[u8]) {
     let mut payload = [0u8; 256];
-    let mut i: usize = 0;
-    while i < 256 {
-        payload[i] = i as u8;
-        i += 1;
+    for (i, b) in payload.iter_mut().enumerate() {
+        *b = i as u8;
     }
     append(&mut payload, 0, head);
     let mut frame = [0u8; 517];
-    frame::write_frame(Framing::Ascii, &payload, &mut frame);
-    show(name, &frame);
+    if let Ok(len) = frame::write_frame(Framing::Ascii, &payload, &mut frame) {
+        show(name, front(&frame, len));
+    }
 }
 
 // Shows a frame with one byte more than a payload can have, and a good one behind it.

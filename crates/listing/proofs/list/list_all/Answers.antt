@@ -1,20 +1,11 @@
 -- `listing::list::list_all` meets its contract: what is listed so far, and what the calls from the present state on give, is all.
 -- Assumes nothing.
 use Rattle.std.proofs.Common.{arith, refl, ◌∙◌}
-use Rattle.io.proofs.Counting.{length-take_of_le}
-use Rattle.listing.proofs.Steps.{held_starts, held_inside, held_can_add, held_taken, held_less, held_adds, held_can_count, held_lists, held_view, held_all}
+use Rattle.listing.proofs.Steps.{held_starts, held_can_add, held_taken, held_less, held_adds, held_can_count, held_lists, held_view, held_all}
 use Rattle.listing.proofs.list.list_all.Goals as goal
 
 pub loop-reader-init : goal.loop-reader-init
 loop-reader-init c = (refl, held_starts c.args.reader c.args.chunk.now c.args.listing.now c.requires)
-
-pub slice_bounds-buf-end : goal.slice_bounds-buf-end
-slice_bounds-buf-end c = held_inside c.requires c.loop-reader.invariant.1 c.loop-reader.invariant.0 _ c.feed-fed.ensures c.in_ok-taken.was c.in-Frame.is
-
-pub slice_bounds-frame-end : goal.slice_bounds-frame-end
-slice_bounds-frame-end c =
-    length-take_of_le _ _
-    (held_inside c.requires c.loop-reader.invariant.1 c.loop-reader.invariant.0 _ c.feed-fed.ensures c.in_ok-taken.was c.in-Frame.is)
 
 pub frame-requires : goal.frame-requires
 frame-requires c = held_can_add c.requires c.loop-reader.invariant.1 c.loop-reader.invariant.0 _ c.feed-fed.ensures c.in_ok-taken.was c.in-Frame.is

@@ -1,20 +1,11 @@
 -- `listing::list::list_held` meets its contract: what is listed so far, and what the calls from the present state on give, is all.
 -- Assumes nothing.
 use Rattle.std.proofs.Common.{refl, ◌∙◌}
-use Rattle.io.proofs.Counting.{length-take_of_le}
-use Rattle.listing.proofs.Steps.{quiet_starts, quiet_inside, quiet_can_add, quiet_less, quiet_adds, quiet_can_count, quiet_lists}
+use Rattle.listing.proofs.Steps.{quiet_starts, quiet_can_add, quiet_less, quiet_adds, quiet_can_count, quiet_lists}
 use Rattle.listing.proofs.list.list_held.Goals as goal
 
 pub loop-noise-init : goal.loop-noise-init
 loop-noise-init c = (refl, quiet_starts c.args.reader c.args.listing.now c.requires)
-
-pub slice_bounds-buf-end : goal.slice_bounds-buf-end
-slice_bounds-buf-end c = quiet_inside c.loop-noise.invariant.1 c.loop-noise.invariant.0 _ c.quiet-quieted.ensures c.in_ok-noise.was c.in-Frame.is
-
-pub slice_bounds-frame-end : goal.slice_bounds-frame-end
-slice_bounds-frame-end c =
-    length-take_of_le _ _
-    (quiet_inside c.loop-noise.invariant.1 c.loop-noise.invariant.0 _ c.quiet-quieted.ensures c.in_ok-noise.was c.in-Frame.is)
 
 pub frame-requires : goal.frame-requires
 frame-requires c =

@@ -2,7 +2,7 @@
 -- Assumes nothing.
 use Rattle.std.proofs.Common.{refl, ◌∙◌}
 use Rattle.io.proofs.Counting.{length-take_of_le}
-use Rattle.listing.proofs.Steps.{view_starts, view_inside, view_can_add, view_less, view_adds, view_can_count, view_lists}
+use Rattle.listing.proofs.Steps.{view_starts, view_inside, view_can_add, view_less, view_adds, view_never, view_can_count, view_lists}
 use Rattle.listing.proofs.list.list_view.Goals as goal
 
 pub loop-noise-init : goal.loop-noise-init
@@ -27,6 +27,9 @@ loop-noise-preserved c = (
   c.feed-fed.auto.buf ∙ c.loop-noise.invariant.0,
   view_adds c.requires c.loop-noise.invariant.1 c.loop-noise.invariant.0 _ c.feed-fed.ensures c.in_ok-noise.was c.in-Frame.is c.frame.ensures,
 )
+
+pub returns-in_err-noise : goal.returns-in_err-noise
+returns-in_err-noise c = absurd (view_never c.requires c.loop-noise.invariant.1 c.loop-noise.invariant.0 _ c.feed-fed.ensures c.in_err-noise.was)
 
 pub count-requires : goal.count-requires
 count-requires c = view_can_count c.requires c.loop-noise.invariant.1 c.loop-noise.invariant.0 _ c.feed-fed.ensures c.in_ok-noise.was c.in-NeedsMore.is

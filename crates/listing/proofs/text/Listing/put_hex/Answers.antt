@@ -1,13 +1,15 @@
-use Rattle.std.proofs.Common.{arith, add-one, take}
-use Rattle.listing.proofs.Texts.{puts_both, length_hex, hex_more}
-use lib.ListN.{length-take}
+-- `listing::text::Listing::put_hex` meets its contract: the digits are put behind what is written.
+-- Assumes nothing.
+use Rattle.std.proofs.Common.{arith, rules, ◌∙◌}
+use Rattle.listing.proofs.Texts.{puts_copy, length_hex, paste_hex}
 use Rattle.listing.proofs.text.Listing.put_hex.Goals as goal
 
-pub put-requires : goal.put-requires
-put-requires c =
-    let b = c.args.bytes.now in
-    let i = c.loop-b.b-index in
-    omega (arith, c.hex_of.ensures, length_hex b, length_hex (take i b), length-take i b)
+pub encode-requires : goal.encode-requires
+encode-requires c = omega (arith, length_hex c.args.bytes.now)
 
-pub loop-b-preserved : goal.loop-b-preserved
-loop-b-preserved c = rw (add-one, hex_more c.args.bytes.now c.loop-b.b-index c.loop-b-test.true) (puts_both c.loop-b.invariant (rw c.hex_of.ensures at c.put.ensures))
+pub overflow_add-self : goal.overflow_add-self
+overflow_add-self c = omega (arith, length_hex c.args.bytes.now)
+
+pub returns : goal.returns
+returns c =
+    puts_copy c.requires (search rules) (c.encode.ensures ∙ paste_hex c.args.self.now.out.now c.args.self.now.lines.len c.args.bytes.now) (omega (arith, length_hex c.args.bytes.now)) (search rules) (search rules)
