@@ -103,12 +103,3 @@ wrote_part s d k n i h l m =
     ∙ ap (λ (j : ℕ). drop j d) there
     in
     rw (take-append-le k (take i s) (drop i d) (omega arith), take-take k i s h, take-take n n (drop k s) (le_refl n), ← take-add k n s, rest)
-
--- One element more of a block is tested: what is found of it and those before with those behind it.
-pub all_pass_next :
-    (test : ℕ → Bool) (ok : Bool) (n i at : ℕ) (s : List ℕ) → i < n → at + n ≤ length s →
-    (ok && test (get_or s (at + i) 0)) && all_pass test (take (n - (i + 1)) (drop (at + (i + 1)) s)) ≡ ok && all_pass test (take (n - i) (drop (at + i) s))
-all_pass_next test ok n i at s h l =
-    let one : n - i ≡ suc (n - (i + 1)) = omega arith in
-    let next : at + i + 1 ≡ at + (i + 1) = omega arith in
-    rw (one, drop_next s (at + i) (omega arith), next) (and_assoc ok (test (get_or s (at + i) 0)) _)

@@ -181,6 +181,7 @@ pub(crate) fn pack(p: &[u8], buf: &mut [u8])
 {
     let len = p.len();
     let end = 1 + 2 * len;
+    // Kept: by remainders, since a cast that loses bits is refused: `wrapping_neg` would need a remainder and a cast before it.
     let checksum = ((256 - hex::byte_sum(p) % 256) % 256) as u8;
     buf[0] = 0x3A;
     hex::encode(buf, 1, p);

@@ -46,6 +46,7 @@ pub enum Format {
 
 impl Framing {
     // The format in which a framing is read where none is named: in binary framing the footer is optional, in ASCII framing the ending is CR LF.
+    // Kept: a method and no From, since README and the callers name what it gives.
     pub fn format(self) -> Format
         ensures { result ≡ format_of self }
     {

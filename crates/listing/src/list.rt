@@ -137,6 +137,7 @@ impl Listed {
 }
 
 // Lists a chunk: the reader that follows, and the lines.
+// Kept: this and `quiet_lines` are alike; one function that takes the listing as a closure would have to say by that closure's clauses what these say by one name.
 fn chunk_lines(reader: Reader, chunk: &[u8], out: &mut [u8]) -> Result<(Reader, Lines), Refusal>
     ensures { ListsChunk reader chunk.now out.old (listed_of reader result) out.new }
 {

@@ -1,5 +1,5 @@
 -- `reader::scan::find_first` meets its contract: the first place is judged and counted as the scan judges and counts it, and the others are left to it.
--- c.args.format c.args.s.now c.args.reachssumes nothing.
+-- Assumes nothing.
 use Prim.Native.Nat.{ℕ}
 use native.Mathlib.Omega.{arith}
 use mathlib.Core.Bool.{false}
@@ -16,10 +16,12 @@ use Rattle.reader.proofs.Passing.{all_judged, empty_whole, first_frame, first_un
 use Rattle.reader.proofs.scan.find_first.Goals as goal
 
 pub returns-then-size-eq0-clause-result_value : goal.returns-then-size-eq0-clause-result_value
-returns-then-size-eq0-clause-result_value c = (empty_whole c.args.format c.args.s.now c.args.reach c.if-size-eq0.true).0
+returns-then-size-eq0-clause-result_value c =
+    ap (scanned c.args.format c.args.s.now) c.at_front.ensures ∙ (empty_whole c.args.format c.args.s.now c.args.reach c.if-size-eq0.true).0
 
 pub returns-then-size-eq0-clause-judged_value : goal.returns-then-size-eq0-clause-judged_value
-returns-then-size-eq0-clause-judged_value c = omega (arith, (empty_whole c.args.format c.args.s.now c.args.reach c.if-size-eq0.true).1)
+returns-then-size-eq0-clause-judged_value c =
+    omega (arith, ap (λ (r : ScanResult). r.judged) c.at_front.ensures, (empty_whole c.args.format c.args.s.now c.args.reach c.if-size-eq0.true).1)
 
 pub counted-requires-clause-more_bound : goal.counted-requires-clause-more_bound
 counted-requires-clause-more_bound c =
@@ -80,11 +82,13 @@ counted-requires-in-Failed-clause-known_bound c =
     )
 
 pub returns-in-Undecided-clause-result_value : goal.returns-in-Undecided-clause-result_value
-returns-in-Undecided-clause-result_value c = (first_undecided c.args.format c.args.s.now c.args.reach (omega arith) (c.in-Undecided.ensures.room_value c.requires.in_bounds)).0
+returns-in-Undecided-clause-result_value c =
+    ap (scanned c.args.format c.args.s.now) c.at_front-in-Undecided.ensures
+    ∙ (first_undecided c.args.format c.args.s.now c.args.reach (omega arith) (c.in-Undecided.ensures.room_value c.requires.in_bounds)).0
 
 pub returns-in-Undecided-clause-judged_value : goal.returns-in-Undecided-clause-judged_value
 returns-in-Undecided-clause-judged_value c =
-    let h = first_undecided c.args.format c.args.s.now c.args.reach (omega arith) (c.in-Undecided.ensures.room_value c.requires.in_bounds) in omega (arith, h.1, c.min-in-Undecided.ensures)
+    let h = first_undecided c.args.format c.args.s.now c.args.reach (omega arith) (c.in-Undecided.ensures.room_value c.requires.in_bounds) in omega (arith, h.1, ap (λ (r : ScanResult). r.judged) c.at_front-in-Undecided.ensures, c.min-in-Undecided.ensures)
 
 pub returns-in-Failed-clause-result_value : goal.returns-in-Failed-clause-result_value
 returns-in-Failed-clause-result_value c =
@@ -110,11 +114,12 @@ returns-in-Failed-clause-judged_value c =
 pub returns-in-Frame-clause-result_value : goal.returns-in-Frame-clause-result_value
 returns-in-Frame-clause-result_value c =
     let p = payload_at c.args.format c.args.s.now c.in-Frame.len in
-    ap (λ (n : ℕ). scanned_to 0 n (found c.in-Frame.used p)) c.max-in-Frame.ensures
+    ap (scanned c.args.format c.args.s.now) c.at_front-in-Frame.ensures
+    ∙ ap (λ (n : ℕ). scanned_to 0 n (found c.in-Frame.used p)) c.max-in-Frame.ensures
     ∙ (first_frame c.args.format c.args.s.now c.args.reach (omega arith) c.in-Frame.used p (c.in-Frame.ensures.room_value c.requires.in_bounds)).0
 
 pub returns-in-Frame-clause-judged_value : goal.returns-in-Frame-clause-judged_value
 returns-in-Frame-clause-judged_value c =
     let p = payload_at c.args.format c.args.s.now c.in-Frame.len in
     let h = first_frame c.args.format c.args.s.now c.args.reach (omega arith) c.in-Frame.used p (c.in-Frame.ensures.room_value c.requires.in_bounds) in
-    omega (arith, h.1, c.min-in-Frame.ensures)
+    omega (arith, h.1, ap (λ (r : ScanResult). r.judged) c.at_front-in-Frame.ensures, c.min-in-Frame.ensures)
