@@ -1,14 +1,12 @@
 -- Laws on lists that no library has.
 -- Assumes nothing.
-use Rattle.std.proofs.Common.{◌≡◌, ℕ, zero, suc, ◌+◌, ◌-◌, ◌<◌, ◌≤◌, min, Bool, ◌&&◌, List, [], ◌∷◌, ◌++◌, length, get_or, take, drop, set, sym, refl, ap, ◌∙◌, le_refl, le_of_lt, zero-add, add-one, arith, length-append, length-drop, length-take-le, take_all, drop-cons, take-suc, take-take, drop-drop, take_at, take-add}
+use Rattle.std.proofs.Common.{◌≡◌, ℕ, zero, suc, ◌+◌, ◌-◌, ◌<◌, ◌≤◌, min, List, [], ◌∷◌, ◌++◌, length, get_or, take, drop, set, sym, refl, ap, ◌∙◌, le_refl, le_of_lt, zero-add, add-one, arith, length-append, length-drop, length-take-le, take_all, drop-cons, take-suc, take-take, drop-drop, take_at, take-add}
 use mathlib.Core.List.{drop_last}
-use mathlib.Core.Bool.{and_assoc}
 use native.Mathlib.Nat.{sub-zero, zero-sub, suc-sub-suc, min-zero, suc-min-suc}
 use native.Mathlib.Numerals.{add-two}
 use lib.Seq.{paste, take-append-le, take-nil, set_at, append_snoc}
 use lib.Seq.{take-length, drop-append-add}
 use Rattle.frame.specs.Elements.{Bytes}
-use Rattle.frame.specs.DigitRuns.{all_pass}
 
 -- A store just behind what is written makes it one longer.
 pub wrote_one : (w d : List ℕ) (a k : ℕ) → length w ≡ k → k < length d → set (w ++ drop k d) k a ≡ (w ++ (a ∷ [])) ++ drop (suc k) d
