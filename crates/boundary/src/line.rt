@@ -183,7 +183,7 @@ pub fn boundary_new_reader(format: u8) -> LineReader
     ensures { result ≡ new_flat format }
 {
     LineReader {
-        format: format,
+        format,
         held: [0u8; Reader::MAX_ASCII],
         count: 0,
         follows: 0,

@@ -73,9 +73,9 @@ pub(crate) fn standard_in(sender: u8, lqi: u8, n: StatusNumbers) -> StandardStat
     ensures { result ≡ standard_in sender lqi n }
 {
     StandardStatus {
-        sender: sender,
+        sender,
         identifier: n.identifier,
-        lqi: lqi,
+        lqi,
         serial: n.serial,
         destination: n.destination,
         time: n.time,
@@ -96,8 +96,8 @@ pub(crate) fn remote_in(sender: u8, lqi: u8, n: StatusNumbers) -> RemoteStatus
     ensures { result ≡ remote_in sender lqi n }
 {
     RemoteStatus {
-        sender: sender,
-        lqi: lqi,
+        sender,
+        lqi,
         serial: n.serial,
         destination: n.destination,
         time: n.time,

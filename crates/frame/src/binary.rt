@@ -29,6 +29,7 @@ fn folded(w: u64) -> u8
 {
     let half = w ^ (w >> 32);
     let quarter = half ^ (half >> 16);
+    // Kept: the low byte by a remainder, which `to_le_bytes` would say no plainer.
     ((quarter ^ (quarter >> 8)) % 256) as u8
 }
 

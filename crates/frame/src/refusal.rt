@@ -7,28 +7,28 @@ use thiserror::Error;
 #[derive(Clone, Copy, Debug, PartialEq, Eq, Error)]
 pub enum Refusal {
     #[error("no frame starts here")]
-    Start,
+    Start = 1,
     #[error("the bytes end before the frame does")]
-    Cut,
+    Cut = 2,
     #[error("a length that no frame has")]
-    Length,
+    Length = 3,
     #[error("the checksum is another one")]
-    Checksum,
+    Checksum = 4,
     // Given only where the footer is required, and under the ending CR LF.
     #[error("the frame's end is another one")]
-    Footer,
+    Footer = 5,
     // Under any ending LF is none of these.
     #[error("a character that is neither a digit nor the frame's end")]
-    Character,
+    Character = 6,
     #[error("the buffer is too short")]
-    Buffer,
+    Buffer = 13,
     #[error("the payload is empty or longer than 256 bytes")]
-    Payload,
+    Payload = 14,
     #[error("the chunk is longer than 65,536 bytes")]
-    Chunk,
+    Chunk = 15,
     // The state holds more bytes than a frame can have, or says that more were judged than it holds, or a view does not lie in the chunk.
     #[error("the reader's state is none that a reader has")]
-    State,
+    State = 16,
 }
 
 impl Refusal {
@@ -36,17 +36,6 @@ impl Refusal {
     pub fn number(self) -> u8
         ensures { result ≡ number_of self }
     {
-        match self {
-            Refusal::Start => 1,
-            Refusal::Cut => 2,
-            Refusal::Length => 3,
-            Refusal::Checksum => 4,
-            Refusal::Footer => 5,
-            Refusal::Character => 6,
-            Refusal::Buffer => 13,
-            Refusal::Payload => 14,
-            Refusal::Chunk => 15,
-            Refusal::State => 16,
-        }
+        self as u8
     }
 }

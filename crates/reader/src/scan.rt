@@ -249,6 +249,7 @@ fn scan(format: Format, s: &[u8], places: Places) -> ScanResult
 }
 
 // The same, and puts the payload of a frame into the front of buf.
+// Kept: buf is a slice of 256 bytes or more, here and wherever it goes; as `&mut [u8; 256]` each public call would have to say besides that the rest of it stays.
 pub(crate) fn find(format: Format, s: &[u8], places: Places, buf: &mut [u8]) -> ScanResult
     requires scannable { Scannable places s.now }
     requires in_bounds { 256 ≤ length buf.old }
