@@ -6,6 +6,7 @@ ghost use Rattle.boundary.specs.Framing.{framing_of, format_of, format_number};
 use frame::{Ending, Footer, Format, Framing};
 
 // The framing that a number stands for, if any.
+// Kept: functions, since a crate implements no conversion between two types that are both of other crates.
 pub(crate) fn framing_of(number: u8) -> Option<Framing>
     ensures { result ≡ framing_of number }
 {

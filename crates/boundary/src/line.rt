@@ -43,6 +43,7 @@ pub struct LineFed {
     pub answer: LineAnswer,
 }
 
+// A refused answer: the refusal's number, and zeros.
 fn refused<E: Numbered>(refusal: E) -> LineAnswer
     ensures { result ≡ flat_values (refusal_values (E.number_of refusal)) }
 {
@@ -168,7 +169,7 @@ fn reader_in(n: LineReader) -> Option<Reader>
     })
 }
 
-// A call with a state whose numbers stand for none gives it back.
+// The answer to a call with a state whose numbers stand for none: refused with 255, and the state as it was.
 fn unnamed(reader: LineReader) -> LineFed
     ensures { result ≡ unnamed reader }
 {

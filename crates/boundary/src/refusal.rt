@@ -38,8 +38,7 @@ impl Numbered for NotAList {
     }
 }
 
-// Why the numbers that a call was given stand for no message.
-// Kept: what numbers stand for is found by functions and not by TryFrom, whose error would have to be public, beside the types of the C interface.
+// Why numbers that a call was given stand for nothing.
 #[derive(Clone, Copy)]
 pub(crate) enum Unnamed {
     // A number that stands for no framing, format, mark or kind of message.

@@ -1,5 +1,5 @@
-// Text for the test programs: standard input, the words and numbers of a line, the words for formats, bytes as hex digits, and parts of slices. No function asks anything of its
-// caller. A bound in a contract follows from the equations beside it, and is there for the proofs of callers.
+// Text for the test programs: standard input, the words and numbers of a line, the words for formats, bytes as hex digits, and parts of slices. No function
+// asks anything of its caller. A bound in a contract follows from the equations beside it, and is there for the proofs of callers.
 #![tactic(auto)]
 
 mod format;

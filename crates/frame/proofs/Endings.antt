@@ -1,4 +1,4 @@
--- The ending of a frame at each way out of `framing::judge_ending` and `framing::judge_complete`, and what is left to them in each framing.
+-- The ending of a frame at each way out of `framing::judge_ending`, where nothing is left, and what is left to them in each framing.
 -- Assumes nothing.
 use Rattle.std.proofs.Common.{◌≡◌, ℕ, suc, ◌+◌, ◌-◌, ◌*◌, ◌/◌, ◌%◌, ◌<◌, ◌≤◌, Bool, true, false, eqb, List, length, get_or, take, drop, sym, ap, ◌∙◌, add-zero, add-one, arith, eqb-true}
 use borrow.Author.Tests.{eqb-false}

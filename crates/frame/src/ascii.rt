@@ -109,8 +109,7 @@ impl<'a> Line<'a> {
         ensures { (result ≡ true) → (ending : Ending) → Short ending self.entry.s.now self.entry.count }
     {
         let Line { s, count } = self;
-        34 <= count
-            && count <= 64
+        matches!(count, 34..=64)
             && count % 2 == 0
             && 1 + count < s.len()
             && s[0] == 0x3A
@@ -131,7 +130,7 @@ impl<'a> Line<'a> {
         let two = hex::decode_two(&s[1..end], count - 32);
         let whole = &two[..];
         let verdict = self.judge_end(ending, hex::sum_of_two(whole, 48 - n));
-        if let Judged::Frame { used: _, len: _ } = verdict {
+        if let Judged::Frame { .. } = verdict {
             octets::copy(&whole[..16], buf);
             octets::copy(&whole[16..31], &mut buf[n - 16..]);
         }
@@ -167,7 +166,7 @@ pub(crate) fn extract(ending: Ending, s: &[u8], buf: &mut [u8]) -> Judged
         return line.extract_short(ending, buf);
     }
     let verdict = line.judge(ending);
-    if let Judged::Frame { used: _, len } = verdict {
+    if let Judged::Frame { len, .. } = verdict {
         unpack(s, len, buf);
     }
     verdict
@@ -181,8 +180,7 @@ pub(crate) fn pack(p: &[u8], buf: &mut [u8])
 {
     let len = p.len();
     let end = 1 + 2 * len;
-    // Kept: by remainders, since a cast that loses bits is refused: `wrapping_neg` would need a remainder and a cast before it.
-    let checksum = ((256 - hex::byte_sum(p) % 256) % 256) as u8;
+    let checksum = ((hex::byte_sum(p) % 256) as u8).wrapping_neg();
     buf[0] = 0x3A;
     hex::encode(buf, 1, p);
     hex::put_hex(buf, end, checksum);

@@ -17,6 +17,7 @@ fn xor_words(s: &[u8]) -> u64
 {
     let (words, _) = s.as_chunks::<8>();
     let mut sum = 0;
+    // Kept: a `for`, since with `fold` it stayed open that the result is the XOR of all words (`returns`).
     for word in words {
         sum ^= u64::from_le_bytes(*word);
     }
@@ -103,7 +104,7 @@ pub(crate) fn extract(footer: Footer, s: &[u8], buf: &mut [u8]) -> Judged
     ensures buf_after { buf.new ≡ in_front (payload_in (judge (Binary footer) s.now)) buf.old }
 {
     let verdict = judge(footer, s);
-    if let Judged::Frame { used: _, len } = verdict {
+    if let Judged::Frame { len, .. } = verdict {
         unpack(s, len, buf);
     }
     verdict

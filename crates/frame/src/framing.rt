@@ -46,7 +46,7 @@ pub enum Format {
 
 impl Framing {
     // The format in which a framing is read where none is named: in binary framing the footer is optional, in ASCII framing the ending is CR LF.
-    // Kept: a method and no From, since README and the callers name what it gives.
+    // Kept: a method and no From: `framing.format()` says what it gives, which a conversion to a format, of which a framing has two, would not.
     pub fn format(self) -> Format
         ensures { result ≡ format_of self }
     {
@@ -77,7 +77,7 @@ impl Judged {
     }
 }
 
-// Judges the ending of a frame with a payload of `len` bytes, whose checksum is right and complete with the byte at `end`: the byte behind it is to be `last`.
+// Judges the ending of a frame with a payload of `len` bytes, whose checksum, which is right, is complete with the byte at `end`: the byte behind it is to be `last`.
 pub(crate) fn judge_ending(s: &[u8], end: usize, last: u8, len: usize) -> Judged
     requires { end < length s.now }
     ensures { Ended s.now end true last len result }

@@ -68,6 +68,7 @@ fn tail_sum(s: &[u8]) -> u32
 {
     let (pairs, _) = s.as_chunks::<2>();
     let mut sum = 0;
+    // Kept: a `for`, since with `map` and `sum` it stayed open that the sum fits (`sum-requires-clause-fits`).
     for pair in pairs {
         sum += u32::from(byte_of(*pair));
     }
@@ -114,6 +115,7 @@ pub(crate) fn pair_sum(s: &[u8]) -> u32
 {
     let (blocks, rest) = s.as_chunks::<32>();
     let mut sum: u32 = 0;
+    // Kept: a `for`, since with `map` and `sum` it stayed open that the sum fits (`sum-requires-clause-fits`).
     for block in blocks {
         sum += byte_sum(&decode_block(block));
     }

@@ -23,8 +23,8 @@ pub fn read_frame_as(format: Format, s: &[u8], buf: &mut [u8]) -> Result<FrameRe
 {
     match judge(format, s) {
         Judged::Undecided => Err(Refusal::Cut),
-        Judged::Failed { refusal, judged: _ } => Err(refusal),
-        Judged::Frame { used: _, len } if buf.len() < len => Err(Refusal::Buffer),
+        Judged::Failed { refusal, .. } => Err(refusal),
+        Judged::Frame { len, .. } if buf.len() < len => Err(Refusal::Buffer),
         Judged::Frame { used, len } => {
             take_out(format, s, len, buf);
             let more = absorbed(format, may_follow(format, s, used), &s[used..]);

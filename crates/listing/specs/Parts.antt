@@ -100,7 +100,7 @@ ListsView v chunk g answer g' =
     let s : State = viewed v chunk in
     MatchResult answer (λ r. ListsRest s (view_drain v chunk) (g.lines.judged + drain_judged s (drop v.end chunk)) g r g') (λ _. ⊥)
 
--- Where its loop stands: some of the calls are made.
+-- Where the loop of `list_view` stands: some of the calls are made.
 pub record ViewGoesOn (v₀ : View) (chunk : List ℕ) (g₀ : Listing) (v : View) (g : Listing) : Type 0 where
   pub within : inside v (length chunk) ≡ true
   pub format : v.format ≡ v₀.format
@@ -141,7 +141,7 @@ abbrev pub listed_of : Reader → Result (Reader × Lines) Refusal → Listed
 listed_of r (Ok (r', lines)) = record { reader = r'; answer = Ok lines }
 listed_of r (Err e) = record { reader = r; answer = Err e }
 
--- Where its loop stands.
+-- Where the loop of `list_all` stands.
 pub record HeldGoesOn (r₀ : Reader) (chunk : List ℕ) (g₀ : Listing) (r : Reader) (done : ℕ) (g : Listing) : Type 0 where
   pub inside : done ≤ length chunk
   pub within : sound r ≡ true

@@ -137,7 +137,8 @@ impl Listed {
 }
 
 // Lists a chunk: the reader that follows, and the lines.
-// Kept: this and `quiet_lines` are alike; one function that takes the listing as a closure would have to say by that closure's clauses what these say by one name.
+// Kept: a twin of `quiet_lines`. One function would take the listing as a closure, and its contract speak of that closure where these say `ListsChunk` and
+// `ListsQuiet`.
 fn chunk_lines(reader: Reader, chunk: &[u8], out: &mut [u8]) -> Result<(Reader, Lines), Refusal>
     ensures { ListsChunk reader chunk.now out.old (listed_of reader result) out.new }
 {

@@ -5,7 +5,7 @@ ghost use Rattle.listing.specs.Line.{decimal, data_field, field};
 ghost use Rattle.listing.specs.Parts.{Starts, HasRoom, Adds, CanCount};
 
 // The lines of the frames are the first `len` bytes of the buffer, `noise` bytes were settled as noise, and the reader's calls judged `judged` bytes.
-#[derive(Clone, Copy, Debug, PartialEq, Eq)]
+#[derive(Clone, Copy, Debug, Default, PartialEq, Eq)]
 pub struct Lines {
     pub len: usize,
     pub noise: usize,
@@ -25,11 +25,7 @@ impl<'a> Listing<'a> {
     {
         Listing {
             out,
-            lines: Lines {
-                len: 0,
-                noise: 0,
-                judged: 0,
-            },
+            lines: Lines::default(),
         }
     }
 

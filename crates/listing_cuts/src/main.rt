@@ -75,7 +75,7 @@ fn count_cuts(framing: Framing, segment: &[u8], expected: &[u8]) -> u64 {
 }
 
 // Prints a segment's name, its listing as one chunk, and how many of its cuts give the same.
-// Kept: for println the handle would pass through all nine functions that show something, and each of their thirty calls would end in `?`.
+// Kept: for println its handle of the runtime would pass through all nine functions that show something, and each of their thirty calls would end in `?`.
 fn show_in(framing: Framing, name: &[u8], segment: &[u8]) {
     let mut text = [0u8; 1024];
     let end = list_cut(framing, segment, 0, &mut text);

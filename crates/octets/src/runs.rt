@@ -10,7 +10,7 @@ fn all_pass<F: Fn(u8) -> bool>(block: &[u8; 16], passes: &F) -> bool
 {
     let mut all = true;
     for b in block {
-        all = all & passes(*b);
+        all &= passes(*b);
     }
     all
 }
@@ -22,14 +22,12 @@ pub fn block_run_len<F: Fn(u8) -> bool>(s: &[u8], passes: F) -> usize
     ensures value { (p : ℕ → Bool) → IsTest (F.post passes) p → result ≡ prefix_len p s.now / 16 * 16 }
 {
     let (blocks, _) = s.as_chunks::<16>();
-    let mut at = 0;
-    for block in blocks {
+    for (i, block) in blocks.iter().enumerate() {
         if !all_pass(block, &passes) {
-            return at;
+            return 16 * i;
         }
-        at += 16;
     }
-    at
+    16 * blocks.len()
 }
 
 // How many bytes at the front of s pass, one by one.
@@ -38,6 +36,7 @@ pub fn run_len<F: Fn(u8) -> bool>(s: &[u8], passes: F) -> usize
     ensures bound { result ≤ length s.now }
     ensures value { (p : ℕ → Bool) → IsTest (F.post passes) p → result ≡ prefix_len p s.now }
 {
+    // Kept: by a loop and not by `position`, of which it stayed open for a test of any kind that the count is `prefix_len` (`returns-clause-value`).
     for (i, b) in s.iter().enumerate() {
         if !passes(*b) {
             return i;

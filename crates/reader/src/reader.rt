@@ -15,7 +15,7 @@ use frame::{Format, Framing, Refusal, absorbed, may_follow};
 // A reader's state, by value: its format; the bytes that it holds, the first `count` of `held`; and `follows`, whether an optional byte, the 04 of a frame that
 // may lack it or the LF behind a CR, may still follow the last frame and belong to it. In formats without such a byte `follows` means nothing. `judged` is how
 // many of the held bytes were judged at the first held place, which later calls don't count again.
-// Kept: a count beside the array that it counts, since a state is a plain value: calls with one that was made by hand, with any count, have promised answers.
+// Kept: a count beside the array that it counts, since a state is a plain value: `Feeds` and `Quiets` speak of one made by hand, with any count, too.
 #[derive(Clone, Copy, PartialEq, Eq)]
 pub struct Reader {
     pub held: [u8; 517],

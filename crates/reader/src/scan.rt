@@ -30,7 +30,7 @@ pub(crate) struct ScanResult {
 
 // The places of a slice that are to be judged: those from `from` up to `stop`, which is behind them. The bytes up to `reach` were taken before. Where `ended`,
 // the bytes end the segment, and an undecided place fails too.
-// Kept: `ended` is a flag that one line of `scan` asks. As a const parameter of `scan` and `find` it is a number in their proofs, and the answers on it stayed open.
+// Kept: `ended` is a flag that one line of `scan` asks. As a const parameter of `scan` it was a number in the proofs, and answers that speak of it stayed open.
 #[derive(Clone, Copy)]
 pub(crate) struct Places {
     pub(crate) from: usize,
@@ -96,7 +96,7 @@ fn passed_by(format: Format, judged: usize) -> usize
 }
 
 // The first place from `from` on that has b, or `stop` where none before it has. Whole blocks of bytes without one are passed first.
-// Kept: the rest is searched by index, since a search of a slice by `run_len` takes up to 2 % more instructions where starts stand close together.
+// Kept: the rest is searched by index, since with `run_len` of the rest a capture of overlapping starts takes 4 % more instructions.
 fn skip_to(s: &[u8], b: u8, from: usize, stop: usize) -> usize
     requires from_le_stop { from ≤ stop }
     requires stop_in_bounds { stop ≤ length s.now }
@@ -214,6 +214,7 @@ fn scan(format: Format, s: &[u8], places: Places) -> ScanResult
         reach: places.reach,
         judged: 0,
     };
+    // Kept: a `while`, since each turn goes on by another number of places.
     while at.place < stop {
         let place = at.place;
         if !may_start(s, start, place) {
@@ -232,7 +233,7 @@ fn scan(format: Format, s: &[u8], places: Places) -> ScanResult
                     judged,
                 });
             }
-            Judged::Failed { refusal: _, judged } => {
+            Judged::Failed { judged, .. } => {
                 at = at.then(pass_failed(format, s, place, stop, judged));
             }
             Judged::Frame { used, len } => {
@@ -258,7 +259,7 @@ pub(crate) fn find(format: Format, s: &[u8], places: Places, buf: &mut [u8]) -> 
     ensures buf_after { buf.new ≡ stop_buffer (scanned format s.now result).stop buf.old }
 {
     let found = scan(format, s, places);
-    if let ScanEnd::Frame { used: _, len } = found.end {
+    if let ScanEnd::Frame { len, .. } = found.end {
         unpack(format, &s[found.place..], len, buf);
     }
     found
@@ -310,7 +311,7 @@ pub(crate) fn find_more(
 
 // As `find_more`, over all places of a segment that goes on. On a clean line each frame stands at the front, so that place is judged before the loop, whose
 // set-up then costs nothing, and judged and handed out at once.
-// One function judges the front and goes on: with the judging in one of its own a binary line takes 1 % more instructions.
+// It is one function: where another judges the front, a binary line takes 1 % more instructions.
 pub(crate) fn find_first(
     format: Format,
     s: &[u8],
@@ -341,7 +342,7 @@ pub(crate) fn find_first(
     }
     match extract(format, s, buf) {
         Judged::Undecided => at_front(reach, size - known.min(size), ScanEnd::Undecided),
-        Judged::Failed { refusal: _, judged } => {
+        Judged::Failed { judged, .. } => {
             let first = pass_failed(format, s, 0, size, judged);
             let behind = Places {
                 from: first.place,

@@ -127,11 +127,11 @@ impl View {
         let first = absorbed(self.format, true, &chunk[self.from..]);
         let next = self.from + first;
         View {
-            format: self.format,
             from: next,
             end: self.end.max(next),
             follows: false,
             judged: judged_behind(first, self.judged),
+            ..self
         }
     }
 }

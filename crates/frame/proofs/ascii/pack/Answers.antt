@@ -57,4 +57,7 @@ shape_of-buf c =
     simp length-set (kept)
 
 pub returns : goal.returns
-returns c = cc (stores c.args.p.now c.args.buf.now (1 + 2 * length c.args.p.now) refl (omega arith))
+returns c =
+    let check : c.wrapping_neg-checksum.result ≡ checksum_of c.args.p.now =
+    omega (arith, c.wrapping_neg-checksum.ensures, c.wrapping_neg-checksum.type_inv, c.byte_sum.ensures) in
+    cc (check, stores c.args.p.now c.args.buf.now (1 + 2 * length c.args.p.now) refl (omega arith))
