@@ -1,5 +1,8 @@
 // The words for the formats: `binary`, in which the footer is optional, `required`, binary with the footer required, `ascii`, in which the ending is CR LF, and
 // `any`, ASCII with any ending.
+ghost use Rattle.std.specs.Prelude.{◌≡◌};
+ghost use Rattle.console.specs.Format.{format_named};
+
 use frame::{Ending, Footer, Format};
 use std::fmt;
 
@@ -19,7 +22,9 @@ impl fmt::Display for FormatWord {
 }
 
 // The format that a word names by its second letter, in which the words differ.
-pub fn format_named(word: &[u8]) -> Option<Format> {
+pub fn format_named(word: &[u8]) -> Option<Format>
+    ensures { result ≡ format_named word.now }
+{
     match word.get(1)? {
         b'i' => Some(Format::Binary(Footer::Optional)),
         b'e' => Some(Format::Binary(Footer::Required)),

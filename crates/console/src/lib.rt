@@ -11,5 +11,5 @@ mod text;
 pub use format::{FormatWord, format_named};
 pub use hex::{Hex, HexField, hex_bytes};
 pub use part::{append, front, rest};
-pub use streams::{print_line, read_input};
+pub use streams::read_input;
 pub use text::{next_word, number};

@@ -1,4 +1,4 @@
-// Standard input as a whole, and lines of bytes that need not be text.
+// Standard input as a whole.
 ghost use Rattle.io.specs.Counts.{IsPrefixLen};
 
 // The number of standard input.
@@ -9,10 +9,4 @@ pub fn read_input(buf: &mut [u8]) -> usize
     ensures { IsPrefixLen result buf.new }
 {
     io::read_full(STDIN_FILENO, buf)
-}
-
-// Prints a line.
-pub fn print_line(rt: &impl Print, line: &[u8]) -> std::io::Result<()> {
-    rt.write_all(line)?;
-    rt.println("")
 }

@@ -31,8 +31,7 @@ mod show;
 use crate::calls::{once_calls, refused_calls, run_calls};
 use crate::show::Made;
 use console::{
-    FormatWord, append, format_named, front, hex_bytes, next_word, number, print_line, read_input,
-    rest,
+    FormatWord, append, format_named, front, hex_bytes, next_word, number, read_input, rest,
 };
 use frame::{Ending, Footer, Format, Framing};
 use reader::Reader;
@@ -54,7 +53,9 @@ fn run_row(rt: &impl Print, line: &[u8], reader: Reader) -> io::Result<Reader> {
     match line.first() {
         None => Ok(reader),
         Some(b'#') => {
-            print_line(rt, line)?;
+            // The bytes of a line need not be text.
+            rt.write_all(line)?;
+            rt.println("")?;
             Ok(reader)
         }
         Some(b't') => run_then(rt, line, reader),

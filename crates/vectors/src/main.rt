@@ -24,7 +24,7 @@ mod shown;
 
 use crate::meaning::ReadFrame;
 use crate::shown::Walk;
-use console::{Hex, append, front, hex_bytes, print_line, read_input, rest};
+use console::{Hex, append, front, hex_bytes, read_input, rest};
 use frame::{Ending, Footer, Format, FrameRead, Framing};
 use std::{fmt, io};
 
@@ -118,6 +118,12 @@ fn run_row(rt: &impl Print, line: &[u8]) -> io::Result<Row> {
         b'a' | b':' => run_ascii(rt, bytes),
         _ => run_binary(rt, bytes),
     }
+}
+
+// Prints a line of bytes, which need not be text.
+fn print_line(rt: &impl Print, line: &[u8]) -> io::Result<()> {
+    rt.write_all(line)?;
+    rt.println("")
 }
 
 // Prints a heading.
