@@ -30,6 +30,8 @@ pub(crate) fn format_of(number: u8) -> Option<Format>
     }
 }
 
+// The number that stands for a format.
+// Kept: a number, since this is the C interface.
 pub(crate) fn format_number(format: Format) -> u8
     ensures { result ≡ format_number format }
 {

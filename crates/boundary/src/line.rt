@@ -23,6 +23,7 @@ pub struct LineReader {
 
 // The answer's numbers: the refusal's, 0 for none, whether there is a frame, bytes taken, noise, bytes judged, the payload's length, and how far before the
 // first byte that is not taken, at a quiet before the segment's end, the frame began, 0 where there is none.
+// Kept: the refusal is a number, and a flag says whether there is a frame, since this is the C interface.
 #[repr(C)]
 #[derive(Clone, Copy, Default)]
 pub struct LineAnswer {

@@ -5,6 +5,7 @@ ghost use Rattle.boundary.specs.Options.{option_numbers, options_in};
 use message::Options;
 
 // For each option whether it is given, and its argument, which is 0 where it is not.
+// Kept: flags with their arguments beside them, since this is the C interface.
 #[repr(C)]
 #[derive(Clone, Copy, Default)]
 pub struct OptionNumbers {

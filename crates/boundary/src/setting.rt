@@ -8,6 +8,7 @@ use settings::{NotAList, Setting};
 
 // What a list has at an index: the refusal's number, 0 for none, whether there is a setting, its identifier, the index in the list at which its data begin,
 // and their length. All but the number are 0 where there is no setting.
+// Kept: the refusal is a number, and a flag says whether there is a setting, since this is the C interface.
 #[repr(C)]
 #[derive(Clone, Copy, Default)]
 pub struct FlatSetting {

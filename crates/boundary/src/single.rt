@@ -8,6 +8,7 @@ use crate::refusal::{Numbered, Unnamed};
 use frame::FrameRead;
 
 // A read's answer: the refusal's number, 0 for none, the bytes used and the payload's length.
+// Kept: the refusal is a number, since this is the C interface.
 #[repr(C)]
 #[derive(Clone, Copy, Default)]
 pub struct FlatReading {
@@ -17,6 +18,7 @@ pub struct FlatReading {
 }
 
 // A write's answer: the refusal's number, 0 for none, and the length of the frame.
+// Kept: the refusal is a number, since this is the C interface.
 #[repr(C)]
 #[derive(Clone, Copy)]
 pub struct FlatWriting {

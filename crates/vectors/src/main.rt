@@ -100,6 +100,7 @@ fn main(rt: HostRuntime) -> io::Result<()> {
 }
 
 // Runs one line.
+// Kept: two matches on the line's first byte, since what the second does with the bytes is another thing than how the first finds them.
 fn run_row(rt: &impl Print, line: &[u8]) -> io::Result<Row> {
     let Some(first) = line.first() else {
         return Ok(Row::Uncounted);
