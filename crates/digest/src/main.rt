@@ -5,7 +5,7 @@
 
 ghost use Rattle.std.specs.Prelude.{◌<◌};
 
-use console::{format_named, front, number, rest};
+use console::{Unfailing, format_named, front, number, rest};
 use frame::{Ending, Format, Refusal};
 use reader::{Fed, FeedAnswer, QuietAnswer, Reader, View};
 use std::fmt;
@@ -196,14 +196,15 @@ fn drive_input(input: &mut Stdin, format: Format, size: usize) -> Tally
 
 // Takes the format and the size from the arguments, and prints what came out.
 fn main(rt: HostRuntime) -> io::Result<()> {
+    let output = Unfailing(&rt);
     let mut word = [0u8; 4096];
     let length = rt.arg(1, &mut word).unwrap_or(0);
     let format = format_named(&word[..length]).unwrap_or(Format::Ascii(Ending::CrLf));
     let length = rt.arg(2, &mut word).unwrap_or(0);
     let size = number(&word[..length]);
     if size == 0 {
-        return println!(rt; "usage: digest binary|required|ascii|any SIZE");
+        return println!(output; "usage: digest binary|required|ascii|any SIZE");
     }
     let tally = drive_input(&mut rt.stdin(), format, size);
-    println!(rt; "{tally}")
+    println!(output; "{tally}")
 }

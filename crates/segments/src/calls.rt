@@ -1,4 +1,6 @@
 // The calls of a row and their answers, a line for each.
+ghost use Rattle.std.specs.Prelude.{◌≤◌, length, IfOk, IfSome};
+
 use crate::show::Left;
 use console::{Hex, front, rest};
 use frame::Refusal;
@@ -37,7 +39,9 @@ impl Run {
 
     // Offers a chunk once and prints the answer. Gives how many bytes were taken with a frame, behind which the call is to be made again. Where more bytes are
     // needed, only the buffer's front is looked at, since such calls are many.
-    fn feed(&mut self, rt: &impl Print, chunk: &[u8], buf: &mut [u8]) -> io::Result<Option<usize>> {
+    fn feed(&mut self, rt: &impl Print, chunk: &[u8], buf: &mut [u8]) -> io::Result<Option<usize>>
+        ensures { IfOk result (λ again. IfSome again (λ taken. taken ≤ length chunk.now)) }
+    {
         let before = self.reader;
         let fed = before.feed(chunk, buf);
         self.reader = fed.reader;

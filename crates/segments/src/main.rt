@@ -31,7 +31,7 @@ mod show;
 use crate::calls::{once_calls, refused_calls, run_calls};
 use crate::show::Made;
 use console::{
-    FormatWord, append, format_named, front, hex_bytes, next_word, number, read_input, rest,
+    FormatWord, Unfailing, append, format_named, front, hex_bytes, next_word, number, read_input, rest,
 };
 use frame::{Ending, Footer, Format, Framing};
 use reader::Reader;
@@ -39,6 +39,7 @@ use std::io;
 
 // Runs the rows of standard input.
 fn main(rt: HostRuntime) -> io::Result<()> {
+    let rt = Unfailing(&rt);
     let mut text = [0u8; 131072];
     let n = read_input(&mut text);
     let mut reader = Reader::new(Framing::Binary);

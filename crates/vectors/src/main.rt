@@ -22,9 +22,11 @@
 mod meaning;
 mod shown;
 
+ghost use Rattle.io.specs.Counts.{IsPrefixLen};
+
 use crate::meaning::ReadFrame;
 use crate::shown::Walk;
-use console::{Hex, append, front, hex_bytes, read_input, rest};
+use console::{Hex, Unfailing, append, front, hex_bytes, read_input, rest};
 use frame::{Ending, Footer, Format, FrameRead, Framing};
 use std::{fmt, io};
 
@@ -86,6 +88,7 @@ impl Totals {
 
 // Runs the rows of standard input, then prints the totals.
 fn main(rt: HostRuntime) -> io::Result<()> {
+    let rt = Unfailing(&rt);
     let mut text = [0u8; 65536];
     let n = read_input(&mut text);
     let mut totals = Totals {
@@ -136,7 +139,9 @@ fn run_heading(rt: &impl Print, line: &[u8]) -> io::Result<Row> {
 }
 
 // Puts a line and CR LF into the front of bytes and gives how many bytes that makes. What stands behind a line's first 1,022 bytes is left out.
-fn text_bytes(line: &[u8], bytes: &mut [u8]) -> usize {
+fn text_bytes(line: &[u8], bytes: &mut [u8]) -> usize
+    ensures { IsPrefixLen result bytes.new }
+{
     let n = append(bytes, 0, front(line, 1022));
     append(bytes, n, b"\r\n")
 }
