@@ -9,6 +9,14 @@ use Rattle.frame.proofs.AsciiJudge.{Summed, line_judges}
 use Rattle.frame.proofs.Endings.{ending_at, ending_wrong, ending_complete, line_ending_lem}
 use Rattle.frame.proofs.ascii.Line.judge_end.Goals as goal
 
+pub returns-in-Any : goal.returns-in-Any
+returns-in-Any c =
+    let p = decoded (take (2 * (c.args.self.count / 2 - 1)) (drop 1 c.args.self.s.now)) in
+    let summed : Summed c.args.self.s.now c.args.self.count c.args.total = search rules in
+    line_ending_lem c.args.ending summed (line_judges c.args.ending c.args.self.s.now c.args.self.count (search rules)) true (eq-eqb _ _ c.if-total-ne0.false)
+    ∙ ap (λ (e : Ending). ending_at (behind_digits e) p c.args.self.s.now (1 + c.args.self.count) true) c.in-Any.is
+    ∙ ending_complete p c.args.self.s.now (1 + c.args.self.count)
+
 pub returns-then-total-ne0 : goal.returns-then-total-ne0
 returns-then-total-ne0 c =
     let p = decoded (take (2 * (c.args.self.count / 2 - 1)) (drop 1 c.args.self.s.now)) in
@@ -24,11 +32,3 @@ returns-in-CrLf c =
     line_ending_lem c.args.ending summed (line_judges c.args.ending c.args.self.s.now c.args.self.count (search rules)) true (eq-eqb _ _ c.if-total-ne0.false)
     ∙ ap (λ (e : Ending). ending_at (behind_digits e) p c.args.self.s.now (1 + c.args.self.count) true) c.in-CrLf.is
     ∙ c.judge_ending.ensures (Ascii c.args.ending)
-
-pub returns-in-Any : goal.returns-in-Any
-returns-in-Any c =
-    let p = decoded (take (2 * (c.args.self.count / 2 - 1)) (drop 1 c.args.self.s.now)) in
-    let summed : Summed c.args.self.s.now c.args.self.count c.args.total = search rules in
-    line_ending_lem c.args.ending summed (line_judges c.args.ending c.args.self.s.now c.args.self.count (search rules)) true (eq-eqb _ _ c.if-total-ne0.false)
-    ∙ ap (λ (e : Ending). ending_at (behind_digits e) p c.args.self.s.now (1 + c.args.self.count) true) c.in-Any.is
-    ∙ ending_complete p c.args.self.s.now (1 + c.args.self.count)
