@@ -31,7 +31,8 @@ mod show;
 use crate::calls::{once_calls, refused_calls, run_calls};
 use crate::show::Made;
 use console::{
-    FormatWord, Unfailing, append, format_named, front, hex_bytes, next_word, number, read_input, rest,
+    FormatWord, Unfailing, append, format_named, front, hex_bytes, next_word, number, read_input,
+    rest,
 };
 use frame::{Ending, Footer, Format, Framing};
 use reader::Reader;
