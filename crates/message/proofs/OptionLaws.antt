@@ -4,10 +4,12 @@ use Prim.Native.Nat.{ℕ, ◌+◌, ◌≤◌, ◌<◌}
 use native.Mathlib.Omega.{arith}
 use mathlib.Core.Path.{◌≡◌, refl}
 use mathlib.Core.List.{List, [], ◌∷◌, ◌++◌, append_assoc}
+use mathlib.Core.Bool.{true}
+use borrow.Author.Tests.{ne_eqb}
 use lib.ListN.{length, get_or, drop, length-drop, drop_of_length-le}
 use Rattle.std.proofs.lemmas.List.{drop_more}
 use Rattle.message.specs.declared.options.Options.{Options}
-use Rattle.message.specs.Options.{Expected, first_of, bad, options_from}
+use Rattle.message.specs.Options.{Expected, option, first_of, bad, has_option, options_from}
 use Rattle.message.specs.Options.{flag_bytes, retry_bytes, word_bytes, option_bytes}
 
 -- The options one behind another, and FF, behind a list.
@@ -36,3 +38,9 @@ one_left id o at s i h = one (drop i s) (omega (arith, length-drop i s))
     one [] h = refl
     one (b ∷ []) h = refl
     one (b ∷ d ∷ l) h = absurd (omega arith)
+
+-- An option that is given already is bad.
+pub given_already : (o : Options) (at : ℕ) (s : List ℕ) (i b : ℕ) → i < length s → b ≡ get_or s i 0 → (b ≡ 0xFF → ⊥) → has_option o b ≡ true
+    → options_from option o at (drop i s) ≡ bad
+unfolding options_from
+given_already o at s i b h e n g = rw (drop_one s i h, ← e, ne_eqb b 0xFF n, g)

@@ -252,14 +252,25 @@ fn write_standard(framing: Framing, s: StandardStatus, buf: &mut [u8]) -> Result
     ensures { Writes framing (plain_refusal s.sender) (standard_layout s) buf.old result buf.new }
 {
     ensure(is_plain(s.sender), Refusal::Address)?;
-    let mut payload = PayloadWriter::new();
-    payload.put(&[s.sender, 0x81, s.identifier, 0x01, s.lqi]);
-    payload.put_long(s.serial);
-    payload.put(&[s.destination]);
-    payload.put_word(s.time);
-    payload.put(&[s.relays]);
-    payload.put_word(s.supply);
-    payload.put(&[
+    let serial = s.serial.to_be_bytes();
+    let time = s.time.to_be_bytes();
+    let supply = s.supply.to_be_bytes();
+    let payload = [
+        s.sender,
+        0x81,
+        s.identifier,
+        0x01,
+        s.lqi,
+        serial[0],
+        serial[1],
+        serial[2],
+        serial[3],
+        s.destination,
+        time[0],
+        time[1],
+        s.relays,
+        supply[0],
+        supply[1],
         s.unused,
         s.di,
         s.di_changed,
@@ -268,8 +279,8 @@ fn write_standard(framing: Framing, s: StandardStatus, buf: &mut [u8]) -> Result
         s.ad3,
         s.ad4,
         s.correction,
-    ]);
-    payload.send(framing, buf)
+    ];
+    send(framing, &payload, buf)
 }
 
 // Writes a remote status.
@@ -277,17 +288,34 @@ fn write_remote(framing: Framing, s: RemoteStatus, buf: &mut [u8]) -> Result<usi
     ensures { Writes framing (plain_refusal s.sender) (remote_layout s) buf.old result buf.new }
 {
     ensure(is_plain(s.sender), Refusal::Address)?;
-    let mut payload = PayloadWriter::new();
-    payload.put(&[s.sender, 0x81, 0x0F, 0x01, s.lqi]);
-    payload.put_long(s.serial);
-    payload.put(&[s.destination]);
-    payload.put_word(s.time);
-    payload.put(&[s.relays]);
-    payload.put_word(s.signals);
-    payload.put_word(s.mask);
-    payload.put_word(s.interrupts);
-    payload.put(&[s.unused]);
-    payload.send(framing, buf)
+    let serial = s.serial.to_be_bytes();
+    let time = s.time.to_be_bytes();
+    let signals = s.signals.to_be_bytes();
+    let mask = s.mask.to_be_bytes();
+    let interrupts = s.interrupts.to_be_bytes();
+    let payload = [
+        s.sender,
+        0x81,
+        0x0F,
+        0x01,
+        s.lqi,
+        serial[0],
+        serial[1],
+        serial[2],
+        serial[3],
+        s.destination,
+        time[0],
+        time[1],
+        s.relays,
+        signals[0],
+        signals[1],
+        mask[0],
+        mask[1],
+        interrupts[0],
+        interrupts[1],
+        s.unused,
+    ];
+    send(framing, &payload, buf)
 }
 
 // Writes a message from the module that carries no data as a frame into the front of buf; the rest of buf stays. The refusals in their order: 8, 13. A

@@ -201,14 +201,29 @@ fn write_information(
 ) -> Result<usize, Refusal>
     ensures { Writes framing 0 (information_layout information) buf.old result buf.new }
 {
-    let mut payload = PayloadWriter::new();
-    payload.put(&[0xDB, 0xF1]);
-    payload.put_long(information.application);
-    payload.put_long(information.version);
-    payload.put(&[information.device]);
-    payload.put_long(information.serial);
-    payload.put(&[information.silent, information.network]);
-    payload.send(framing, buf)
+    let application = information.application.to_be_bytes();
+    let version = information.version.to_be_bytes();
+    let serial = information.serial.to_be_bytes();
+    let payload = [
+        0xDB,
+        0xF1,
+        application[0],
+        application[1],
+        application[2],
+        application[3],
+        version[0],
+        version[1],
+        version[2],
+        version[3],
+        information.device,
+        serial[0],
+        serial[1],
+        serial[2],
+        serial[3],
+        information.silent,
+        information.network,
+    ];
+    send(framing, &payload, buf)
 }
 
 // Writes what the module reports of itself, but for its settings.

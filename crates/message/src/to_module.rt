@@ -10,7 +10,7 @@ use crate::options::{Options, put_options, read_options, retry_allowed};
 use crate::refusal::{Refusal, ensure};
 use crate::setup::{SetupCommand, read_setup, write_settings};
 use crate::simple::{Simple, write_simple};
-use crate::write::PayloadWriter;
+use crate::write::{PayloadWriter, send};
 use frame::Framing;
 
 // The destination of an extended message to the module.
@@ -207,10 +207,24 @@ pub fn write_output_change(
     ensures { Writes framing (change_refusal change) (change_layout change) buf.old result buf.new }
 {
     ensure(is_plain(change.address), Refusal::Address)?;
-    let mut payload = PayloadWriter::new();
-    payload.put(&[change.address, 0x80, 0x01]);
-    payload.put_word(change.signals);
-    payload.put_word(change.mask);
-    payload.put(&[0; 8]);
-    payload.send(framing, buf)
+    let signals = change.signals.to_be_bytes();
+    let mask = change.mask.to_be_bytes();
+    let payload = [
+        change.address,
+        0x80,
+        0x01,
+        signals[0],
+        signals[1],
+        mask[0],
+        mask[1],
+        0,
+        0,
+        0,
+        0,
+        0,
+        0,
+        0,
+        0,
+    ];
+    send(framing, &payload, buf)
 }

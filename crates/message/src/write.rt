@@ -28,7 +28,8 @@ pub(crate) fn send(framing: Framing, payload: &[u8], buf: &mut [u8]) -> Result<u
     frame::write_frame(framing, payload, buf).map_err(write_refusal)
 }
 
-// A payload that is put together, one part behind another, in fixed memory. Clauses see its bytes.
+// A payload that is put together, one part behind another, in fixed memory. Clauses see its bytes. A payload of one length is an array in place of this,
+// since the memory of 256 bytes is cleared first.
 #[derive(Drop)]
 pub(crate) struct PayloadWriter {
     bytes: ArrayVec<u8, 256>,
@@ -77,13 +78,6 @@ impl PayloadWriter {
         ensures len { length self.new ≡ length self.old + 4 }
     {
         self.put(&v.to_be_bytes());
-    }
-
-    // Writes the payload as a frame.
-    pub(crate) fn send(self, framing: Framing, buf: &mut [u8]) -> Result<usize, Refusal>
-        ensures { Writes framing 0 self buf.old result buf.new }
-    {
-        send(framing, self.bytes.as_slice(), buf)
     }
 
     // Writes the payload with data behind it as a frame.
