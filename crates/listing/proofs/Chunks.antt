@@ -37,7 +37,6 @@ use Rattle.reader.specs.declared.answer.FeedAnswer.TheVariants.{Frame as FeedFra
 use Rattle.reader.specs.declared.answer.QuietAnswer.{QuietAnswer}
 use Rattle.reader.specs.declared.answer.QuietAnswer.TheVariants.{Frame as QuietFrame, Empty}
 use Rattle.listing.specs.Parts.{HasRoom, Writes, PartlyWritten, Starts, CanCount, CanAdd, Adds, Progress, PartlyDrained, Room, ListsRest, judged_most}
-use Rattle.listing.specs.Parts.{listed_of}
 use Rattle.listing.specs.declared.text.Listing.{Listing}
 use Rattle.listing.specs.declared.text.Lines.{Lines}
 use Rattle.listing.specs.declared.list.Listed.{Listed}
@@ -494,16 +493,16 @@ answered_lists o r out a z values next left =
 
 -- What is listed from the front of a buffer on is what the call promises.
 pub front_lists :
-    {number judged : ℕ} {Next : Reader → Type 0} (o : Output (List ℕ)) {r r' : Reader} {out : MutBor (List ℕ)} {g₀ g : Listing} {l : Lines} {out' : List ℕ} →
-    Starts out g₀ → number ≡ 0 → Writes g₀ (lines_of o.frames) g → g.lines.noise ≡ g₀.lines.noise + o.noise → g.lines.judged ≡ judged → Next r' →
-    l ≡ g.lines → (out.ghost_name ≡ g.out.ghost_name → out' ≡ g.out.now) →
-    Lists number o judged Next r out.now (listed_of r (Ok (r', l))) out'
-front_lists {judged = judged} o {r} {r'} {out} {g₀} {g} {l} b z w n j next el e =
+    {number judged : ℕ} {Next : Reader → Type 0} (o : Output (List ℕ)) (a : Listed) {r : Reader} {out : MutBor (List ℕ)} {g₀ g : Listing} {l : Lines} {out' : List ℕ} →
+    Starts out g₀ → number ≡ 0 → Writes g₀ (lines_of o.frames) g → g.lines.noise ≡ g₀.lines.noise + o.noise → g.lines.judged ≡ judged → Next a.reader →
+    a.answer ≡ Ok l → l ≡ g.lines → (out.ghost_name ≡ g.out.ghost_name → out' ≡ g.out.now) →
+    Lists number o judged Next r out.now a out'
+front_lists {judged = judged} o a {r} {out} {g₀} {g} {l} b z w n j next ea el e =
     let front = starts_front b w in
     let len : l.len ≡ length (lines_of o.frames) = ap (λ (x : Lines). x.len) el ∙ front.0 in
     let noise : l.noise ≡ o.noise = omega (arith, b.noise, ap (λ (x : Lines). x.noise) el) in
     let judges : l.judged ≡ judged = ap (λ (x : Lines). x.judged) el ∙ j in
-    answered_lists o r out.now (listed_of r (Ok (r', l))) z (λ i. text_values (len i) (noise i) (judges i)) next
+    answered_lists o r out.now a z (ap values_of ea ∙ (λ i. text_values (len i) (noise i) (judges i))) next
     (e (sym (w.same_reference ∙ b.same_reference)) ∙ front.1)
 
 -- Where some of the calls are made, all that is left has room.

@@ -5,7 +5,7 @@ use native.Mathlib.Omega.{arith}
 use mathlib.Core.List.{List, []}
 use mathlib.Core.Path.{◌≡◌, refl, ap, ◌∙◌, subst}
 use lib.ListN.{length, take, drop, length-drop}
-use Rattle.std.specs.Prelude.{Result, Ok, Err}
+use Rattle.std.specs.Prelude.{Ok, Err}
 use Rattle.frame.specs.declared.refusal.Refusal.{Refusal}
 use Rattle.frame.specs.Rule.{Output, join}
 use Rattle.reader.specs.Reader.{State, state_of, line, quiet, line_judged, quiet_judged, after, Holds, AfterQuiet, new_reader, sound, Feeds, Quiets}
@@ -24,7 +24,7 @@ use Rattle.reader.specs.declared.answer.QuietAnswer.TheVariants.{Frame as QuietF
 use Rattle.reader.proofs.Theorems.{feed_reports, quiet_reports, view_reports, feed_stays_sound, quiet_stays_sound, view_stays_inside, taken_is_inside}
 use Rattle.std.specs.Borrow.{MutBor}
 use Rattle.listing.specs.Line.{line_of}
-use Rattle.listing.specs.Parts.{Starts, CanCount, CanAdd, Adds, ListsRest, CanView, view_drain, ViewGoesOn, CanFeed, ListsView, ListsAll, HeldGoesOn, PartlyDrained, CanQuiet, QuietListed, QuietGoesOn}
+use Rattle.listing.specs.Parts.{Starts, CanCount, CanAdd, Adds, ListsRest, CanView, view_drain, ViewGoesOn, CanFeed, HeldGoesOn, PartlyDrained, CanQuiet, QuietListed, QuietGoesOn}
 use Rattle.listing.specs.declared.text.Listing.{Listing}
 use Rattle.listing.proofs.Fits.{rest_is}
 use Rattle.listing.proofs.Chunks.{one, none, FeedSays, SaysFrame, SaysNone, QuietSays, feed_says, quiet_says, view_free, feed_free, quiet_free}
@@ -169,10 +169,12 @@ module _ {r₀ : Reader} {chunk : List ℕ} {g₀ : Listing} (can : CanFeed r₀
         count = omega (arith, held_drained.counts, can.count);
       }
 
-  pub held_all : (answer : Result Reader Refusal) (g' : Listing) → ListsView (view_at r done) chunk g answer g' → ListsAll r₀ chunk g₀ answer g'
-  held_all (Ok r') g' h =
-      partly_drained_lists (state_of r₀) r' held_drained on.format (all_judged (state_of r₀) chunk g₀.lines.judged can.known) h
-  held_all (Err e) g' h = h
+  pub held_all : (r' : Reader) {g' : Listing} →
+      let v : State = viewed (view_at r done) chunk in
+      let s : State = state_of r₀ in
+      ListsRest v (drain v (drop done chunk)) (g.lines.judged + drain_judged v (drop done chunk)) g r' g' →
+      ListsRest s (drain s chunk) (g₀.lines.judged + drain_judged s chunk) g₀ r' g'
+  held_all r' h = partly_drained_lists (state_of r₀) r' held_drained on.format (all_judged (state_of r₀) chunk g₀.lines.judged can.known) h
 
 -- A listing that begins can take the lines of a quiet that is not refused.
 pub can_quiet : {r : Reader} {out : MutBor (List ℕ)} {g : Listing} → Starts out g → Admitted (sound r) 1551 (length out.now) 0 → CanQuiet r g

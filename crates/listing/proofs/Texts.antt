@@ -4,6 +4,7 @@ use lib.ListN.{length-take}
 use Rattle.std.proofs.lemmas.List.{take-append-drop}
 use native.Mathlib.Nat.{zero-add}
 use Rattle.frame.specs.Hex.{hex}
+use Rattle.listing.specs.Line.{data_field}
 use Rattle.std.specs.Borrow.{MutBor}
 use Rattle.frame.specs.Framing.{in_front}
 use Rattle.listing.specs.declared.text.Listing.{Listing}
@@ -95,3 +96,8 @@ length_hex (b ∷ s) = omega (arith, length_hex s)
 -- Digits that are put into a buffer at a place.
 pub paste_hex : (d : List ℕ) (at : ℕ) (s : List ℕ) → paste d at (hex s) (2 * length s) ≡ take at d ++ hex s ++ drop (at + length (hex s)) d
 paste_hex d at s = rw (← length_hex s, take-length (hex s))
+
+-- Where there are no data, ` -` is their field.
+pub puts_none : {g g' : Listing} (s : List ℕ) → length s ≡ 0 → Adds g (0x20 ∷ 0x2D ∷ []) 0 0 g' → Adds g (data_field s) 0 0 g'
+puts_none [] e h = h
+puts_none (b ∷ s) e h = absurd (omega (arith, e))

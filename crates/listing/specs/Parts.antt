@@ -1,12 +1,14 @@
 -- What the functions behind the public calls answer.
-use Rattle.std.specs.Prelude.{ℕ, ◌+◌, ◌≤◌, ◌≡◌, List, [], ◌++◌, true, length, take, drop, Result, Ok, Err, MatchResult}
+use Rattle.std.specs.Prelude.{ℕ, ⊤, ◌+◌, ◌≤◌, ◌≡◌, List, [], ◌++◌, true, length, take, drop, Option, Some, None, Result, Ok, Err, MatchResult}
 use Rattle.std.specs.Borrow.{MutBor}
 use Rattle.frame.specs.Rule.{Output}
 use Rattle.frame.specs.declared.refusal.Refusal.{Refusal}
 use Rattle.reader.specs.Reader.{State, state_of, Holds, new_reader, sound}
-use Rattle.reader.specs.View.{inside, viewed}
+use Rattle.reader.specs.View.{inside, viewed, Stands}
 use Rattle.reader.specs.Drain.{Drained, drain, after_drain, rule_after, judged_after, drain_judged}
+use Rattle.reader.specs.declared.answer.FeedAnswer.{FeedAnswer}
 use Rattle.reader.specs.declared.reader.Reader.{Reader}
+use Rattle.reader.specs.declared.reader.Fed.{Fed}
 use Rattle.reader.specs.declared.view.View.{View}
 use Rattle.listing.specs.Line.{lines_of}
 use Rattle.listing.specs.declared.text.Lines.{Lines}
@@ -95,10 +97,12 @@ pub record CanView (v : View) (chunk : List ℕ) (g : Listing) : Type 0 where
   pub fits : Room (view_drain v chunk) g
   pub count : g.lines.judged + judged_after (viewed v chunk) (drop v.end chunk) ≤ judged_most
 
-abbrev pub ListsView : View → List ℕ → Listing → Result Reader Refusal → Listing → Type 0
+abbrev pub ListsView : View → List ℕ → Listing → Result View Refusal → Listing → Type 0
 ListsView v chunk g answer g' =
     let s : State = viewed v chunk in
-    MatchResult answer (λ r. ListsRest s (view_drain v chunk) (g.lines.judged + drain_judged s (drop v.end chunk)) g r g') (λ _. ⊥)
+    MatchResult answer
+    (λ v'. (r : Reader) → Stands v' chunk r → ListsRest s (view_drain v chunk) (g.lines.judged + drain_judged s (drop v.end chunk)) g r g')
+    (λ _. ⊥)
 
 -- Where the loop of `list_view` stands: some of the calls are made.
 pub record ViewGoesOn (v₀ : View) (chunk : List ℕ) (g₀ : Listing) (v : View) (g : Listing) : Type 0 where
@@ -106,6 +110,11 @@ pub record ViewGoesOn (v₀ : View) (chunk : List ℕ) (g₀ : Listing) (v : Vie
   pub format : v.format ≡ v₀.format
   pub drained :
       PartlyDrained (view_drain v₀ chunk) (g₀.lines.judged + judged_after (viewed v₀ chunk) (drop v₀.end chunk)) (viewed v chunk) (drop v.end chunk) g₀ g
+
+-- The reader that holds what is left of a chunk: a view's, or this one.
+abbrev pub Left : Option View → Reader → List ℕ → Reader → Type 0
+Left (Some v) r chunk r' = Stands v chunk r'
+Left None r chunk r' = r' ≡ r
 
 -- What `list_all` is called with, and what it lists: all calls over the chunk. It is never refused.
 pub record CanFeed (r : Reader) (chunk : List ℕ) (g : Listing) : Type 0 where
@@ -115,10 +124,12 @@ pub record CanFeed (r : Reader) (chunk : List ℕ) (g : Listing) : Type 0 where
   pub fits : Room (drain (state_of r) chunk) g
   pub count : g.lines.judged + judged_after (state_of r) chunk ≤ judged_most
 
-abbrev pub ListsAll : Reader → List ℕ → Listing → Result Reader Refusal → Listing → Type 0
-ListsAll r chunk g answer g' =
+abbrev pub ListsAll : Reader → List ℕ → Listing → Result (Option View) Refusal → Reader → Listing → Type 0
+ListsAll r chunk g answer r' g' =
     let s : State = state_of r in
-    MatchResult answer (λ r'. ListsRest s (drain s chunk) (g.lines.judged + drain_judged s chunk) g r' g') (λ _. ⊥)
+    MatchResult answer
+    (λ left. (r'' : Reader) → Left left r' chunk r'' → ListsRest s (drain s chunk) (g.lines.judged + drain_judged s chunk) g r'' g')
+    (λ _. ⊥)
 
 -- What `list_held` is called with, and what it lists: what the rule gives over the held bytes. It is never refused.
 pub record CanQuiet (r : Reader) (g : Listing) : Type 0 where
@@ -133,13 +144,20 @@ pub record QuietListed (r : Reader) (g : Listing) (r' : Reader) (g' : Listing) :
   pub judges : g'.lines.judged ≡ g.lines.judged + judged_after (state_of r) []
   pub state : r' ≡ new_reader r.format
 
-abbrev pub ListsHeld : Reader → Listing → Result Reader Refusal → Listing → Type 0
-ListsHeld r g answer g' = MatchResult answer (λ r'. QuietListed r g r' g') (λ _. ⊥)
+abbrev pub ListsHeld : Reader → Listing → Result ⊤ Refusal → Reader → Listing → Type 0
+ListsHeld r g answer r' g' = MatchResult answer (λ _. QuietListed r g r' g') (λ _. ⊥)
 
--- What a call answers with this reader: a refusal leaves it.
-abbrev pub listed_of : Reader → Result (Reader × Lines) Refusal → Listed
-listed_of r (Ok (r', lines)) = record { reader = r'; answer = Ok lines }
-listed_of r (Err e) = record { reader = r; answer = Err e }
+-- What a call answers, and the reader that it leaves.
+abbrev pub fed_of : Reader → Result FeedAnswer Refusal → Fed
+fed_of r answer = record { reader = r; answer = answer }
+
+abbrev pub listed_of : Reader → Result Lines Refusal → Listed
+listed_of r answer = record { reader = r; answer = answer }
+
+-- What a call over a chunk answers, where this reader or a view is what the calls leave: behind a refusal it is this reader.
+abbrev pub Follows : Reader → List ℕ → Result (Option View × Lines) Refusal → Listed → Type 0
+Follows r chunk (Ok (left, lines)) a = Left left r chunk a.reader × (a.answer ≡ Ok lines)
+Follows r chunk (Err e) a = a ≡ listed_of r (Err e)
 
 -- Where the loop of `list_all` stands.
 pub record HeldGoesOn (r₀ : Reader) (chunk : List ℕ) (g₀ : Listing) (r : Reader) (done : ℕ) (g : Listing) : Type 0 where

@@ -6,10 +6,10 @@ use Rattle.listing.proofs.Steps.{can_chunk}
 use Rattle.listing.proofs.list.chunk_lines.Goals as goal
 
 pub list_all-requires : goal.list_all-requires
-list_all-requires c = can_chunk (search rules) c.new-listing.ensures c.in_ok-admits.ensures.accepted
+list_all-requires c = can_chunk c.requires c.new-listing.ensures c.in_ok-admits.ensures.accepted
 
 pub returns : goal.returns
-returns c =
-    let all = c.in_ok-next.ensures in
-    front_lists _ c.new-listing.ensures (sym c.in_ok-admits.ensures.number) all.text all.noise (omega (arith, all.judges)) all.state c.lines.ensures
-    (λ e. search rules)
+returns c listed follows =
+    let all = c.in_ok-left.ensures listed.reader follows.0 in
+    front_lists _ listed c.new-listing.ensures (sym c.in_ok-admits.ensures.number) all.text all.noise (omega (arith, all.judges)) all.state follows.1
+    c.lines.ensures (λ e. search rules)

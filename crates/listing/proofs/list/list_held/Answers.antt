@@ -5,7 +5,7 @@ use Rattle.listing.proofs.Steps.{quiet_starts, quiet_can_add, quiet_less, quiet_
 use Rattle.listing.proofs.list.list_held.Goals as goal
 
 pub loop-noise-init : goal.loop-noise-init
-loop-noise-init c = (refl, quiet_starts c.args.reader c.args.listing.now c.requires)
+loop-noise-init c = (refl, quiet_starts c.args.reader.now c.args.listing.now c.requires)
 
 pub frame-requires : goal.frame-requires
 frame-requires c =
