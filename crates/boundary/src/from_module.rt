@@ -204,30 +204,31 @@ fn delivery_in(n: FromModuleNumbers) -> Option<Delivery>
 fn response_in(n: FromModuleNumbers) -> Result<Notice, Unnamed>
     ensures { result ≡ response_in n.response_id n.result }
 {
-    let outcome = match n.result {
-        0 => Outcome::Failure,
-        1 => Outcome::Success,
-        _ => return Err(Unnamed::Flag),
-    };
-    Ok(Notice::Response(Response {
-        id: n.response_id,
-        outcome,
-    }))
+    match n.result {
+        0 => Ok(Notice::Response(Response {
+            id: n.response_id,
+            outcome: Outcome::Failure,
+        })),
+        1 => Ok(Notice::Response(Response {
+            id: n.response_id,
+            outcome: Outcome::Success,
+        })),
+        _ => Err(Unnamed::Flag),
+    }
 }
 
 fn report_in(n: FromModuleNumbers) -> Result<Notice, Unnamed>
     ensures { result ≡ report_in n.command n.result n.information }
 {
-    let report = match (n.command, n.result) {
-        (0xF0, _) => SetupReport::Acknowledged,
-        (0xF1, _) => SetupReport::Information(Information::from(n.information)),
-        (0xF3, _) => SetupReport::SettingsFailed,
-        (0xF8, 0) => SetupReport::SilentMode { released: false },
-        (0xF8, 1) => SetupReport::SilentMode { released: true },
-        (0xF8, _) => return Err(Unnamed::Flag),
-        _ => return Err(Unnamed::Command),
-    };
-    Ok(Notice::Setup(report))
+    match (n.command, n.result) {
+        (0xF0, _) => Ok(Notice::Setup(SetupReport::Acknowledged)),
+        (0xF1, _) => Ok(Notice::Setup(SetupReport::Information(Information::from(n.information)))),
+        (0xF3, _) => Ok(Notice::Setup(SetupReport::SettingsFailed)),
+        (0xF8, 0) => Ok(Notice::Setup(SetupReport::SilentMode { released: false })),
+        (0xF8, 1) => Ok(Notice::Setup(SetupReport::SilentMode { released: true })),
+        (0xF8, _) => Err(Unnamed::Flag),
+        _ => Err(Unnamed::Command),
+    }
 }
 
 // The message without data that numbers stand for, or why they stand for none.
@@ -272,9 +273,11 @@ pub fn boundary_write_delivery(
 pub fn boundary_write_notice(framing: u8, notice: FromModuleNumbers, buf: &mut [u8]) -> FlatWriting
     ensures { WritesNotice (framing_of framing) (notice_in notice) buf.old result buf.new }
 {
-    match (framing_of(framing), notice_in(notice)) {
-        (Some(framing), Ok(notice)) => flat_writing(message::write_notice(framing, notice, buf)),
-        (Some(_), Err(unnamed)) => flat_writing(Err(unnamed)),
-        (None, _) => flat_writing(Err(Unnamed::Kind)),
+    let Some(framing) = framing_of(framing) else {
+        return flat_writing(Err(Unnamed::Kind));
+    };
+    match notice_in(notice) {
+        Ok(notice) => flat_writing(message::write_notice(framing, notice, buf)),
+        Err(unnamed) => flat_writing(Err(unnamed)),
     }
 }

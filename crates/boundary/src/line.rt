@@ -133,6 +133,8 @@ impl From<Reader> for LineReader {
 impl From<Fed> for LineFed {
     ghost from_gives = { λ fed numbers. numbers ≡ flat_fed fed };
 
+    // Always inlined: else `boundary_feed` clears and copies the 517 held bytes once more.
+    #[inline(always)]
     fn from(fed: Fed) -> LineFed {
         LineFed {
             reader: LineReader::from(fed.reader),
@@ -198,10 +200,11 @@ pub fn boundary_new_reader(format: u8) -> LineReader
 pub fn boundary_feed(reader: LineReader, chunk: &[u8], buf: &mut [u8]) -> LineFed
     ensures { FeedsFlat (format_in reader) reader chunk.now buf.old result buf.new }
 {
-    match reader_in(reader) {
-        Some(known) => LineFed::from(known.feed(chunk, buf)),
-        None => unnamed(reader),
-    }
+    // Returned early: a match with both answers clears and copies the 517 held bytes once more.
+    let Some(known) = reader_in(reader) else {
+        return unnamed(reader);
+    };
+    LineFed::from(known.feed(chunk, buf))
 }
 
 // The line was quiet: gives the next frame of the held bytes, as `Reader::quiet` does. A state whose format is none of 0 to 3, or whose
