@@ -204,44 +204,50 @@ fn delivery_in(n: FromModuleNumbers) -> Option<Delivery>
 fn response_in(n: FromModuleNumbers) -> Result<Notice, Unnamed>
     ensures { result ≡ response_in n.response_id n.result }
 {
-    match n.result {
-        0 => Ok(Notice::Response(Response {
-            id: n.response_id,
-            outcome: Outcome::Failure,
-        })),
-        1 => Ok(Notice::Response(Response {
-            id: n.response_id,
-            outcome: Outcome::Success,
-        })),
-        _ => Err(Unnamed::Flag),
-    }
+    let outcome = match n.result {
+        0 => Outcome::Failure,
+        1 => Outcome::Success,
+        _ => return Err(Unnamed::Flag),
+    };
+    Ok(Notice::Response(Response {
+        id: n.response_id,
+        outcome,
+    }))
 }
 
 fn report_in(n: FromModuleNumbers) -> Result<Notice, Unnamed>
     ensures { result ≡ report_in n.command n.result n.information }
 {
-    match (n.command, n.result) {
-        (0xF0, _) => Ok(Notice::Setup(SetupReport::Acknowledged)),
-        (0xF1, _) => Ok(Notice::Setup(SetupReport::Information(Information::from(n.information)))),
-        (0xF3, _) => Ok(Notice::Setup(SetupReport::SettingsFailed)),
-        (0xF8, 0) => Ok(Notice::Setup(SetupReport::SilentMode { released: false })),
-        (0xF8, 1) => Ok(Notice::Setup(SetupReport::SilentMode { released: true })),
-        (0xF8, _) => Err(Unnamed::Flag),
-        _ => Err(Unnamed::Command),
-    }
+    let report = match (n.command, n.result) {
+        (0xF0, _) => SetupReport::Acknowledged,
+        (0xF1, _) => SetupReport::Information(Information::from(n.information)),
+        (0xF3, _) => SetupReport::SettingsFailed,
+        (0xF8, 0) => SetupReport::SilentMode { released: false },
+        (0xF8, 1) => SetupReport::SilentMode { released: true },
+        (0xF8, _) => return Err(Unnamed::Flag),
+        _ => return Err(Unnamed::Command),
+    };
+    Ok(Notice::Setup(report))
 }
 
 // The message without data that numbers stand for, or why they stand for none.
+// Kept: tests one after the other, since behind a match the compiler joins the messages of all kinds before they are written: up to 1.5 times the instructions.
 fn notice_in(n: FromModuleNumbers) -> Result<Notice, Unnamed>
     ensures { result ≡ notice_in n }
 {
-    match n.kind {
-        3 => response_in(n),
-        4 => Ok(Notice::Standard(standard_in(n.address, n.lqi, n.status))),
-        5 => Ok(Notice::Remote(remote_in(n.address, n.lqi, n.status))),
-        7 => report_in(n),
-        _ => Err(Unnamed::Kind),
+    if n.kind == 3 {
+        return response_in(n);
     }
+    if n.kind == 4 {
+        return Ok(Notice::Standard(standard_in(n.address, n.lqi, n.status)));
+    }
+    if n.kind == 5 {
+        return Ok(Notice::Remote(remote_in(n.address, n.lqi, n.status)));
+    }
+    if n.kind == 7 {
+        return report_in(n);
+    }
+    Err(Unnamed::Kind)
 }
 
 // Reads a payload as a message from the module, as `message::read_from_module` does.
