@@ -1,5 +1,6 @@
 // Text for the test programs: standard input, output that goes on where a write fails, the words and numbers of a line, the words for formats, bytes as hex
-// digits, and parts of slices. No function asks anything of its caller. A bound in a contract follows from the equations beside it, and is there for the proofs of callers.
+// digits, and parts of slices. No function asks anything of its caller. A bound in a contract follows from the equations beside it, and is there for the
+// proofs of callers.
 #![tactic(auto)]
 
 mod format;
