@@ -1,6 +1,6 @@
 -- `segments::calls::Run::feed` meets its contract: that no more bytes are taken than the chunk has is what the line call promises.
 -- Assumes nothing.
-use Rattle.std.proofs.Common.{◌≡◌, ℕ, ◌≤◌, length, ap, arith, Result}
+use Rattle.std.proofs.Common.{◌≡◌, ℕ, ap, arith, Result}
 use Rattle.frame.specs.declared.refusal.Refusal.{Refusal}
 use Rattle.reader.specs.declared.answer.FeedAnswer.{FeedAnswer}
 use Rattle.reader.specs.Reader.{state_of, fed_values_of, feed_values_of}
